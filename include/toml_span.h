@@ -29,14 +29,14 @@ extern "C" {
 
 #define TOML_SPAN_VERSION "0.7.2"
 
-/* The version of the binary interface, as in libtoml_span.so.0: it changes if a function or a record does. */
+/* The version of the binary interface, as in libtoml_span.so.0: it changes if a function or a record changes. */
 #define TOML_SPAN_ABI 0
 
 /* The status that a call returns. */
 enum {
     TOML_SPAN_READ = 0,    /* the text is valid TOML */
-    TOML_SPAN_REFUSED = 1, /* it is not */
-    TOML_SPAN_UNREAD = 2,  /* it is not UTF-8, or longer than TOML_SPAN_LONGEST */
+    TOML_SPAN_REFUSED = 1, /* the text is not valid TOML */
+    TOML_SPAN_UNREAD = 2,  /* the text is not UTF-8, or longer than TOML_SPAN_LONGEST */
     TOML_SPAN_UNMADE = 3,  /* toml_span_edit: a change was refused */
     TOML_SPAN_MEMORY = 4   /* out of memory: malloc failed */
 };
@@ -59,8 +59,8 @@ enum {
     TOML_SPAN_TABLE = 7
 };
 
-/* Stands for the index of a record where there is none: the parent of the root, and the result of toml_span_find if it
- * finds nothing. */
+/* The index of a record that does not exist: the parent of the root, and the result of toml_span_find if it finds
+ * nothing. */
 #define TOML_SPAN_NONE SIZE_MAX
 
 /* Bytes of the text, from `start` to before `end`. */
@@ -70,8 +70,8 @@ typedef struct {
 
 /* The bytes of a name or of a value's text. With `const char *sources[] = {text, strings};` they begin at
  * `sources[source] + at`, and no zero byte follows them. They are in the document (source 0) if it has them unchanged
- * at the span. Otherwise they are in `strings` (source 1): a string with escapes, or a float with `+`, `_` or `e`,
- * whose text here has neither of the first two, and `E` instead of `e`. */
+ * at the span. Otherwise they are in `strings` (source 1): the text of a string with escapes, or of a float with `+`,
+ * `_` or `e`, which is written here without `+` and `_`, and with `E` instead of `e`. */
 typedef struct {
     size_t source, at, length;
 } toml_span_text;
@@ -102,10 +102,10 @@ typedef struct {
 /* Why a text is not valid TOML. */
 typedef struct {
     uint32_t code;         /* the kind of error, from 1 on: toml_span_code returns its name */
-    uint32_t has_first;    /* 1 if `first` is set: the error is about an earlier key, table or value; otherwise 0 */
+    uint32_t has_first;    /* 1 if `first` is set: the error is also about an earlier key, table or value; else 0 */
     toml_span_range span;  /* the bytes that are wrong */
     toml_span_range first; /* the bytes of the earlier key, table or value; otherwise 0..0 */
-    size_t line, column;   /* those of span.start */
+    size_t line, column;   /* the line and the column of span.start */
 } toml_span_fault;
 
 /* A line and a column. */
@@ -114,8 +114,9 @@ typedef struct {
 } toml_span_place;
 
 /* Parses a text. Like snprintf, it writes as many records and bytes of strings as fit, and sets `counts` to the numbers
- * of all. If counts->nodes <= room and counts->strings <= strings_room, everything was written; otherwise call it again
- * with room for the counts. With room for 2 * length + 1 records and `length` bytes of strings, one call is enough.
+ * of all of them. If counts->nodes <= room and counts->strings <= strings_room, everything was written; otherwise call
+ * it again with room for the counts. With room for 2 * length + 1 records and `length` bytes of strings, one call is
+ * enough.
  *
  * With READ it writes the records, the strings and the counts, with REFUSED the fault, and nothing else. The rest of
  * the arrays is unchanged. */
@@ -129,18 +130,18 @@ uint32_t toml_span_check(const char *text, size_t length);
  * fits, without a zero byte at the end, and sets `needed` to the length of the whole name. */
 void toml_span_code(uint32_t code, char *out, size_t room, size_t *needed);
 
-/* Writes the message of a text's fault, such as "duplicate key: `port`", in the same way. It parses the text again, and
- * returns the status; it writes `out` and `needed` only if that is REFUSED. */
+/* Writes the message of a text's fault, such as "duplicate key: `port`", as toml_span_code writes a name. It parses the
+ * text again, and returns the status; it writes `out` and `needed` only if the status is REFUSED. */
 uint32_t toml_span_message(const char *text, size_t length, char *out, size_t room, size_t *needed);
 
-/* Writes the report of a text's fault in the same way: source lines with marks, and the name of the file. The status is
- * UNREAD also if the name is not UTF-8. */
+/* Writes the report of a text's fault, as toml_span_message writes the message: source lines with marks, and the name
+ * of the file. The status is UNREAD also if the name is not UTF-8. */
 uint32_t toml_span_report(const char *text, size_t length, const char *name, size_t name_length, char *out, size_t room,
                           size_t *needed);
 
 /* ---- The calls that write a new text. With READ, they set `needed` to its length, and write it to `out` if it fits;
- * otherwise call again with that much room. With REFUSED, they write the fault. They write nothing else, except as said
- * below. */
+ * otherwise call again with that much room. With REFUSED, they write the fault. They write nothing else, except for the
+ * reason of a refused change (see toml_span_edit). */
 
 /* What a change does at its path. A value is written as TOML, such as 8080, "text" with its quotes, or [1, 2]. */
 enum {

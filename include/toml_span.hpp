@@ -1,6 +1,6 @@
 /* toml_span for C++17: a document and views of its values.
  *
- *     toml_span::document document(text);               // the text must outlive the document, and it its values
+ *     toml_span::document document(text); // the text must outlive the document, and the document its values
  *     if (!document) std::cerr << document.report("settings.toml");
  *     for (toml_span::value package : document["package"])
  *         if (auto name = package["name"].as_string()) std::cout << *name << '\n';
@@ -40,7 +40,8 @@ template <typename Write> std::string written(size_t room, Write write) {
     return out;
 }
 
-/* Returns the new text that a call makes from one, or nothing, and then sets `why` to the reason. */
+/* Returns the new text that a call makes from `text`. If it makes none, returns nothing, and sets `why` to the reason,
+ * unless `why` is null. */
 template <typename Write>
 std::optional<std::string> made(std::string_view text, std::string *why, Write write) {
     const char *from = text.data() ? text.data() : "";
@@ -61,8 +62,8 @@ std::optional<std::string> made(std::string_view text, std::string *why, Write w
 
 } // namespace detail
 
-/* Makes changes, one after the other, and leaves all other bytes as they are. Returns the new text, or nothing, and
- * then sets `why` to the reason, if it is not null. */
+/* Makes changes, one after the other, and leaves all other bytes as they are. Returns the new text. If the text is not
+ * valid or a change is refused, returns nothing, and sets `why` to the reason, unless `why` is null. */
 inline std::optional<std::string> edit(std::string_view text, const std::vector<toml_span_change> &changes,
                                        std::string *why = nullptr) {
     toml_span_change none = {0, nullptr, nullptr};
@@ -74,8 +75,8 @@ inline std::optional<std::string> edit(std::string_view text, const std::vector<
     });
 }
 
-/* Formats a text, as toml_span_format does. Returns the new text, or nothing, and then sets `why` to the reason, if it
- * is not null. */
+/* Formats a text, as toml_span_format does. Returns the new text. If the text is not valid, returns nothing, and sets
+ * `why` to the reason, unless `why` is null. */
 inline std::optional<std::string> format(std::string_view text, size_t width = 80, size_t indent = 4,
                                          std::string *why = nullptr) {
     return detail::made(text, why, [&](const char *from, char *out, size_t room, size_t *needed) {

@@ -1,7 +1,7 @@
 """Builds the package: the hooks that `pip wheel python` and `python -m build python` call. It needs no other package.
 
-The wheel contains the library: the one that TOML_SPAN_LIBRARY names, that of the source distribution, or the one that
-scripts/c_library.sh of the repository makes. The tag of the wheel says which glibc the library needs, according to
+The wheel contains the library: the one that TOML_SPAN_LIBRARY names, the one in the source distribution, or the one
+that scripts/c_library.sh of the repository makes. The tag of the wheel says which glibc the library needs, according to
 readelf (of binutils).
 """
 
@@ -36,7 +36,7 @@ def library():
 
 
 def platform():
-    """Returns the platforms of the wheel, by the versions of glibc's symbols."""
+    """Returns the platform tag of the wheel, from the versions of the glibc symbols that the library needs."""
     said = subprocess.run(["readelf", "-W", "-d", "-V", library()], check=True, stdout=subprocess.PIPE).stdout.decode()
     needed = re.findall(r"\(NEEDED\).*\[(.*)\]", said)
     if needed != ["libc.so.6"]:
@@ -51,7 +51,7 @@ def read(*names):
 
 
 def field(name):
-    """Returns a text of pyproject.toml."""
+    """Returns the string with this name in pyproject.toml."""
     return re.search(rf'^{name} = "(.*)"$', read("pyproject.toml").decode(), re.M)[1]
 
 
@@ -67,7 +67,7 @@ def metadata():
 
 
 def modules():
-    """The package's files with their names in a wheel."""
+    """Returns the package's files, each with its name in a wheel."""
     names = sorted(name for name in os.listdir(PACKAGE) if name.endswith(".py") or name == "py.typed")
     return [(f"toml_span/{name}", read("src", "toml_span", name)) for name in names]
 

@@ -29,7 +29,7 @@ told() {
 # measured COMMAND..: prints the times that a command measures
 measured() { "$@" 2>&1 | grep -E '^(speed|times):'; }
 
-# has TOOL: whether a tool is installed; prints a line if not
+# has TOOL: whether a tool is installed; prints a line if it is not
 has() { command -v "$1" >/dev/null || { echo "c_test: there is no $1" && false; }; }
 
 for tool in gcc g++ clang clang++ python3; do has "$tool" || failed=$((failed + 1)); done
@@ -55,11 +55,11 @@ documents=("$runs"/data/*.toml "$runs"/tagged_*/stdin)
 # exits STATUS COMMAND..: whether a command ends with this status
 exits() { "${@:2}"; [ $? -eq "$1" ]; }
 
-# keys PROGRAM, values PROGRAM: the example for C, and the one for C++, writes the expected text
+# keys PROGRAM, values PROGRAM: whether the example for C, or the one for C++, writes the expected text
 keys() { "$1" examples/c/example.toml | diff - examples/c/example.keys; }
 values() { "$1" examples/c/example.toml | diff - examples/c/example.values; }
 
-# edited PROGRAM: the example writes the edited and formatted document, or says why the edit failed
+# edited PROGRAM: whether the example writes the edited and formatted document, or the reason why the edit failed
 edited() {
     "$1" examples/c/example.toml server.ports '[80,443]' | diff - examples/c/example.edited &&
         exits 13 "$1" examples/c/example.toml title.no 1 2>"$work/said.edit" &&
@@ -68,7 +68,7 @@ edited() {
         diff - "$work/said.edit"
 }
 
-# refused PROGRAM: for an invalid document, the example ends with status 1 and writes the report
+# refused PROGRAM: whether the example ends with status 1 and writes the report for an invalid document
 refused() {
     exits 1 "$1" "$runs/data/settings.toml" >"$work/out" 2>"$work/report" &&
         [ ! -s "$work/out" ] && grep -q '^error\[duplicate-key\]' "$work/report"
@@ -81,7 +81,7 @@ example() {
     told "what ${2##*/} writes of an error" refused "$2"
 }
 
-# exports FILE WORD..: the names that nm shows
+# exports FILE WORD..: prints the names that nm shows
 exports() { nm -g --defined-only "${@:2}" "$1" | awk '$2 ~ /[A-Z]/ && $3 != "" { print $2, $3 }' | sort; }
 
 # abi: the soname, the exports of both libraries and the layout of the records are those of abi.txt. New ones may be
@@ -123,7 +123,7 @@ for language in c:gcc c:clang c++:g++ c++:clang++; do
     told "edits in C++ with $compiler" "$work/edits.$compiler"
 done
 
-# packaged, cmade, mesoned: programs that are linked as docs/C.md says start without further settings
+# packaged, cmade, mesoned: whether programs that are linked as docs/C.md says start without further settings
 packaged() {
     eval "gcc examples/c/keys.c $(pkg-config --cflags --libs toml_span) -o '$work/keys.packaged'" &&
         keys "$work/keys.packaged"

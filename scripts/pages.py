@@ -442,7 +442,7 @@ def public_lines(crate):
 
 
 def public_items(words):
-    """Compares docs/public_items.txt with the libraries, except those for laws alone, or writes it."""
+    """Compares docs/public_items.txt with the libraries, except those that only have laws, or writes it."""
     libraries = re.findall(r"(?m)^(\w+)(?: \w+)*:", text_of("crates.txt"))
     libraries = [it for it in libraries if found(f"crates/{it}/src/lib.rt") and not it.endswith("_laws")]
     items = sorted(line for library in libraries for line in public_lines(library))

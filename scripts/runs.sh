@@ -114,15 +114,16 @@ stored() {
     fi
 }
 
-# silent STATUS: whether the program ended with this status out of memory, wrote nothing, and with status 1 complained
+# silent STATUS: whether the program ended with this status, wrote nothing to standard output and changed no file. With
+# status 1, standard error must report that memory ran out; otherwise it must be empty.
 silent() {
     [ "$status" -eq "$1" ] && [ ! -s "$work/stdout" ] && same "$work/before" >"$work/differs" &&
         if [ "$1" -eq 1 ]; then grep -q OutOfMemory "$work/stderr"; else [ ! -s "$work/stderr" ]; fi
 }
 
-# refused STATUS REQUESTS GUESSES: the run of $words and $input with each of its requests for memory refused in turn. It
-# makes at least this many, and each ends the program with this status, except for this many guesses, which cost
-# nothing.
+# refused STATUS REQUESTS GUESSES: runs $words and $input again with each request for memory refused in turn. There must
+# be at least REQUESTS of them. Each must end the program with STATUS (see silent), except for GUESSES requests, without
+# which the run must end as usual.
 refused() {
     local usual request with made=1 spared=0
     for ((request = 0; request <= made; request++)); do

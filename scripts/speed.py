@@ -154,7 +154,7 @@ def document(kind, size):
 
 
 def documents(given, work):
-    """The documents that are measured: what each is called, and its file."""
+    """Yields the documents to measure, each with its name and its file."""
     for kind in given.documents or KINDS:
         if kind not in KINDS:
             yield os.path.basename(kind), kind
@@ -181,7 +181,7 @@ def ended(command, **how):
 
 
 def run(program, path, passes):
-    """The program's own seconds of a run, and the most memory that it held in MB, or None for an error."""
+    """Returns the processor seconds of a run of a program and its peak memory in MB, or None for an error."""
     said, status, used = ended([program, path, str(passes)], stdout=subprocess.PIPE, text=True)
     if status != 0:
         sys.exit(f"speed: {program} ended with status {status} on {path} and said: {said.strip()}")
@@ -189,7 +189,7 @@ def run(program, path, passes):
 
 
 def timed(programs, path):
-    """Of each program the nanoseconds a byte and the peak, or None. The programs run in turn."""
+    """Returns for each program the nanoseconds per byte and the peak, or None. The programs run in turn."""
     best = [(float("inf"), 0.0) for _ in programs]
     size = os.path.getsize(path)
     passes = max(PASSES, PASSES * 1_000_000 // size)
@@ -204,7 +204,7 @@ def timed(programs, path):
 
 
 def counted(program, path, passes):
-    """The instructions of a run, or None if it refuses the document."""
+    """Returns the number of instructions of a run, or None if the program refuses the document."""
     command = ["valgrind", "--tool=callgrind", "--callgrind-out-file=/dev/null", program, path, str(passes)]
     ran = subprocess.run(command, capture_output=True, text=True, check=False)
     found = re.search(r"Collected : (\d+)", ran.stderr)
@@ -214,7 +214,7 @@ def counted(program, path, passes):
 
 
 def instructions(programs, path):
-    """Of each program the instructions of a further parse for each byte."""
+    """Returns for each program the number of instructions per byte of one more parse."""
     size = os.path.getsize(path)
     more = max(1, 100_000 // size)
     pairs = [(counted(it, path, 1), counted(it, path, 1 + more)) for it in programs]
@@ -222,12 +222,12 @@ def instructions(programs, path):
 
 
 def cells_of(own, theirs):
-    """The cells of what was measured of a peer: how many times as much as of the own program, and the peak."""
+    """Returns the cells of a row for a peer: its figure as a multiple of this library's, and its peak."""
     return [f"{theirs[0] / own[0]:.2f}", *(f"{it:.0f}" for it in theirs[1:])] if theirs else ["-"] * len(own)
 
 
 def peers(work):
-    """Programs over other parsers, by their names, from the packages of Debian's sid."""
+    """Builds programs that use other parsers, from the packages of Debian's sid. Returns them by their names."""
     try:
         apt = toml_test.apt_of(work, "deb")
     except toml_test.Unreachable as why:
@@ -265,12 +265,12 @@ def keys(count, name="k"):
 
 
 def filled(line, size=1_000_000):
-    """Returns as many lines as fit, each with another number."""
+    """Returns as many lines as fit, each with a different number."""
     return "".join(f"{line % at}\n" for at in range(size // (len(line % 10**5) + 1)))
 
 
 def deepest():
-    """Documents that take much stack."""
+    """Returns documents that take much stack."""
     yield "one assignment", "a = 1\n"
     yield "127 brackets", f"a = {'[' * 127}{']' * 127}\n"
     yield "127 inline tables", f"a = {'{a = ' * 127}1{'}' * 127}\n"
@@ -281,7 +281,7 @@ def deepest():
 
 
 def largest():
-    """Documents that take much memory."""
+    """Returns documents that take much memory."""
     yield "headers of 128 parts", filled(f"[k%d.{keys(127, 'a')}]")
     yield "dotted keys of 128 parts", filled(f"k%d.{keys(127, 'a')} = 1")
     yield "headers of 2 parts", filled("[k%d.a]")
@@ -291,7 +291,7 @@ def largest():
 
 
 def ends(program, text, size):
-    """Whether a program ends by itself with this many KB of stack, four times: the system places a stack at random."""
+    """Returns whether a program ends by itself in four runs with this stack in KB, placed at random each time."""
 
     def limit():
         resource.setrlimit(resource.RLIMIT_CORE, (0, 0))
@@ -305,7 +305,7 @@ def ends(program, text, size):
 
 
 def least(program, text):
-    """The least stack in KB with which a program ends by itself."""
+    """Returns the least stack in KB with which a program ends by itself."""
     low, high = 0, 8192
     while high - low > 4:
         middle = (low + high) // 8 * 4
@@ -314,7 +314,7 @@ def least(program, text):
 
 
 def peak(program, text):
-    """The greatest resident size of a program, as a multiple of the text."""
+    """Returns the peak resident size of a program, as a multiple of the length of the text."""
     with tempfile.TemporaryFile() as file:
         file.write(text)
         file.seek(0)
@@ -338,7 +338,7 @@ def limits(named):
 
 
 def asked():
-    """The arguments."""
+    """Returns the parsed arguments."""
     parser = argparse.ArgumentParser(description=__doc__, formatter_class=argparse.RawTextHelpFormatter)
     parser.add_argument("--bytes", default="1000000")
     parser.add_argument("--instructions", action="store_true")

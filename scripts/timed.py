@@ -34,7 +34,7 @@ def processes():
 
 
 def task(process):
-    """Returns what a process proves, as the part and the crate, or None."""
+    """Returns the task of a process, as the part and the crate that it proves, or None if it proves nothing."""
     try:
         with open(f"/proc/{process}/cmdline", "rb") as it:
             words = it.read().decode(errors="replace").split("\0")
@@ -48,7 +48,7 @@ def task(process):
 
 
 def look(top, seen):
-    """Adds the current state: the processor seconds of each process, for its task."""
+    """Adds the current processor seconds of each process to its task."""
     found, below, more = processes(), set(), {top}
     while more:
         below |= more

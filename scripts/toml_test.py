@@ -1,8 +1,8 @@
 #!/usr/bin/env python3
 """Runs toml-span on the suite toml-test (TOML 1.1) and counts: toml_test.py [PROGRAM ARGUMENT..]
 
-The source package golang-toml of Debian's sid has the suite. apt fetches it from where this machine has its packages
-from, into a temporary folder. PROGRAM with its arguments reads a document from standard input: of a valid one it prints
+The source package golang-toml of Debian's sid has the suite. apt fetches it from the mirror of this machine, into a
+temporary folder. PROGRAM with its arguments reads a document from standard input: of a valid one it prints
 the values with their types, which are compared with those of the suite by value; it ends with status 1 if one is
 invalid. It is `toml-span get --tagged - ''` of a native build (scripts/native.sh) unless it is given.
 
@@ -43,7 +43,7 @@ def same(wanted, written):
 
 
 def documents(folder):
-    """Each document of the suite that is for TOML 1.1: its name, its bytes, and its answer if it is valid."""
+    """Yields each document of the suite for TOML 1.1: its name, its bytes, and the expected answer if it is valid."""
     part = (folder.parent / "version.go").read_text(encoding="utf-8").split('"1.1.0"')[1].split("}")[0]
     out = [name.removesuffix("*") for name in re.findall(r'"([^"]+)"', part)]
     for path in sorted(folder.glob("*alid/**/*.toml")):
@@ -54,7 +54,7 @@ def documents(folder):
 
 
 def passes_all(program, folder):
-    """Runs the documents and prints how many pass. Whether all do, and there are some of each kind."""
+    """Runs the documents and prints how many pass. Returns whether all do, and there are some of each kind."""
     passed, count = [0, 0], [0, 0]
     for name, document, wanted in documents(folder):
         ran = subprocess.run(program, input=document, stdout=subprocess.PIPE, timeout=60, check=False)
@@ -90,7 +90,7 @@ class Unreachable(Exception):
 
 
 def apt_of(work, kind="deb-src"):
-    """The words of an apt-get that knows the packages of Debian's sid alone (`deb` or `deb-src`), in a folder."""
+    """Returns the words of an apt-get command that knows only the packages of Debian's sid (`deb` or `deb-src`)."""
     targets = called("apt-get", "indextargets", "--format", "$(ORIGIN) $(RELEASE) $(REPO_URI)") or ""
     hosts = re.findall(r"(?m)^Debian \w+ (\S+)$", targets)
     if not hosts:

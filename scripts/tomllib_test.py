@@ -53,7 +53,7 @@ def gap(lines=False):
 
 
 def key(used, is_wild):
-    """Returns a key. That of a valid document begins with a part that is not used, and adds it."""
+    """Returns a key, and adds its first part to `used`. Unless is_wild, that part was not in `used` before."""
     pool = choice([KEYS, WILD_KEYS]) if is_wild else KEYS
     used.append(choice([it for it in pool if is_wild or it not in used]))
     parts = [used[-1], *random.choices(pool, k=choice([0, 0, 0, 0, 1, 2]))]
@@ -72,7 +72,7 @@ def scalar(is_wild):
 
 
 def value(depth, is_new, is_wild):
-    """Returns a value, with lines and commas in an inline table as in TOML 1.1 if it is new."""
+    """Returns a value. If is_new, its inline tables may have line ends and trailing commas, as in TOML 1.1."""
     kind = choice(["scalar", "[]", "{}"]) if depth else "scalar"
     if kind == "scalar":
         return scalar(is_wild)
@@ -97,7 +97,7 @@ def document(is_wild):
 
 
 def suite(pattern):
-    """Returns the documents of toml-test with such a path, or none if they can't be fetched."""
+    """Returns the documents of toml-test whose path matches, or none if the suite can't be fetched."""
     with tempfile.TemporaryDirectory() as work:
         if why := toml_test.fetch(Path(work)):
             print(f"tomllib: toml-test cannot be fetched: {why}", file=sys.stderr)
@@ -105,7 +105,7 @@ def suite(pattern):
 
 
 def batches(count, is_wild):
-    """Yields so many generated documents."""
+    """Yields this many generated documents, in batches."""
     for start in range(0, count, BATCH):
         yield [document(is_wild) for _ in range(min(BATCH, count - start))]
 
@@ -133,7 +133,7 @@ def fault_of_python(text):
 
 
 def kind_of(text, python, own):
-    """Returns the kind of a difference, from what tomllib and the program say about a text."""
+    """Returns the kind of a difference between the results of tomllib and of the program for a text."""
     if own and own.startswith("invalid-number") and re.search(rb"\d{19}", text):
         return NUMBER
     if python and not own and not fault_of_python(text.replace(b":60", b":59").replace(b"0000-", b"0004-")):
@@ -162,7 +162,7 @@ def compare(program, texts, count, shortest):
 
 
 def check(program, number):
-    """Compares what both accept. Returns whether all differences are expected."""
+    """Compares which documents both programs accept. Returns whether all differences are expected."""
     known, good = [it for it in suite("*alid") if it.decode(errors="ignore").encode() == it], True
     for name, parts in (("toml-test", [known]), ("generated", batches(number, True))):
         count, shortest = Counter(), {}
@@ -207,7 +207,7 @@ def is_ordered(new):
 
 
 def wrong_ones(program, texts, option):
-    """Formats documents. Returns those for which a check fails, or what the program complained of."""
+    """Formats documents. Returns those for which a check fails, or the error of the program."""
     is_sorted, command = option == "--sort-keys", [program, "fmt", option]
     runs, formatted = ran(texts, command, [*command, "--check"])
     wrong = [it.stdout for it in runs if it.returncode]

@@ -1,9 +1,9 @@
 /* hold FILE..: tests calls with each request for memory refused in turn, and with every length of the caller's arrays.
  *
  * Linked with -Wl,--wrap=malloc,--wrap=realloc. For each document: with any one request refused, a call returns 4 and
- * writes nothing; with arrays of any length, they get a prefix of the records and of the strings, nothing after it is
- * touched, and the counts are the same. For an invalid document only the fault is written. An edit and the formatter
- * write nothing, too, with any one request refused. */
+ * writes nothing or, where only the parser's fast path needed it, does the same as without the refusal; with arrays of any length, they get a prefix of the records and of the strings, nothing after it is
+ * touched, and the counts are the same. For an invalid document only the fault is written. So it is with an edit and
+ * the formatter, with any one request refused. */
 #include "toml_span.h"
 
 #include <stdio.h>
@@ -65,6 +65,12 @@ static int is_kept(const outcome *out, int fault) {
            is_blank(&out->counts, sizeof out->counts) && is_blank(&out->fault, sizeof out->fault) == !fault;
 }
 
+/* Returns whether a call with a refused request did the same as one without. */
+static int is_same(const outcome *part, const outcome *whole, uint32_t status) {
+    if (status == TOML_SPAN_READ) return is_front(part, whole);
+    return is_kept(part, status == TOML_SPAN_REFUSED) && !memcmp(&part->fault, &whole->fault, sizeof part->fault);
+}
+
 static long runs, wrong;
 
 static void told(int right, const char *name, const char *what, size_t which) {
@@ -91,7 +97,8 @@ static void hold(const char *name) {
         asked = 0;
         refused = at;
         uint32_t answer = run(&part);
-        told(answer == TOML_SPAN_MEMORY && is_kept(&part, 0), name, "refused request", (size_t)at);
+        told(answer == TOML_SPAN_MEMORY ? is_kept(&part, 0) : answer == status && is_same(&part, &whole, status), name,
+             "refused request", (size_t)at);
     }
     refused = -1;
     if (status == TOML_SPAN_READ) {
@@ -147,8 +154,9 @@ static void hold_new(const char *name) {
             asked = 0;
             refused = request;
             uint32_t answer = write_new(counts[at], &part);
-            told(answer == TOML_SPAN_MEMORY && is_blank(&part, sizeof part), name, "refused request of a new text",
-                 (size_t)request);
+            told(answer == TOML_SPAN_MEMORY ? is_blank(&part, sizeof part)
+                                            : answer == status && !memcmp(&whole, &part, sizeof part),
+                 name, "refused request of a new text", (size_t)request);
         }
         refused = -1;
         told(write_new(counts[at], &part) == status && !memcmp(&whole, &part, sizeof part), name, "new text",

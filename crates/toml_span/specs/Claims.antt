@@ -21,8 +21,9 @@ pub record Claim : Type 0 where
   pub info : ClaimInfo
   pub place : Place
 
--- The claims in a scope, in the order of the text, and the scopes inside it. An inline table is a scope. So is an array
--- in brackets, although no two of its elements claim the same path.
+-- The claims in a scope, in the order of the text, and the scopes inside it. Only claims in the same scope can clash.
+-- The document is a scope, and so is each inline table. An array in brackets is a scope too, although no two of its
+-- elements claim the same path.
 pub data Claims : Type 0 where
   no_claims : Claims
   claimed : Claim → Claims → Claims
@@ -46,8 +47,8 @@ abbrev pub key_span_of : ClaimKind → Span → Option Span
 key_span_of TableElement key = None
 key_span_of _ key = Some key
 
--- The place at a path that is determined by a claim of a table or of an array of tables. A header that passes through
--- an element never determines its place, because the element's own claim comes first.
+-- The place at a path that this claim of a table or of an array of tables determines. A header that passes through an
+-- element never determines its place, because the element's own claim comes first.
 abbrev pub place_claimed : ClaimInfo → Place
 place_claimed m = record { shape = shape_claimed m.kind; key_span = key_span_of m.kind m.key; span = m.extent }
 

@@ -65,8 +65,9 @@ unfoldable pub clash_among : List Claim → Claim → Option NamedClash
 clash_among [] later = None
 clash_among (c ∷ earlier) later = option_or (clash c later) (clash_among earlier later)
 
--- The first clash in the order of the text, where the given claims came before in the same scope: the first claim that
--- clashes with an earlier one of its scope determines it, together with the earliest such claim.
+-- The first clash in the order of the text. The list has the earlier claims in the same scope. The later claim of the
+-- clash is the first one that clashes with an earlier claim of its scope, and the other is the earliest claim with
+-- which it clashes.
 unfoldable pub clash_after : List Claim → Claims → Option NamedClash
 clash_after earlier no_claims = None
 clash_after earlier (claimed c cs) = option_or (clash_among earlier c) (clash_after (earlier ++ (c ∷ [])) cs)

@@ -16,7 +16,7 @@ all_claims no_claims = []
 all_claims (claimed c cs) = c ∷ all_claims cs
 all_claims (scope inner cs) = all_claims inner ++ all_claims cs
 
--- of these claims, those on this path
+-- the claims on this path among these claims
 unfoldable pub claims_at : Path → List Claim → List Claim
 claims_at p [] = []
 claims_at p (c ∷ cs) = if same_path c.path p then c ∷ claims_at p cs else claims_at p cs
@@ -37,7 +37,7 @@ unfoldable pub flat : ℕ → Claims → Path → Option Place
 flat size cs [] = Some (record { shape = shape_table; key_span = None; span = record { start = 0; end = size } })
 flat size cs (s ∷ p) = option_map (λ c. c.place) (deciding_claim (claims_at (s ∷ p) (all_claims cs)))
 
--- The tree has this place at each path, and nothing where there is no place. That no name occurs twice in a table is
--- part of `IsOrdered`.
+-- The tree has the same place as `places` at each path, and nothing where `places` has nothing. `IsOrdered` says that
+-- no name occurs twice in a table.
 abbrev pub ShowsExactly : Node → (Path → Option Place) → Type 0
 ShowsExactly n places = (p : Path) → place_at p n ≡ places p

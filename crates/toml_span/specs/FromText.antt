@@ -11,13 +11,13 @@ use Rattle.toml_span_typed.specs.Errors.{Errors, one}
 use Rattle.toml_span.specs.Parsing.{IsTree, IsRefusal}
 use Rattle.toml_span_read.specs.Data.{depth_limit}
 
--- The text has a tree, and this may be the result of reading it as the type.
+-- The text is parsed into a tree, and a read of the tree as the type allows this result.
 abbrev pub IsReadAs : {T : Type 0} → (Node → Result T Errors → Node → Type 0) → List ℕ → Result T Errors → Type 0
 IsReadAs reads text answer =
     (root : Value) × (left : Node) × IsTree text depth_limit root × reads (view root) answer left
 
--- The text has no tree, and the only error says why; or it has a tree, and these are the errors of reading it as the
--- type.
+-- Either the text can't be parsed, and the only error says why, or it is parsed into a tree, and these are the errors
+-- of a read of the tree as the type.
 abbrev pub NotRead : {T : Type 0} → (Node → Result T Errors → Node → Type 0) → List ℕ → Stop Errors → Type 0
 NotRead reads text (stops.Memory e) = ⊤
 NotRead reads text (stops.Fault faults) =

@@ -102,8 +102,8 @@ pub struct ClashInfo {
     pub span: Span,
 }
 
-/// Returns a clash of this kind, with its spans: for a duplicate key, those of the two keys, otherwise those of the two
-/// headers' lines.
+/// Returns a clash of this kind between two claims. Its spans are the two keys for a duplicate key, otherwise the lines
+/// of the two headers.
 fn clash_info_of(earlier: ClaimInfo, later: ClaimInfo, kind: ClashKind) -> ClashInfo
     ensures { result ≡ clashes.clash_info earlier later kind }
 {
@@ -249,7 +249,8 @@ pub fn check_clash(
 }
 
 /// Adds the claim `info` to the claims `infos` on a branch, unless a claim of its kind is already among them. Fails
-/// with a clash like `check_clash`, or if an allocation fails.
+/// with the clash between `info` and the first of `infos` that clashes with it, or if an allocation fails. `key` is the
+/// last key of the branch's path.
 #[inline(never)]
 pub fn record_claim(
     alloc: Global,

@@ -4,7 +4,7 @@ ghost use Rattle.std.specs.Iterator.{YieldsFirst, item_count};
 
 use std::marker::Model;
 
-/// A list whose buffer has room for at most this many items keeps its buffer to the end.
+/// A list whose buffer has room for at most this many items keeps its buffer until the list is dropped.
 const SMALL_BLOCK: usize = 4096;
 
 /// The remaining items of a list that is consumed from the front. It frees memory on the way.

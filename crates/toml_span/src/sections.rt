@@ -81,7 +81,8 @@ fn place_section<'de>(
     }
 }
 
-/// Calls `pass_header` for a branch that was found in the map or added to it.
+/// Places a section, where `child` is the branch that `part` of its header names, and `rest` are the parts after
+/// `part`. The branch is boxed, because it is in a map. Fails with the first clash, or if an allocation fails.
 #[cycle(place_section)]
 fn pass_child<'de>(
     alloc: Global,
@@ -98,8 +99,9 @@ fn pass_child<'de>(
     pass_header(alloc, child.as_mut(), part, rest, head, pairs)
 }
 
-/// Places a section, where `node` is the branch that `part` of its header names. If more parts follow and the branch is
-/// an array of tables, the path goes on in its latest element (TOML 1.1, Array of Tables). Fails like `place_section`.
+/// Places a section, where `node` is the branch that `part` of its header names, and `rest` are the parts after `part`.
+/// If `rest` is not empty and the branch is an array of tables, the path goes on in the latest element of the array
+/// (TOML 1.1, Array of Tables). Fails with the first clash, or if an allocation fails.
 #[cycle(place_section)]
 #[inline(always)]
 fn pass_header<'de>(
@@ -123,7 +125,9 @@ fn pass_header<'de>(
     }
 }
 
-/// Claims `node`, a branch that the header passes through, and places the section below it. Fails like `place_section`.
+/// Claims `node` as a table through which the header passes, and places the section where the parts `rest` lead from
+/// there. `node` is the branch or array element to which `part` of the header leads. Fails with the first clash, or if
+/// an allocation fails.
 #[cycle(place_section)]
 fn descend<'de>(
     alloc: Global,
@@ -146,8 +150,8 @@ fn descend<'de>(
     place_section(alloc, node, rest, head, pairs)
 }
 
-/// Makes a claim of this kind on a branch, and places the assignments in it. Fails with the first clash, or if an
-/// allocation fails.
+/// Claims `node`, which `part` of the header names, as `kind`, and places the section's assignments under `node`. Fails
+/// with the first clash, or if an allocation fails.
 #[inline(always)]
 fn open_table<'de>(
     alloc: Global,
@@ -166,8 +170,8 @@ fn open_table<'de>(
     place_all(alloc, pairs, node)
 }
 
-/// Appends an element with these assignments to the array of tables `node`. Fails with the first clash, or if an
-/// allocation fails.
+/// Appends an element with these assignments to the array of tables `node`, which `part` of the header names. Fails
+/// with the first clash, or if an allocation fails.
 fn add_entry<'de>(
     alloc: Global,
     node: &mut Branch<'de>,
@@ -193,8 +197,9 @@ fn add_entry<'de>(
     Ok(())
 }
 
-/// Claims the branch that the last part of a header names, as a table or as an array of tables, and places the
-/// assignments in it or in a new element. Fails with the first clash, or if an allocation fails.
+/// Claims `node` as a table or, if the header has double brackets, as an array of tables. `part` is the last part of
+/// the header, which names `node`. Places the assignments of the section in the table, or in a new element of the
+/// array. Fails with the first clash, or if an allocation fails.
 #[inline(never)]
 fn end_header<'de>(
     alloc: Global,
@@ -248,7 +253,7 @@ fn place<'de>(
 pub(crate) struct Assembly<'de> {
     /// The tree, if nothing clashes.
     root: Branch<'de>,
-    /// The first clash.
+    /// The first clash, if there is one.
     clash: Option<Box<Clash>>,
 }
 
@@ -267,8 +272,8 @@ impl<'de> Assembly<'de> {
     }
 }
 
-/// Places the next section, or drops it if there is a clash already. A clash is kept in the assembly. Fails only if an
-/// allocation fails.
+/// Places the next section, or drops it if the assembly has a clash already. If the section clashes, the assembly keeps
+/// the clash. Fails only if an allocation fails.
 pub(crate) fn add_section<'de>(
     alloc: Global,
     assembly: &mut Assembly<'de>,
@@ -294,7 +299,7 @@ pub(crate) fn add_section<'de>(
     }
 }
 
-/// Returns the assembly of the section before the first header, or an empty one if there is no such section. Fails if
+/// Returns the assembly of the section before the first header, or an empty assembly without such a section. Fails if
 /// an allocation fails.
 pub(crate) fn begin<'de>(
     alloc: Global,
@@ -316,8 +321,8 @@ pub(crate) fn begin<'de>(
     }
 }
 
-/// Returns the finished root, which spans 0..`length`, the length of the document in bytes. Fails with the first clash,
-/// or if an allocation fails.
+/// Returns the finished root. Its span is 0..`length`, where `length` is the length of the document in bytes. Fails
+/// with the first clash, or if an allocation fails.
 pub(crate) fn finish<'de>(assembly: Assembly<'de>, length: usize) -> Result<Value<'de>, PlaceError>
     ensures assembles { (bs : List ParsedSection) → IsAssemblyOf bs assembly.entry → Assembles bs length result }
     ensures root { IfOk result (IsRoot length) }

@@ -38,7 +38,7 @@ fn is_read(alloc: Global, text: &str, in_tokens: bool) -> bool {
 }
 
 /// Parses a text `passes` times, or for about a second if that is 0, and prints the line for the file. With
-/// `in_tokens`, only splits it into tokens.
+/// `in_tokens`, splits the text into tokens instead. Fails if the clock or the output fails.
 fn measure(
     rt: &HostRuntime,
     file: &str,

@@ -1,4 +1,4 @@
--- What the calls return.
+-- The results of the calls.
 use Rattle.std.specs.Prelude.{◌≡◌, ◌≤◌, ◌⊎◌, ℕ, IsUtf8, List, length, nat_le, if◌then◌else◌}
 use Rattle.toml_span.specs.Parsing.{IsTree, IsRefusal}
 use Rattle.toml_span_c.specs.Faults.{fault_of}
@@ -20,11 +20,12 @@ use Rattle.toml_span_tree.specs.declared.value.Value.{Value}
 abbrev pub bound : ℕ
 bound = 16777216
 
--- valid UTF-8 of at most this length
+-- The bytes are valid UTF-8, and not longer than `bound`.
 abbrev pub IsText : List ℕ → Type 0
 IsText bytes = (length bytes ≤ bound) × IsUtf8 bytes
 
--- The status is 2 if the bytes are not such a text. Otherwise it is 0 or 1, or 4 if an allocation failed.
+-- The status is 2 if the bytes are not valid UTF-8 or too long (see `IsText`). Otherwise it is 0 or 1, or 4 if an
+-- allocation failed.
 pub record IsStatus (bytes : List ℕ) (status : ℕ) : Type 0 where
   pub unread : ¬ IsText bytes → status ≡ 2
   pub read : IsText bytes → (status ≡ 0) ⊎ ((status ≡ 1) ⊎ (status ≡ 4))
@@ -33,8 +34,8 @@ pub record IsStatus (bytes : List ℕ) (status : ℕ) : Type 0 where
 abbrev pub IsDocument : List ℕ → Type 0
 IsDocument bytes = (root : Value) × IsTree bytes depth_limit root
 
--- The bytes are a document. The arrays have its records and its strings, as many as fit, and the counts are those of
--- all of them.
+-- The bytes are a document. The arrays have as many of its records and of the bytes of its strings as fit, and the
+-- counts are the numbers of all of them.
 pub record IsRead (bytes : List ℕ) (nodes nodes' : List Record) (strings strings' : List ℕ) (counts : Counts) : Type 0
   where
     pub root : Value
@@ -47,7 +48,7 @@ pub record IsRead (bytes : List ℕ) (nodes nodes' : List Record) (strings strin
 abbrev pub IsRefused : List ℕ → (ErrorContent → Type 0) → Type 0
 IsRefused bytes P = (error : Error) × IsRefusal bytes depth_limit (stops.Fault error) × P (content_of error)
 
--- The record is that of the error.
+-- The record describes the error.
 abbrev pub IsFaultOf : FaultRecord → ErrorContent → Type 0
 IsFaultOf fault error = fault ≡ fault_of error
 
@@ -57,7 +58,8 @@ Fills out out' needed text = (out' ≡ filled text out) × (needed ≡ length te
 
 -- ---- the calls that write a new text
 
--- The status is 2 if the bytes are not such a text. Otherwise it is 0, 1 or 4, or 3 if there is no new text.
+-- The status is 2 if the bytes are not valid UTF-8 or too long (see `IsText`). Otherwise it is 0, 1 or 4, or 3 if the
+-- call makes no new text from a document.
 pub record IsNewStatus (bytes : List ℕ) (status : ℕ) : Type 0 where
   pub unread : ¬ IsText bytes → status ≡ 2
   pub read : IsText bytes → (status ≡ 0) ⊎ ((status ≡ 1) ⊎ ((status ≡ 3) ⊎ (status ≡ 4)))

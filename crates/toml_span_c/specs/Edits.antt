@@ -8,7 +8,7 @@ use Rattle.toml_span_edit.specs.declared.edits.Edit.{Edit}
 use Rattle.toml_span_c.specs.declared.edits.ChangeRecord.{ChangeRecord}
 use Rattle.toml_span_c.specs.declared.edits.Segment.{Segment}
 
--- the path of these segments
+-- the path that these segments spell
 abbrev pub names_of : List Segment → Path
 names_of segments = map (λ s. s.bytes.now) segments
 
@@ -25,11 +25,11 @@ IsChange r (changes.Append v) = (r.change ≡ 8) × (v.now ≡ r.value.now)
 IsChange r (changes.Insert v) = (r.change ≡ 9) × (v.now ≡ r.value.now)
 IsChange r (changes.MoveTo target) = (r.change ≡ 10) × (map (λ s. s.now) target.now ≡ names_of r.target.now)
 
--- The record is that of an edit.
+-- The record describes the edit.
 abbrev pub IsEdit : ChangeRecord → Edit → Type 0
 IsEdit r e = (map (λ s. s.now) e.path.now ≡ names_of r.path.now) × IsChange r e.change
 
--- Both texts are documents, and the tree of the second is that of the first with this change made.
+-- Both texts are documents, and the tree of the second is the tree of the first with this change made.
 abbrev pub ChangeMade : ChangeRecord → List ℕ → List ℕ → Type 0
 ChangeMade r text new = (e : Edit) × IsEdit r e × EditMade e text new
 

@@ -52,7 +52,7 @@ code_name code =
     else if code == 17 then codes "unquoted-string"
     else []
 
--- the earlier table, key or value
+-- the span of the earlier table, key or value, if the error has one
 abbrev pub first_of : Kind → Option Span
 first_of (duplicate_table name first) = Some first
 first_of (duplicate_key name first) = Some first

@@ -36,7 +36,7 @@ abbrev pub scalar_truth : Scalar → ℕ
 scalar_truth (boolean true) = 1
 scalar_truth _ = 0
 
--- 1 for `true`
+-- 1 for `true`, and 0 for any other value
 abbrev pub truth_of : Inner → ℕ
 truth_of (scalar s) = scalar_truth s
 truth_of _ = 0
@@ -45,7 +45,7 @@ abbrev pub scalar_integer : Scalar → ℤ
 scalar_integer (integer z) = z
 scalar_integer _ = pos 0
 
--- the integer
+-- an integer, and 0 for any other value
 abbrev pub integer_of : Inner → ℤ
 integer_of (scalar s) = scalar_integer s
 integer_of _ = pos 0
@@ -54,7 +54,7 @@ abbrev pub scalar_float : Scalar → Float
 scalar_float (float x) = unwrap_or (parse_float binary64 (float_text x)) NO_NUMBER
 scalar_float _ = NO_NUMBER
 
--- the number nearest to the text of a float
+-- the number nearest to the text of a float, and 0.0 for any other value
 abbrev pub number_of : Inner → Float
 number_of (scalar s) = scalar_float s
 number_of _ = NO_NUMBER
@@ -65,7 +65,7 @@ scalar_text (float x) = Some (float_text x)
 scalar_text (datetime d) = Some d
 scalar_text _ = None
 
--- the text of a string, float or date
+-- the text of a string, float or date, and `None` for any other value
 abbrev pub text_of : Inner → Option (List ℕ)
 text_of (scalar s) = scalar_text s
 text_of _ = None
@@ -78,7 +78,7 @@ abbrev pub members_count : Members → ℕ
 members_count no_members = 0
 members_count (member name key n ms) = suc (members_count ms)
 
--- the number of elements or entries
+-- the number of elements or entries, and 0 for any other value
 abbrev pub children_of : Inner → ℕ
 children_of (array ns) = items_count ns
 children_of (table ms) = members_count ms
@@ -144,7 +144,8 @@ is_written_at document span s =
     nat_le span.start span.end && nat_le span.end (length document)
     && bytes_eq (slice_range document span.start span.end) s
 
--- A text that the document has at its span is there. Any other is in the string array, after `after` bytes.
+-- The place of a text: in the document, if this has the text at the span, otherwise in the string array, after `after`
+-- bytes. The place is empty for `None`.
 abbrev pub place_of : List ℕ → ℕ → Span → Option (List ℕ) → Text
 place_of document after span None = record { source = 0; at = 0; length = 0 }
 place_of document after span (Some s) =
@@ -152,7 +153,7 @@ place_of document after span (Some s) =
     then record { source = 0; at = span.start; length = length s }
     else record { source = 1; at = after; length = length s }
 
--- what the string array has of a text
+-- the bytes of a text that go into the string array: none if the document has the text at the span
 abbrev pub aside : List ℕ → Span → Option (List ℕ) → List ℕ
 aside document span None = []
 aside document span (Some s) = if is_written_at document span s then [] else s
@@ -160,7 +161,7 @@ aside document span (Some s) = if is_written_at document span s then [] else s
 abbrev pub key_aside : List ℕ → Entry → List ℕ
 key_aside document e = aside document e.key_span e.name
 
--- the name and the text of an entry
+-- the bytes of the name and of the text of an entry that go into the string array
 abbrev pub entry_strings : List ℕ → Entry → List ℕ
 entry_strings document e = key_aside document e ++ aside document (span_of e.value) (text_of (inner_of e.value))
 
@@ -169,7 +170,7 @@ entry_strings document e = key_aside document e ++ aside document (span_of e.val
 abbrev pub range_of : Span → Range
 range_of span = record { start = span.start; end = span.end }
 
--- the record of an entry, if the string array has `after` bytes already
+-- the record of an entry, whose strings begin after `after` bytes of the string array
 abbrev pub record_of : List ℕ → ℕ → Entry → Record
 record_of document after e = record {
   kind = kind_number (inner_of e.value);
@@ -209,6 +210,6 @@ tree_counts document n = record {
 
 -- ---- arrays
 
--- an array whose front is replaced by a list, as much of it as fits
+-- the array with the list written over its beginning, as much of the list as fits
 abbrev pub filled : {A : Type 0} → List A → List A → List A
 filled xs room = take (length room) xs ++ drop (length xs) room

@@ -9,17 +9,18 @@ use toml_span::{Error, Stop};
 /// The maximum length of a document, in bytes.
 pub const BOUND: usize = 16_777_216;
 
-/// The result for the bytes of a document.
+/// The result for the bytes of a document: its text with its tree or its error.
 #[derive(Drop)]
 pub(crate) enum Answer<'de> {
     Tree(&'de str, Value<'de>),
     Fault(&'de str, Error<'de>),
-    /// The bytes are not valid UTF-8, or longer than `BOUND`.
+    /// The bytes are not valid UTF-8, or more than `BOUND`.
     Unread,
     Memory,
 }
 
-/// Checks the length of a document and its UTF-8, and parses it.
+/// Parses a document. Returns `Unread` if its bytes are more than `BOUND` or not valid UTF-8, and `Memory` if an
+/// allocation fails.
 pub(crate) fn answer_to<'de>(alloc: Global, bytes: &'de [u8]) -> Answer<'de>
     ensures { IsAnswer bytes.now result }
 {

@@ -23,7 +23,7 @@ pub struct Segment<'a> {
 #[derive(Clone, Copy)]
 pub struct ChangeRecord<'a> {
     /// The kind of change: 1 set, 2 replace, 3 set or add, 4 rename, 5 remove, 6 add, 7 add a table, 8 append, 9
-    /// insert, 10 move. 0 stands for a path that could not be split into segments.
+    /// insert, 10 move. 0 means that the path could not be split into segments.
     pub change: u32,
     /// The path, from the root.
     pub path: &'a [Segment<'a>],
@@ -49,7 +49,7 @@ struct Refused {
     refusal: Refusal,
 }
 
-/// Returns the names in the segments, or `None` if one is not valid UTF-8. Fails if an allocation fails.
+/// Returns the names in the segments, or `None` if a segment is not valid UTF-8. Fails if an allocation fails.
 fn names<'a>(alloc: Global, segments: &[Segment<'a>]) -> Result<Option<Vec<&'a str>>, AllocError>
     ensures { IfOk result (λ read. IfSome read (λ found. map (λ s. s.now) found.items ≡ names_of segments.now)) }
 {
@@ -63,7 +63,8 @@ fn names<'a>(alloc: Global, segments: &[Segment<'a>]) -> Result<Option<Vec<&'a s
     Ok(Some(found))
 }
 
-/// Returns the change of a record, or `None` if there is no change with this number.
+/// Returns the change that a record describes, or `None` if the record's number is not that of a change. `value` and
+/// `target` are the record's value and target as texts.
 fn change_of<'e>(
     asked: ChangeRecord<'_>,
     value: &'e str,
@@ -87,7 +88,8 @@ fn change_of<'e>(
     }
 }
 
-/// Applies one edit to a text. Fails with the reason if it is refused, or if an allocation fails.
+/// Applies one edit to a text. Fails with the reason if the edit is refused, and with `Stop::Memory` if an allocation
+/// fails.
 fn edit_made(alloc: Global, text: &str, edit: Edit<'_>) -> Result<String, Stop<Refusal>>
     ensures { IfOk result (λ new. EditMade edit.entry text.now (string_bytes new)) }
 {
@@ -100,7 +102,8 @@ fn edit_made(alloc: Global, text: &str, edit: Edit<'_>) -> Result<String, Stop<R
     }
 }
 
-/// Applies one change to a text. Fails with the reason if it is refused, or if an allocation fails.
+/// Applies one change to a text. Fails with the reason if the change is refused, and with `Stop::Memory` if an
+/// allocation fails.
 fn change_made(alloc: Global, text: &str, asked: ChangeRecord<'_>) -> Result<String, Stop<Refusal>>
     ensures { IfOk result (λ new. ChangeMade asked.entry text.now (string_bytes new)) }
 {
@@ -122,8 +125,8 @@ fn change_made(alloc: Global, text: &str, asked: ChangeRecord<'_>) -> Result<Str
     edit_made(alloc, text, Edit { path, change })
 }
 
-/// Applies one change to a text. Fails with the index and the reason if the change is refused, or if an allocation
-/// fails.
+/// Applies one change to a text. Fails with `index`, the position of the change in the list, and the reason if the
+/// change is refused, and with `Stop::Memory` if an allocation fails.
 fn indexed_change_made(
     alloc: Global,
     text: &str,
@@ -139,8 +142,8 @@ fn indexed_change_made(
     }
 }
 
-/// Applies the changes to a text, one after the other. Fails with the index of the first that is refused and the
-/// reason, or if an allocation fails.
+/// Applies the changes to a text, one after the other. Fails with the index of the first change that is refused and the
+/// reason, and with `Stop::Memory` if an allocation fails.
 fn changes_made(
     alloc: Global,
     text: &str,
@@ -173,8 +176,10 @@ fn message_of(alloc: Global, refusal: &Refusal) -> Result<String, AllocError> {
     }
 }
 
-/// Applies the changes to a valid document. Writes the new text, or the message for the first change that is refused.
-/// Returns 0, 3 or 4, as `toml_span_edit_paths` does.
+/// Applies the changes to a valid document. Writes the new text to `out` if it fits, and sets `needed` to its length.
+/// If a change is refused, writes as much of the message as fits to `out`, and sets `needed` to the length of the
+/// message and `refused` to the index of the change. Returns 0, or 3 if a change is refused, or 4 if an allocation
+/// fails.
 fn put_changed(
     alloc: Global,
     document: &str,

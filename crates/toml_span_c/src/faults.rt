@@ -1,4 +1,4 @@
-//! Errors as records.
+//! Converts errors to records.
 ghost use Rattle.std.specs.Prelude.{◌≡◌};
 ghost use Rattle.toml_span_tree.specs.Error.{content_of, kind_of};
 ghost use Rattle.toml_span_c.specs.Faults as spec;
@@ -86,7 +86,7 @@ pub(crate) fn fault_of(error: &Error<'_>) -> FaultRecord
     }
 }
 
-/// Returns the name of the kind of error with this number, or an empty string if there is none.
+/// Returns the name of the kind of error with this number, or an empty string if no kind has this number.
 pub(crate) fn code_name(code: u32) -> &'static str
     ensures { result.now ≡ spec.code_name code }
 {

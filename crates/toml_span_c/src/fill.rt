@@ -13,7 +13,8 @@ use crate::records::{
 use toml_span_lex::span::Span;
 use toml_span_tree::{Table, Value};
 
-/// Where a value is in its parent: its name and the span of its key, if it has one, and its position.
+/// Where a value is: its name and the span of its key, if it has one, the index of its parent's record, and its
+/// position in the parent.
 #[derive(Clone, Copy)]
 pub(crate) struct Site<'a> {
     name: Option<&'a str>,
@@ -54,8 +55,9 @@ fn put_bytes(strings: &mut [u8], count: &mut usize, bytes: &[u8])
     *count = at.saturating_add(bytes.len());
 }
 
-/// Returns where C finds a text: in the document, if that has exactly this text at the span, otherwise in the string
-/// array, into which this function writes it (see `put_bytes`). Without a text, returns an empty one.
+/// Returns the place at which C finds a text: in the document, if the document has exactly this text at `span`,
+/// otherwise in the string array. In the latter case, writes the text into the array (see `put_bytes`). Returns an
+/// empty place for `None`.
 #[inline(always)]
 fn put_text(
     document: &str,
@@ -94,7 +96,7 @@ fn put_text(
     }
 }
 
-/// Writes a record at the index `at`, if the array has that index.
+/// Writes a record at the index `at`. Does nothing if the array is too short.
 fn put_record(nodes: &mut [Record], at: usize, added: Record)
     ensures { nodes.new ≡ laid at (added ∷ []) nodes.old }
 {
@@ -104,8 +106,8 @@ fn put_record(nodes: &mut [Record], at: usize, added: Record)
     }
 }
 
-/// Returns the record of a value, without its `next`, and writes its texts into the string array. This is not inlined,
-/// so that its temporary values do not take stack at every level of the recursion.
+/// Returns the record of a value, without its `next`, and writes its texts into the string array. The function is not
+/// inlined, so that its temporary values do not take stack at every level of the recursion.
 #[inline(never)]
 fn begin_record(
     document: &str,
@@ -148,7 +150,8 @@ fn begin_record(
     }
 }
 
-/// Writes the record of a value, and then those of the values inside it.
+/// Writes the record of a value, followed by the records of the values inside it, as far as they fit. Does nothing for
+/// a taken value.
 #[cycle(put_value)]
 fn put_value(
     document: &str,

@@ -16,7 +16,7 @@ pub fn errors_are_numbered()
         → code_number (content_of error).kind ≢ 0 }
 {}
 
-/// The name for the number of a kind is the code of that kind.
+/// For a kind of error that has a number, the name for this number is the code of the kind.
 pub fn numbers_are_named()
     ensures { (kind : Kind) → code_number kind ≢ 0 → code_name (code_number kind) ≡ code_of kind }
 {}

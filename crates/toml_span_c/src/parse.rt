@@ -8,7 +8,8 @@ use crate::fill::put_tree;
 use crate::records::{Counts, Record};
 use std::alloc::Global;
 
-/// Parses a document, and writes as many of its records into `nodes`, and of their strings into `strings`, as fit.
+/// Parses a document. Writes as many of its records as fit into `nodes`, and as many bytes of their strings as fit into
+/// `strings`.
 ///
 /// Returns one of these statuses. Outputs that the status does not mention stay as they are.
 ///
@@ -45,7 +46,8 @@ pub extern "C" fn toml_span_parse(
     }
 }
 
-/// Parses a document, and returns the status that `toml_span_parse` returns. Writes no output.
+/// Parses a document, and returns only the status: 0 if the document is valid TOML, 1 if it is not, 2 if it is longer
+/// than 16 MiB or not valid UTF-8, 4 if an allocation failed.
 #[unsafe(no_mangle)]
 pub extern "C" fn toml_span_check(alloc: Global, text: &[u8]) -> u32
     ensures status { IsStatus text.now result }

@@ -5,10 +5,10 @@ ghost use Rattle.toml_span_c.specs.Records as spec;
 
 use toml_span_tree::ValueInner;
 
-/// Stands for the index of a record where there is none: the parent of the root.
+/// The index of a record that does not exist: the parent of the root.
 pub const NONE: usize = usize::MAX;
 
-/// The `number` of a record that is not of a float.
+/// The field `number` in the record of a value that is not a float.
 pub const NO_NUMBER: f64 = 0.0;
 
 /// A range of byte offsets in the document, end exclusive.
@@ -30,7 +30,7 @@ pub struct Text {
     pub length: usize,
 }
 
-/// A value of a document. Fields that do not apply to its kind are 0 or empty.
+/// A value of a document. Fields that do not apply to the kind of the value are 0 or empty.
 #[repr(C)]
 #[derive(Clone, Copy)]
 pub struct Record {
@@ -40,19 +40,19 @@ pub struct Record {
     pub truth: u32,
     /// The span of the value.
     pub span: Range,
-    /// The span of its key, or 0..0 if it has none.
+    /// The span of the value's key, or 0..0 if it has no key.
     pub key_span: Range,
-    /// The name of its key, or an empty text if it has none.
+    /// The name of the value's key, or an empty text if it has no key.
     pub key: Text,
     /// The text of a string, float or date.
     pub text: Text,
-    /// The index of the record of its parent, or `NONE` for the root.
+    /// The index of the parent's record, or `NONE` for the root.
     pub parent: usize,
-    /// The position of the value among the children of its parent, counted from 0.
+    /// The position of the value among its parent's children, counted from 0.
     pub position: usize,
     /// The number of elements of an array, or of entries of a table.
     pub children: usize,
-    /// The index of the record that follows this one and the records of all values inside it.
+    /// The index of the first record after this record and the records of all values inside the value.
     pub next: usize,
     /// The integer.
     pub integer: i64,

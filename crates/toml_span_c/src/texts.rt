@@ -42,8 +42,8 @@ pub extern "C" fn toml_span_code(code: u32, out: &mut [u8], length: &mut usize)
 }
 
 /// Writes the message of a document's error to `out`, as much of it as fits, and sets `length` to the length of the
-/// whole message. Returns the status of `toml_span_parse`. Unless the status is 1, which means that there is an error,
-/// `out` and `length` are unchanged.
+/// whole message. Returns a status as `toml_span_parse` does: 1 if there is an error. With any other status, `out` and
+/// `length` are unchanged.
 #[unsafe(no_mangle)]
 pub extern "C" fn toml_span_message(
     alloc: Global,
@@ -72,9 +72,9 @@ pub extern "C" fn toml_span_message(
 }
 
 /// Writes the report of the error in `text`, with source lines and marks, to `out`, as much of it as fits, and sets
-/// `length` to the length of the whole report. `name` is the name of the file. Returns the status of `toml_span_parse`,
-/// or 2 if the name is not valid UTF-8. Unless the status is 1, which means that there is an error, `out` and `length`
-/// are unchanged.
+/// `length` to the length of the whole report. `name` is the name of the file. Returns a status as `toml_span_parse`
+/// does: 1 if there is an error, and 2 also if the name is not valid UTF-8. With any other status than 1, `out` and
+/// `length` are unchanged.
 #[unsafe(no_mangle)]
 pub extern "C" fn toml_span_report(
     alloc: Global,

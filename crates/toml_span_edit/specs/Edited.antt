@@ -1,4 +1,4 @@
--- What edits make of a document.
+-- What edits do to a document: to its tree, and to its text.
 use Rattle.std.specs.Prelude.{◌≡◌, ℕ, List, [], ◌∷◌, ◌++◌, map, Bool, true, Some, codes, ◌⊎◌}
 use Rattle.toml_span_read.specs.Data.{depth_limit}
 use Rattle.toml_span_tree.specs.Node.{Node}
@@ -17,7 +17,7 @@ use Rattle.toml_span_edit.specs.declared.step.Spot.TheVariants as spots
 
 -- ---- values
 
--- The text spells this value, and nothing else.
+-- `v = ` followed by this text is a document, in which `v` has this value.
 abbrev pub Spells : List ℕ → Node → Type 0
 Spells text w =
     (root : Value) × IsTree (codes "v = " ++ text) depth_limit root
@@ -31,17 +31,20 @@ IsSameDocument text new =
 
 -- ---- one edit
 
--- how a new value is put: over another one, under a name or at a position in it, or after its last element
+-- whether the second tree is the first with the new value at this spot: instead of the first tree, under a name or
+-- position in it, or after its last element
 abbrev pub goes : Spot → Node → Node → Node → Bool
 goes spots.Here w n k = same w k
 goes (spots.Under segment) w n k = put segment.now w n k
 goes spots.End w n k = last w (inner_of n) (inner_of k)
 
--- The second tree is the first with the value of this text put in this way at the path.
+-- The value at the path in the first tree, the value of this text, and the value at the path in the second tree are
+-- related in this way. The rest of the trees is equal.
 abbrev pub Goes : (Node → Node → Node → Bool) → List ℕ → Path → Node → Node → Type 0
 Goes related text path n k = (w : Node) × Spells text w × (at path (related w) n k ≡ true)
 
--- The second tree is the first with the value of this text at the path, where there was none.
+-- The second tree is the first with the value of this text added at the path, where the first has none, and with the
+-- tables that were missing on the way.
 abbrev pub IsNew : List ℕ → Path → Node → Node → Type 0
 IsNew text path n k = (w : Node) × Spells text w × (added path w n k ≡ true)
 
@@ -55,12 +58,14 @@ abbrev pub IsRenamed : List ℕ → Path → Node → Node → Type 0
 IsRenamed new path n k =
     (front : Path) × (name : List ℕ) × Splits path front name × (at front (renames name new) n k ≡ true)
 
--- The value of this text is under the last segment of the path, in the value at the others.
+-- The value of this text is added as an entry of a table, or inserted into an array. The last segment of the path is
+-- the value's name or position; the other segments name the table or array.
 abbrev pub IsUnder : List ℕ → Path → Node → Node → Type 0
 IsUnder text path n k =
     (front : Path) × (name : List ℕ) × Splits path front name × Goes (put name) text front n k
 
--- The value is at the path: as an element there, or as an entry, with the tables that were missing on the way.
+-- The value is added at the path: inserted as an element, or added as an entry, with the tables that were missing on
+-- the way.
 abbrev pub IsPut : Path → Node → Node → Node → Type 0
 IsPut path w n k =
     ((front : Path) × (name : List ℕ) × Splits path front name × (at front (put name w) n k ≡ true))
@@ -85,24 +90,24 @@ Makes (changes.MoveTo target) path n k =
 abbrev pub IsMade : Change → Path → Node → List ℕ → Type 0
 IsMade change path n new = (root : Value) × IsTree new depth_limit root × Makes change path n (view root)
 
--- the same for a value that is put at the path
+-- The text is a document, and its tree is this one with the value added at the path.
 abbrev pub IsPutBack : Path → Node → Node → List ℕ → Type 0
 IsPutBack path w n new = (root : Value) × IsTree new depth_limit root × IsPut path w n (view root)
 
--- the same for a value that is moved from one path to another
+-- The text is a document, and its tree is this one with the value at the second path moved to the first path.
 abbrev pub IsMoved : Path → Path → Node → List ℕ → Type 0
 IsMoved target path n new =
     (w mid : Node) × (found path n ≡ Some w) × IsGone path n mid × IsPutBack target w mid new
 
--- Both texts are documents, and the tree of the second one is that of the first one with this edit made. The bytes that
--- this edit keeps are the same.
+-- Both texts are documents, and the tree of the second is the tree of the first with this edit made. The bytes that the
+-- edit must keep (see `Keeps`) are the same.
 abbrev pub EditMade : Edit → List ℕ → List ℕ → Type 0
 EditMade e text new =
     (root : Value) × IsTree text depth_limit root
     × IsMade e.change (map (λ s. s.now) e.path.now) (view root) new
     × Keeps e.change (map (λ s. s.now) e.path.now) (view root) text new
 
--- ---- several
+-- ---- several edits
 
 -- The edits are made one after the other.
 abbrev pub EditsMade : List Edit → List ℕ → List ℕ → Type 0

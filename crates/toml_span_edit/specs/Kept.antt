@@ -24,14 +24,14 @@ use Rattle.toml_span_edit.specs.declared.edits.Change.TheVariants as changes
 
 -- ---- a value written over another one
 
--- The value's text replaces the literal of what the path names. All other bytes are the same.
+-- The text `new` is `text` with `value` in place of the literal of the value at the path. All other bytes are the same.
 abbrev pub IsWrittenOver : List ℕ → Path → Node → List ℕ → List ℕ → Type 0
 IsWrittenOver value path n text new =
     (w : Node) × (found path n ≡ Some w) × (replaced text ((literal_span text w, value) ∷ []) ≡ Some new)
 
 -- ---- a key that is renamed
 
--- the keys at the path, with their quotes
+-- the spans of the keys that name the value at the path, quotes included
 abbrev pub keys_at : Path → List KeyMention → List Span
 keys_at path [] = []
 keys_at path (m ∷ ms) = if names_steps path m.path then m.whole ∷ keys_at path ms else keys_at path ms
@@ -62,14 +62,14 @@ IsInserted text new =
 abbrev pub KeepsAround : List ℕ → Span → List ℕ → Type 0
 KeepsAround text span new = (between : List ℕ) × (new ≡ take span.start text ++ (between ++ drop span.end text))
 
--- the smallest span around two
+-- the smallest span that contains both spans
 abbrev pub hull : Span → Span → Span
 hull a b = record {
   start = if nat_le a.start b.start then a.start else b.start;
   end = if nat_le a.end b.end then b.end else a.end;
 }
 
--- the smallest span around the literals of a value and of all values in it, and their keys
+-- the smallest span that contains the literals of a value and of all values inside it, and the keys inside it
 abbrev mutual
   pub reach : List ℕ → Node → Span
   reach text (node i span) = inner_reach text (literal_span text (node i span)) i
@@ -87,7 +87,7 @@ abbrev mutual
   members_reach text s no_members = s
   members_reach text s (member name key n ms) = members_reach text (hull s (hull key (reach text n))) ms
 
--- the entry or the element that a segment names, with the span of its key
+-- the entry or element that a segment names, with the span of its key if it is an entry
 abbrev pub named : List ℕ → Inner → Option (Option Span × Node)
 named segment (table ms) = entry_at segment ms
 named segment i = option_map (λ m. (None, m)) (child segment i)
@@ -96,12 +96,12 @@ abbrev pub with_key : Option Span → Span → Span
 with_key None s = s
 with_key (Some key) s = hull key s
 
--- where the line of an offset starts
+-- the start of the line that contains an offset
 abbrev pub line_start : List ℕ → ℕ → ℕ
 line_start text zero = zero
 line_start text (suc n) = if slice_index text n == line_feed then suc n else line_start text n
 
--- where the lines of what ends at an offset end
+-- the end of the line that contains the byte before an offset, including the line end
 abbrev pub lines_end : List ℕ → ℕ → ℕ
 lines_end text zero = zero
 lines_end text (suc n) = if slice_index text n == line_feed then suc n else after_line text (suc n)
@@ -115,13 +115,13 @@ opens (array ns) c = c == left_bracket
 opens (table ms) c = c == left_brace
 opens _ c = false
 
--- whether the value is written in brackets or braces, with this span in them
+-- whether the value is written in brackets or braces, and the span is between them
 abbrev pub encloses : List ℕ → Node → Span → Bool
 encloses text n s =
     nat_lt (span_of n).start s.start
     && (nat_lt s.end (span_of n).end && opens (inner_of n) (slice_index text (span_of n).start))
 
--- what is in these brackets or braces, if the span is, or else in others around them
+-- the span between the brackets or braces of the value, if they contain the second span, otherwise `outer`
 abbrev pub held_in : List ℕ → Node → Span → Option Span → Option Span
 held_in text n s outer =
     if encloses text n s then Some (record { start = (span_of n).start + 1; end = (span_of n).end - 1 }) else outer
@@ -135,48 +135,51 @@ room_at text [] deeper n outer (Some (key, m)) =
 room_at text (segment ∷ path) deeper n outer (Some (key, m)) =
     deeper (held_in text n (with_key key (reach text m)) outer) m
 
--- Where what the path names is written: what is in the innermost brackets or braces around it, or else its lines, from
--- the first to the last. `outer` is what is in those around this value.
+-- The span in which the value at the path is written: from its first to its last line or, if brackets or braces are
+-- around it, the span between the innermost pair of these. The path begins at the node `n`; `outer` is the span
+-- between the brackets or braces around that node, if there are any.
 abbrev pub room : List ℕ → Path → Option Span → Node → Option Span
 room text [] outer n = None
 room text (segment ∷ path) outer n = room_at text path (room text path) n outer (named segment (inner_of n))
 
--- the span around this one and the lines of all sections of the table at the path, and of tables in it
+-- the smallest span that contains this span and the lines of all sections of the table at the path and of tables in it
 abbrev pub with_sections : List ℕ → Path → Span → List SectionMention → Span
 with_sections text path s [] = s
 with_sections text path s (m ∷ ms) =
     with_sections text path
     (if names_first path m.path then hull s (lines_around text (hull m.header m.body)) else s) ms
 
--- The span is around all that is written of what the path names: the brackets or braces that hold it, or its lines.
+-- The span contains the whole value at the path: the lines of the value and of its sections or, if brackets or braces
+-- are around it, the span between the innermost pair of these.
 abbrev pub IsAround : Path → Node → List ℕ → Span → Type 0
 IsAround path n text s =
     (sections : List ParsedSection) × (inner : Span) × document text depth_limit (Ok sections)
     × (room text path None n ≡ Some inner) × (s ≡ with_sections text path inner (document_sections text sections))
 
--- the bytes before and after what is written of what the path names are the same
+-- Only bytes in the span around the value at the path have changed.
 abbrev pub IsCut : Path → Node → List ℕ → List ℕ → Type 0
 IsCut path n text new = (s : Span) × IsAround path n text s × KeepsAround text s new
 
--- whether there are only comments on lines of their own, and blanks; in a comment, or before one
+-- whether a text has only blanks and comments with their line ends; the `Bool` says whether it begins inside a comment
 abbrev pub only_comments : Bool → List ℕ → Bool
 only_comments within [] = true
 only_comments true (c ∷ cs) = only_comments (not (c == line_feed)) cs
 only_comments false (c ∷ cs) =
     if is_blank c then only_comments false cs else c == hash && only_comments true cs
 
--- the same, with comments directly above it
+-- Like `IsCut`, but comments directly above the value may have changed too.
 abbrev pub IsCutWithComments : Path → Node → List ℕ → List ℕ → Type 0
 IsCutWithComments path n text new =
     (s : Span) × (above : ℕ) × IsAround path n text s
     × (above ≤ s.start) × (only_comments false (slice_range text above s.start) ≡ true)
     × KeepsAround text (record { start = above; end = s.end }) new
 
--- it is removed, and something is inserted elsewhere
+-- The value at the path is removed, and then text is inserted.
 abbrev pub IsCutThenInserted : Path → Node → List ℕ → List ℕ → Type 0
 IsCutThenInserted path n text new = (mid : List ℕ) × IsCut path n text mid × IsInserted mid new
 
--- It is removed. Or the array is, of which it is the only element, and an empty one is inserted.
+-- The value at the path is removed. Or, if the value is the only element of an array of tables, that array is removed
+-- and an empty array is inserted.
 abbrev pub IsRemoved : Path → Node → List ℕ → List ℕ → Type 0
 IsRemoved path n text new =
     IsCut path n text new
@@ -184,30 +187,32 @@ IsRemoved path n text new =
 
 -- ---- tables that are moved
 
--- a header's bracket, and blanks
+-- a blank, or the opening bracket of a header
 abbrev pub is_opening : ℕ → Bool
 is_opening c = is_blank c || c == left_bracket
 
--- Only blanks and brackets are before the span on its line, at least one bracket among them, and no line ends in it.
+-- Only blanks and opening brackets are before the span on its line, at least one bracket among them, and no line ends
+-- in the span.
 abbrev pub is_header_part : List ℕ → Replacement → Bool
 is_header_part text e =
     let before = slice_range text (line_start text e.0.start) e.0.start in
     list_all is_opening before && (list_any (λ c. c == left_bracket) before
     && not (list_any (λ c. c == line_feed) (slice_range text e.0.start e.0.end)))
 
--- only parts of lines that begin with a bracket are replaced
+-- Each replacement is inside a header: see `is_header_part`. All other bytes are the same.
 abbrev pub AreHeadersReplaced : List ℕ → List ℕ → Type 0
 AreHeadersReplaced text new =
     (es : List Replacement) × (list_all (is_header_part text) es ≡ true) × (replaced text es ≡ Some new)
 
--- It is removed with the comments directly above it, and inserted elsewhere; or the headers of a table are replaced.
+-- The value at the path is removed with the comments directly above it, and text is inserted. Or only headers are
+-- changed.
 abbrev pub IsMovedText : Path → Node → List ℕ → List ℕ → Type 0
 IsMovedText path n text new =
     ((mid : List ℕ) × IsCutWithComments path n text mid × IsInserted mid new) ⊎ AreHeadersReplaced text new
 
 -- ---- changes
 
--- which bytes a change at a path keeps, in a text with this tree
+-- which bytes a change at a path keeps: the tree of the first text is the node, and the second text is the result
 abbrev pub Keeps : Change → Path → Node → List ℕ → List ℕ → Type 0
 Keeps (changes.Set v) path n text new = IsWrittenOver v.now path n text new
 Keeps (changes.Replace v) path n text new =

@@ -31,42 +31,42 @@ abbrev pub at_position : (ℕ → Bool) → Option ℕ → Bool
 at_position holds None = false
 at_position holds (Some i) = holds i
 
--- ---- all but one
+-- ---- equal except for one value
 
--- the same elements, except for those at this position, which both have
+-- whether two arrays have an element at this position, and their other elements are the same
 abbrev pub items_but : ℕ → Items → Items → Bool
 items_but zero (item n ns) (item k ks) = same_items ns ks
 items_but (suc i) (item n ns) (item k ks) = same n k && items_but i ns ks
 items_but _ _ _ = false
 
--- the same entries, except for the values of those with this name
+-- whether two tables have the same names, and the same values except for the entries with this name
 abbrev pub members_but : List ℕ → Members → Members → Bool
 members_but name no_members no_members = true
 members_but name (member one span n ms) (member other place k ks) =
     bytes_eq one other && ((bytes_eq name one || same n k) && members_but name ms ks)
 members_but name _ _ = false
 
--- two tables or two arrays that are equal except for what the segment selects
+-- whether two tables or two arrays are equal except for the value that the segment selects
 abbrev pub same_but : List ℕ → Inner → Inner → Bool
 same_but segment (array ns) (array ks) = at_position (λ i. items_but i ns ks) (position_of segment)
 same_but segment (table ms) (table ks) = members_but segment ms ks
 same_but segment _ _ = false
 
--- ---- one that is gone
+-- ---- one value removed
 
--- the second elements are the first without the one at this position
+-- whether the second elements are the first elements without the element at this position
 abbrev pub item_gone : ℕ → Items → Items → Bool
 item_gone zero (item n ns) ks = same_items ns ks
 item_gone (suc i) (item n ns) (item k ks) = same n k && item_gone i ns ks
 item_gone _ _ _ = false
 
--- the entries with other names
+-- the entries of a table whose names differ from this name
 abbrev pub without : List ℕ → Members → Members
 without name no_members = no_members
 without name (member other span n ms) =
     if bytes_eq name other then without name ms else member other span n (without name ms)
 
--- the second value is the first without what the segment selects in it
+-- whether the second value is the first without the entry or element that the segment selects
 abbrev pub gone : List ℕ → Inner → Inner → Bool
 gone segment (array ns) (array ks) = at_position (λ i. item_gone i ns ks) (position_of segment)
 gone segment (table ms) (table ks) = is_some (get_member segment ms) && same_members (without segment ms) ks
@@ -76,14 +76,14 @@ gone segment _ _ = false
 abbrev pub lacks : List ℕ → Node → Node → Bool
 lacks segment n k = gone segment (inner_of n) (inner_of k)
 
--- ---- one that is new
+-- ---- one value added
 
--- The second value is the first, except that the segment selects this value in it: in an array it is inserted before
--- the element at that position, in a table it is added.
+-- The second node is the first with this value added: in a table as the entry that the segment names, in an array as
+-- the element at the position that the segment spells.
 abbrev pub put : List ℕ → Node → Node → Node → Bool
 put segment w n k = lacks segment k n && both same (Some w) (child segment (inner_of k))
 
--- the second elements are the first, with this one at the end
+-- whether the second elements are the first elements with this element added at the end
 abbrev pub item_last : Node → Items → Items → Bool
 item_last w no_items (item k no_items) = same w k
 item_last w (item n ns) (item k ks) = same n k && item_last w ns ks
@@ -93,7 +93,7 @@ abbrev pub last : Node → Inner → Inner → Bool
 last w (array ns) (array ks) = item_last w ns ks
 last w _ _ = false
 
--- the entry with this name has another name
+-- whether the second table is the first with the entry of the first name renamed to the second name
 abbrev pub renamed : List ℕ → List ℕ → Inner → Inner → Bool
 renamed name new (table ms) (table ks) =
     both same (get_member name ms) (get_member new ks) && same_members (without name ms) (without new ks)
@@ -105,7 +105,7 @@ renames name new n k = renamed name new (inner_of n) (inner_of k)
 
 -- ---- at a path
 
--- The two are equal except for the values at the path, which are related in this way.
+-- The two trees are equal except for the values at the path, and these are related in this way.
 abbrev pub at : List (List ℕ) → (Node → Node → Bool) → Node → Node → Bool
 at [] related n k = related n k
 at (segment ∷ path) related n k =
@@ -116,7 +116,7 @@ at (segment ∷ path) related n k =
 abbrev pub nowhere : Span
 nowhere = record { start = 0; end = 0 }
 
--- a value inside tables, one for each of the names, that contain nothing else
+-- a value inside nested tables, one table for each of the names, each with only one entry
 abbrev pub nested : List (List ℕ) → Node → Node
 nested [] w = w
 nested (name ∷ names) w =
@@ -136,7 +136,7 @@ added (segment ∷ path) w n k =
 
 -- ---- for the code
 
--- what a change does to the value at its path
+-- whether the second node is the first with this change made
 abbrev pub local : Local → Node → Node → Bool
 local (locals.Set w) n k = same (view w.now) k
 local (locals.Gone segment) n k = lacks segment.now n k
@@ -144,7 +144,7 @@ local (locals.Put segment w) n k = put segment.now (view w.now) n k
 local (locals.Last w) n k = last (view w.now) (inner_of n) (inner_of k)
 local (locals.Renamed name new) n k = renames name.now new.now n k
 
--- of these entries, the next one with another name, and those after it
+-- The result is the first of these entries with another name, and the last list has the entries after it.
 abbrev pub IsNext : List ℕ → List (Key × Value) → Option (Bor Key × Bor Value) → List (Key × Value) → Type 0
 IsNext name before None after = without name (members_view before) ≡ no_members
 IsNext name before (Some e) after =

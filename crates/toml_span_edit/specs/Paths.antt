@@ -7,16 +7,16 @@ use Rattle.toml_span_tree.specs.Pointer.{position_of}
 use Rattle.toml_span_tree.specs.Value.{inner_of}
 use Rattle.toml_span_edit.specs.Made.{at_position, child}
 
--- names of keys, and positions as they are spelled
+-- a path: its segments, which are names of keys, or positions in decimal digits
 abbrev pub Path : Type 0
 Path = List (List ℕ)
 
--- what the path names
+-- the value that the path names
 abbrev pub found : Path → Node → Option Node
 found [] n = Some n
 found (segment ∷ path) n = option_and_then (found path) (child segment (inner_of n))
 
--- the path without its last segment
+-- The first path consists of the second one and this last segment.
 abbrev pub Splits : Path → Path → List ℕ → Type 0
 Splits path front name = path ≡ front ++ name ∷ []
 
@@ -25,13 +25,13 @@ abbrev pub is_step : List ℕ → Step → Bool
 is_step segment (key name) = bytes_eq segment name
 is_step segment (position i) = at_position (λ j. j == i) (position_of segment)
 
--- whether the segments name the steps, one by one
+-- whether there are as many segments as steps, and each names its step
 abbrev pub names_steps : Path → List Step → Bool
 names_steps [] [] = true
 names_steps (segment ∷ path) (s ∷ steps) = is_step segment s && names_steps path steps
 names_steps _ _ = false
 
--- whether the segments name the first steps
+-- whether each segment names the step at the same index; there may be more steps
 abbrev pub names_first : Path → List Step → Bool
 names_first [] steps = true
 names_first (segment ∷ path) (s ∷ steps) = is_step segment s && names_first path steps

@@ -7,7 +7,7 @@ use Rattle.toml_span_tree.specs.Float.{float_text}
 use Rattle.toml_span_tree.specs.Node.{FloatValue, Scalar, text, integer, float, boolean, datetime, Node, node, Inner}
 use Rattle.toml_span_tree.specs.Node.{taken, scalar, array, table, Items, no_items, item, Members, no_members, member}
 
--- both are of the same kind, and equal; floats and dates by their texts
+-- whether two scalars are of the same kind and equal; floats and dates are compared by their texts
 abbrev pub same_scalar : Scalar → Scalar → Bool
 same_scalar (text s) (text t) = bytes_eq s t
 same_scalar (integer y) (integer z) = int_eq y z
@@ -20,7 +20,7 @@ abbrev pub same_scalars : Inner → Inner → Bool
 same_scalars (scalar s) (scalar t) = same_scalar s t
 same_scalars _ _ = false
 
--- the same names, values and order; spans are ignored
+-- whether two trees have the same names and values in the same order; spans are ignored
 abbrev mutual
   pub same : Node → Node → Bool
   same (node i span) (node j other) = same_inner i j

@@ -16,7 +16,7 @@ change_of (tasks.Rename name) = changes.Rename name
 change_of tasks.Remove = changes.Remove
 change_of (tasks.Add name v) = changes.Add v
 
--- the path of the change: for a new key, its name is the last segment
+-- the path of the change: the given path and, if a key is added, the name of the key
 abbrev pub path_of : Path → Task → Path
 path_of path (tasks.Add name v) = path ++ name.now ∷ []
 path_of path _ = path

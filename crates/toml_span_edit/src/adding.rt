@@ -26,13 +26,13 @@ enum InsertionPoint<'s, 'de> {
     Dotted(&'s Assignment<'de>, usize, Home<'s, 'de>),
     /// Inside the braces of an inline table.
     Braces(&'s Val<'de>),
-    /// Below a new header, before a section whose header passes through the table. The part with this index names the
-    /// table.
+    /// Under a new header of the table, before this section of a table inside it. The part of that section's header
+    /// with this index names the table.
     Header(&'s Section<'de>, usize),
 }
 
 /// Returns whether these mentions name an array of tables, that is, whether the first mention is a section that opens
-/// an element of it.
+/// an element of the array.
 pub(crate) fn names_array(mentions: &[Mention<'_, '_>]) -> bool {
     match mentions.first() {
         Some(Mention::Below(section, index)) => opens_element(*section, *index),
@@ -86,8 +86,8 @@ fn top_of(text: &str) -> usize {
     }
 }
 
-/// Plans to insert lines at the offset `at`, which is the start of a line or the end of the text. If `at` is the end of
-/// a line that has no line end, a line end is inserted first. Fails if an allocation fails.
+/// Adds to `plan` the insertion of `lines` at the offset `at`, which is the start of a line or the end of the text. If
+/// the text ends at `at` without a line end, a line end is inserted first. Fails if an allocation fails.
 fn put_lines(
     document: Document<'_, '_>,
     at: usize,
@@ -102,8 +102,8 @@ fn put_lines(
     plan.put(point(at), new)
 }
 
-/// Plans to insert an entry at the start of a document that has no assignment before its first header. Fails if an
-/// allocation fails.
+/// Adds to `plan` the insertion of the line `entry`, such as `a = 1`, at the offset that `top_of` returns. If comments
+/// precede the entry and the next line is not blank, a blank line follows the entry. Fails if an allocation fails.
 fn put_at_top(document: Document<'_, '_>, entry: &str, plan: &mut Plan) -> Result<(), AllocError> {
     let (text, end) = (document.text, line_end(document.text));
     let at = top_of(text);
@@ -116,7 +116,8 @@ fn put_at_top(document: Document<'_, '_>, entry: &str, plan: &mut Plan) -> Resul
     put_lines(document, at, lines.as_str(), plan)
 }
 
-/// Returns the indent of a new line in a section: that of its last assignment or, without assignments, of its header.
+/// Returns the indent of a new line in a section: the indent of the section's last assignment or, without assignments,
+/// of its header.
 fn body_indent<'s>(text: &'s str, section: &Section<'_>) -> &'s str {
     match section.assignments.as_slice().last() {
         Some(assignment) if begins_line(text, assignment.extent.start) => {
@@ -126,7 +127,7 @@ fn body_indent<'s>(text: &'s str, section: &Section<'_>) -> &'s str {
     }
 }
 
-/// Plans to write `entry`, such as `a = 1`, at the place `target` in its table. Fails if an allocation fails.
+/// Adds to `plan` the insertion of `entry`, such as `a = 1`, at `target`. Fails if an allocation fails.
 fn put_entry(
     document: Document<'_, '_>,
     target: InsertionPoint<'_, '_>,
@@ -167,8 +168,9 @@ fn put_entry(
     }
 }
 
-/// Plans to write `entry` after `assignment`, in the table that the assignment's dotted key names. `table` is the text
-/// of that key up to the name of the table, and `home` says where the assignment is. Fails if an allocation fails.
+/// Adds to `plan` the insertion of `entry` after `assignment`, into the same table. The first parts of the assignment's
+/// dotted key name that table; `table` is the text of these parts, and `home` says where the assignment is. Fails if an
+/// allocation fails.
 fn put_sibling(
     document: Document<'_, '_>,
     assignment: &Assignment<'_>,
@@ -217,7 +219,7 @@ pub(crate) fn dotted(document: Document<'_, '_>, parts: &[&str]) -> Result<Strin
     Ok(key)
 }
 
-/// Returns where an entry of the root can be written.
+/// Returns where an entry of the root can be written. `mentions` are the mentions of the root.
 fn root_insertion_point<'s, 'de>(mentions: &[Mention<'s, 'de>]) -> InsertionPoint<'s, 'de> {
     let Some(first) = mentions.first() else {
         return InsertionPoint::Top;
@@ -231,7 +233,7 @@ fn root_insertion_point<'s, 'de>(mentions: &[Mention<'s, 'de>]) -> InsertionPoin
 }
 
 /// Returns where an entry of the table at a path can be written. Fails with `Nothing` if there is nothing at the path,
-/// with `NoTable` if it is not a table, or if an allocation fails.
+/// with `NoTable` if the value there is not a table, and with `Stop::Memory` if an allocation fails.
 fn table_insertion_point<'s, 'de>(
     document: Document<'s, 'de>,
     path: &[&str],
@@ -247,8 +249,8 @@ fn table_insertion_point<'s, 'de>(
     }
 }
 
-/// Plans to add the TOML value `value` to an existing table. The last segment of the path is the new key. Fails with
-/// the reason if that is not possible, or if an allocation fails.
+/// Adds to `plan` the changes that put the TOML value `value` into an existing table. The last segment of the path is
+/// the new key. Fails with the reason if that is not possible, and with `Stop::Memory` if an allocation fails.
 pub(crate) fn add(
     document: Document<'_, '_>,
     path: &[&str],
@@ -269,9 +271,9 @@ pub(crate) fn add(
     Ok(())
 }
 
-/// Returns the end of the last section whose header names the table at a path or a table in it, and the part of that
-/// header that spells the path. For the root, returns the end of the text and an empty string. Returns `None` unless
-/// headers alone define the table. Fails if an allocation fails.
+/// Returns the end of the last section whose header names the table at a path or a table in that table, and the text of
+/// the header up to the name of the table at the path. For the root, returns the end of the text and an empty string.
+/// Returns `None` unless headers alone define the table. Fails if an allocation fails.
 pub(crate) fn section_place<'s>(
     document: Document<'s, '_>,
     path: &[&str],
@@ -301,8 +303,8 @@ pub(crate) fn section_place<'s>(
     Ok(place)
 }
 
-/// Plans to insert the lines `section` at the offset `at`, separated by blank lines from what is above and below. Fails
-/// if an allocation fails.
+/// Adds to `plan` the insertion of the lines `section` at the offset `at`. Blank lines separate them from the text
+/// above and below. Fails if an allocation fails.
 pub(crate) fn put_section(
     document: Document<'_, '_>,
     at: usize,
@@ -322,8 +324,8 @@ pub(crate) fn put_section(
     put_lines(document, at, lines.as_str(), plan)
 }
 
-/// Returns the text of an entry for the value `moved`: the comment lines above it, the indent `front`, the key, the
-/// value, and the comment after it, without a line end. Fails if an allocation fails.
+/// Returns the text of an entry for the value `moved`: the comment lines above the value, the indent `front`, the key,
+/// the value, and the comment after the value, without a line end. Fails if an allocation fails.
 fn entry_text(
     document: Document<'_, '_>,
     key: &str,
@@ -335,7 +337,8 @@ fn entry_text(
     format!(in document.alloc; "{above}{front}{key} = {value}{note}")
 }
 
-/// Returns the indent of a line that is inserted at `target`.
+/// Returns the indent of a line that is inserted at `target`: the indent of the section's lines, or an empty string if
+/// `target` is not in a section.
 fn indent_there<'s>(text: &'s str, target: InsertionPoint<'_, '_>) -> &'s str {
     match target {
         InsertionPoint::Body(section) => body_indent(text, section),
@@ -351,9 +354,10 @@ fn takes_comments(target: InsertionPoint<'_, '_>) -> bool {
     }
 }
 
-/// Plans to add the value `moved` at a path that names nothing, and the missing tables on the way: under a new header
-/// or, in a table that braces or dotted keys define, by a dotted key. Its comments are left out in braces and next to a
-/// dotted key. Fails with the reason if that is not possible, or if an allocation fails.
+/// Adds to `plan` the changes that put the value `moved` at a path that names nothing. Missing tables on the way are
+/// written as a new header or, in a table that braces or dotted keys define, as a dotted key. The comments of the value
+/// are left out in braces and next to a dotted key. Fails with the reason if that is not possible, and with
+/// `Stop::Memory` if an allocation fails.
 pub(crate) fn add_lines(
     document: Document<'_, '_>,
     path: &[&str],
@@ -388,8 +392,8 @@ pub(crate) fn add_lines(
     Ok(())
 }
 
-/// Plans to add the TOML value `value` at a path that names nothing, and the missing tables on the way. Fails with the
-/// reason if that is not possible, or if an allocation fails.
+/// Adds to `plan` the changes that put the TOML value `value`, and the missing tables on the way, at a path that names
+/// nothing. Fails with the reason if that is not possible, and with `Stop::Memory` if an allocation fails.
 pub(crate) fn add_deep(
     document: Document<'_, '_>,
     path: &[&str],
@@ -405,14 +409,15 @@ pub(crate) fn add_deep(
     add_lines(document, path, moved, plan)
 }
 
-/// Returns the dot between `header`, the text of a header, and a key after it. Returns an empty string if `header` is
-/// empty.
+/// Returns the dot to write between `header`, the text of a header without brackets, and one more part. Returns an
+/// empty string if `header` is empty.
 pub(crate) fn dot_after(header: &str) -> &'static str {
     if header.is_empty() { "" } else { "." }
 }
 
-/// Plans to add an empty table at a path that names nothing: by a header, or as `{}` in a table that braces or dotted
-/// keys define. Fails with the reason if that is not possible, or if an allocation fails.
+/// Adds to `plan` the changes that put an empty table at a path that names nothing: a header or, in a table that braces
+/// or dotted keys define, an entry with `{}`. Fails with the reason if that is not possible, and with `Stop::Memory` if
+/// an allocation fails.
 pub(crate) fn add_table(
     document: Document<'_, '_>,
     path: &[&str],

@@ -20,8 +20,8 @@ pub(crate) struct Document<'s, 'de> {
     pub sections: &'s [Section<'de>],
 }
 
-/// Returns the sections of a text. Fails with `WouldDiffer` if the text can't be split into sections, or if an
-/// allocation fails.
+/// Returns the sections of a text. Fails with `WouldDiffer` if the text can't be split into sections, and with
+/// `Stop::Memory` if an allocation fails.
 pub(crate) fn sections_of<'t>(
     alloc: Global,
     text: &'t str,
@@ -37,7 +37,8 @@ pub(crate) fn sections_of<'t>(
     }
 }
 
-/// Returns the value at a path, if it is written as a value. `mentions` are the mentions of the path.
+/// Returns the value at a path if it is written as a literal. Returns `None` if headers or dotted keys define it, or if
+/// there is no value. `mentions` are the mentions of the path.
 pub(crate) fn written<'s, 'de>(mentions: &[Mention<'s, 'de>]) -> Option<&'s Val<'de>> {
     for mention in mentions {
         match *mention {
@@ -73,7 +74,8 @@ impl<'s, 'de> Document<'s, 'de> {
         with_quotes(self.text, key.span)
     }
 
-    /// Returns the text of a section's header from its first part to the part at `index`, without the brackets.
+    /// Returns the text of a section's header from its first part to the part at `index`, without the brackets. Returns
+    /// an empty string if the header is too short.
     pub(crate) fn header_text(&self, section: &Section<'_>, index: usize) -> &'s str {
         match (header_key(section, 0), header_key(section, index)) {
             (Some(first), Some(last)) => {
@@ -90,7 +92,8 @@ impl<'s, 'de> Document<'s, 'de> {
         part(self.text, first.start, last.end)
     }
 
-    /// Returns the end of a section's lines: of its last assignment or, without assignments, of its header.
+    /// Returns the offset after the lines of a section, which end with its last assignment or, without assignments, its
+    /// header.
     pub(crate) fn body_end(&self, section: &Section<'_>) -> usize {
         section_lines(self.text, section).end
     }

@@ -16,8 +16,8 @@ pub enum Change<'e> {
     Set(&'e str),
     /// Replaces the value with this one, even a table or an array of tables that headers or dotted keys define.
     Replace(&'e str),
-    /// Replaces the value with this one. If there is no value at the path, adds this one, and the missing tables on the
-    /// way.
+    /// Replaces the value with this one. If there is no value at the path, adds this value, and the missing tables on
+    /// the way.
     SetOrAdd(&'e str),
     /// Renames the key to this name, at every place where the key is written.
     Rename(&'e str),
@@ -32,9 +32,9 @@ pub enum Change<'e> {
     /// Adds this element to an array. The last segment of the path is the position of the new element: at most the
     /// number of elements in the array.
     Insert(&'e str),
-    /// Moves the value, with its comments, to this path. There must be no value at the path, unless it leads into an
-    /// array: then the value is inserted there, as with `Insert`. Positions in the path are counted without the moved
-    /// value.
+    /// Moves the value, with its comments, to this path. There must be no value at this path, unless the path leads
+    /// into an array, where the value is inserted as with `Insert`. Positions in this path are counted without the
+    /// moved value.
     MoveTo(&'e [&'e str]),
 }
 
@@ -76,7 +76,7 @@ impl<'e> Edits<'e> {
         }
     }
 
-    /// Appends an edit. If an allocation fails, the list is unchanged.
+    /// Appends an edit. Fails if an allocation fails; the list is then unchanged.
     pub fn push(&mut self, edit: Edit<'e>) -> Result<(), AllocError>
         ensures { Pushed edit.entry self.old result self.new }
     {
@@ -84,30 +84,31 @@ impl<'e> Edits<'e> {
         Ok(())
     }
 
-    /// Appends the edit that makes `change` at `path`. If an allocation fails, the list is unchanged.
+    /// Appends the edit that makes `change` at `path`. Fails if an allocation fails; the list is then unchanged.
     fn change(&mut self, path: &'e [&'e str], change: Change<'e>) -> Result<(), AllocError>
         ensures { Pushed (record { path = path.entry; change = change.entry }) self.old result self.new }
     {
         self.push(Edit { path, change })
     }
 
-    /// Appends `Change::Set`: replaces the value at a path with `value`. If an allocation fails, the list is unchanged.
+    /// Appends `Change::Set`: replaces the value at a path with `value`. Fails if an allocation fails; the list is then
+    /// unchanged.
     pub fn set(&mut self, path: &'e [&'e str], value: &'e str) -> Result<(), AllocError>
         ensures { Pushed (record { path = path.entry; change = changes.Set value.entry }) self.old result self.new }
     {
         self.change(path, Change::Set(value))
     }
 
-    /// Appends `Change::Replace`: replaces the value at a path with `value`, even a table that headers define. If an
-    /// allocation fails, the list is unchanged.
+    /// Appends `Change::Replace`: replaces the value at a path with `value`, even a table that headers define. Fails if
+    /// an allocation fails; the list is then unchanged.
     pub fn replace(&mut self, path: &'e [&'e str], value: &'e str) -> Result<(), AllocError>
         ensures { Pushed (record { path = path.entry; change = changes.Replace value.entry }) self.old result self.new }
     {
         self.change(path, Change::Replace(value))
     }
 
-    /// Appends `Change::SetOrAdd`: replaces the value at a path with `value`, or adds `value` if there is none. If an
-    /// allocation fails, the list is unchanged.
+    /// Appends `Change::SetOrAdd`: replaces the value at a path with `value`, or adds `value` if there is none. Fails
+    /// if an allocation fails; the list is then unchanged.
     pub fn set_or_add(&mut self, path: &'e [&'e str], value: &'e str) -> Result<(), AllocError>
         ensures { Pushed (record { path = path.entry; change = changes.SetOrAdd value.entry }) self.old result
             self.new }
@@ -115,38 +116,39 @@ impl<'e> Edits<'e> {
         self.change(path, Change::SetOrAdd(value))
     }
 
-    /// Appends `Change::Rename`: renames the key at a path to `name`. If an allocation fails, the list is unchanged.
+    /// Appends `Change::Rename`: renames the key at a path to `name`. Fails if an allocation fails; the list is then
+    /// unchanged.
     pub fn rename(&mut self, path: &'e [&'e str], name: &'e str) -> Result<(), AllocError>
         ensures { Pushed (record { path = path.entry; change = changes.Rename name.entry }) self.old result self.new }
     {
         self.change(path, Change::Rename(name))
     }
 
-    /// Appends `Change::Remove`: removes the value at a path. If an allocation fails, the list is unchanged.
+    /// Appends `Change::Remove`: removes the value at a path. Fails if an allocation fails; the list is then unchanged.
     pub fn remove(&mut self, path: &'e [&'e str]) -> Result<(), AllocError>
         ensures { Pushed (record { path = path.entry; change = changes.Remove }) self.old result self.new }
     {
         self.change(path, Change::Remove)
     }
 
-    /// Appends `Change::Add`: adds a value to an existing table, at a path where there is none. If an allocation fails,
-    /// the list is unchanged.
+    /// Appends `Change::Add`: adds a value to an existing table, at a path where there is none. Fails if an allocation
+    /// fails; the list is then unchanged.
     pub fn add(&mut self, path: &'e [&'e str], value: &'e str) -> Result<(), AllocError>
         ensures { Pushed (record { path = path.entry; change = changes.Add value.entry }) self.old result self.new }
     {
         self.change(path, Change::Add(value))
     }
 
-    /// Appends `Change::AddTable`: adds an empty table at a path where there is nothing. If an allocation fails, the
-    /// list is unchanged.
+    /// Appends `Change::AddTable`: adds an empty table at a path where there is nothing. Fails if an allocation fails;
+    /// the list is then unchanged.
     pub fn add_table(&mut self, path: &'e [&'e str]) -> Result<(), AllocError>
         ensures { Pushed (record { path = path.entry; change = changes.AddTable }) self.old result self.new }
     {
         self.change(path, Change::AddTable)
     }
 
-    /// Appends `Change::Append`: adds an element, the TOML value `value`, at the end of the array at a path. If an
-    /// allocation fails, the list is unchanged.
+    /// Appends `Change::Append`: adds an element, the TOML value `value`, at the end of the array at a path. Fails if
+    /// an allocation fails; the list is then unchanged.
     pub fn append(&mut self, path: &'e [&'e str], value: &'e str) -> Result<(), AllocError>
         ensures { Pushed (record { path = path.entry; change = changes.Append value.entry }) self.old result self.new }
     {
@@ -154,16 +156,16 @@ impl<'e> Edits<'e> {
     }
 
     /// Appends `Change::Insert`: adds an element, the TOML value `value`, to an array. The last segment of the path is
-    /// the position of the new element, at most the number of elements in the array. If an allocation fails, the list
-    /// is unchanged.
+    /// the position of the new element, at most the number of elements in the array. Fails if an allocation fails; the
+    /// list is then unchanged.
     pub fn insert(&mut self, path: &'e [&'e str], value: &'e str) -> Result<(), AllocError>
         ensures { Pushed (record { path = path.entry; change = changes.Insert value.entry }) self.old result self.new }
     {
         self.change(path, Change::Insert(value))
     }
 
-    /// Appends `Change::MoveTo`: moves the value at `path` to the path `target`. If an allocation fails, the list is
-    /// unchanged.
+    /// Appends `Change::MoveTo`: moves the value at `path` to the path `target`. Fails if an allocation fails; the list
+    /// is then unchanged.
     pub fn move_to(&mut self, path: &'e [&'e str], target: &'e [&'e str]) -> Result<(), AllocError>
         ensures { Pushed (record { path = path.entry; change = changes.MoveTo target.entry }) self.old result self.new }
     {
@@ -173,8 +175,9 @@ impl<'e> Edits<'e> {
     /// Makes the edits one after the other, and returns the new text. If the list is empty, returns the text as it is,
     /// without reading it.
     ///
-    /// Fails with the first edit that is refused and the reason, or if an allocation fails. An edit is refused unless
-    /// the tree of the new text is the tree of the text before the edit, with only this change.
+    /// Fails with the position and the reason of the first edit that is refused, and with `Stop::Memory` if an
+    /// allocation fails. An edit is refused unless the tree of the new text is the tree of the text before the edit,
+    /// with only this change.
     pub fn finish(self) -> Result<String, Stop<EditError>>
         ensures { IfOk result (λ new. spec.EditsMade self.entry.list.items self.entry.text.now (string_bytes new)) }
     {
@@ -182,8 +185,8 @@ impl<'e> Edits<'e> {
     }
 }
 
-/// Makes an edit and returns the new text. Fails with the reason and `index` if the edit is refused, or if an
-/// allocation fails.
+/// Makes an edit and returns the new text. `index` is the position of the edit in its list. Fails with the reason and
+/// `index` if the edit is refused, and with `Stop::Memory` if an allocation fails.
 fn edit_made(
     alloc: Global,
     text: &str,
@@ -198,8 +201,9 @@ fn edit_made(
     }
 }
 
-/// Makes edits one after the other and returns the new text. `first` is the index of the first edit, for errors. Fails
-/// with the first edit that is refused, or if an allocation fails.
+/// Makes edits one after the other and returns the new text. `first` is the position of the first edit, for errors.
+/// Fails with the position and the reason of the first edit that is refused, and with `Stop::Memory` if an allocation
+/// fails.
 fn rest_made(
     alloc: Global,
     text: String,
@@ -216,7 +220,7 @@ fn rest_made(
 }
 
 /// Makes edits one after the other and returns the new text. If there are no edits, returns the text as it is. Fails
-/// with the first edit that is refused, or if an allocation fails.
+/// with the position and the reason of the first edit that is refused, and with `Stop::Memory` if an allocation fails.
 fn all_made(alloc: Global, text: &str, edits: &[Edit<'_>]) -> Result<String, Stop<EditError>>
     ensures { IfOk result (λ new. spec.EditsMade edits.now text.now (string_bytes new)) }
 {
@@ -228,7 +232,7 @@ fn all_made(alloc: Global, text: &str, edits: &[Edit<'_>]) -> Result<String, Sto
     Ok(made)
 }
 
-/// Adds the index `edit` of the refused edit to its reason. A failed allocation stays a failed allocation.
+/// Adds `edit`, the index of the refused edit, to the reason. A failed allocation stays a failed allocation.
 fn refused(edit: usize, stop: Stop<Reason>) -> Stop<EditError> {
     match stop {
         Stop::Memory(error) => Stop::Memory(error),

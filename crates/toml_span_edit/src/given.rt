@@ -7,10 +7,11 @@ use toml_span::Stop;
 use toml_span_places::{quote_key, quote_string};
 use toml_span_read::{Section, read_sections};
 
-/// The text before a value in a document that has only this value.
+/// What `probe_text` writes before a value to make a document of it.
 const FRONT: &str = "v = ";
 
-/// Returns a document in which `v` is the given value and nothing else is written. Fails if an allocation fails.
+/// Returns `v = ` followed by `value`: a document with a single entry, if `value` is a TOML value. Fails if an
+/// allocation fails.
 pub(crate) fn probe_text(alloc: Global, value: &str) -> Result<String, AllocError>
     ensures { IfOk result (λ text. string_bytes text ≡ codes "v = " ++ value.now) }
 {
@@ -20,7 +21,7 @@ pub(crate) fn probe_text(alloc: Global, value: &str) -> Result<String, AllocErro
 }
 
 /// Returns the sections of `probe`, the text that `probe_text` returned for `value`. Fails with `NoValue` if `value` is
-/// not one TOML value, or if an allocation fails.
+/// not one TOML value, and with `Stop::Memory` if an allocation fails.
 pub(crate) fn probed<'p>(
     alloc: Global,
     probe: &'p str,
@@ -51,8 +52,8 @@ fn is_one_value(sections: &[Section<'_>], end: usize) -> bool {
     }
 }
 
-/// Checks that a text is one TOML value, with nothing before or after it. Fails with `NoValue` if not, or if an
-/// allocation fails.
+/// Checks that a text is one TOML value, with nothing before or after it. Fails with `NoValue` if not, and with
+/// `Stop::Memory` if an allocation fails.
 pub(crate) fn check_value(alloc: Global, value: &str) -> Result<(), Stop<Reason>> {
     let probe = probe_text(alloc, value)?;
     drop(probed(alloc, probe.as_str(), value)?);
@@ -64,8 +65,8 @@ fn is_in_word(c: char) -> bool {
     !c.is_whitespace() && !c.is_control() && !"\"'[]{}#,=\\`".contains(c)
 }
 
-/// Returns the reason to refuse `value`, which is not a TOML value. For a bare word, it suggests the string that was
-/// probably meant, quoted for a shell. Fails if an allocation fails.
+/// Returns the reason to refuse `value`, which is not a TOML value. For a bare word, the reason suggests the string
+/// that was probably meant, quoted for a shell. Fails if an allocation fails.
 pub(crate) fn no_value(alloc: Global, value: &str) -> Result<Reason, AllocError> {
     if value.is_empty() || !value.chars().all(|c| is_in_word(c)) {
         return Ok(Reason::NoValue(None));

@@ -24,7 +24,7 @@ pub(crate) fn literal_of(text: &str, value: &Val<'_>) -> Span {
     span
 }
 
-/// Returns the number of items in an array or inline table.
+/// Returns the number of items in an array or inline table, and 0 for any other value.
 pub(crate) fn count_of(list: &Val<'_>) -> usize {
     match &list.kind {
         ValKind::Array(items) => items.len(),
@@ -33,8 +33,8 @@ pub(crate) fn count_of(list: &Val<'_>) -> usize {
     }
 }
 
-/// Returns the span of an item: of an element, or of a pair from its key to the end of its value. Returns `None` if
-/// there is no item at this index.
+/// Returns the span of the item at this index: the literal of an element, or a pair from its key to the end of its
+/// value. Returns `None` if no item has this index.
 pub(crate) fn item_span(text: &str, list: &Val<'_>, index: usize) -> Option<Span> {
     match &list.kind {
         ValKind::Array(items) => Some(literal_of(text, items.get(index)?)),
@@ -71,8 +71,8 @@ fn comma_between(text: &str, start: usize, end: usize) -> Option<usize> {
     None
 }
 
-/// Plans to remove the comma at the offset `comma`, with its line if nothing else is on it. Fails if an allocation
-/// fails.
+/// Adds to `plan` the removal of the comma at the offset `comma`, with its line if nothing else is on that line. Fails
+/// if an allocation fails.
 fn cut_comma(text: &str, comma: usize, plan: &mut Plan) -> Result<(), AllocError> {
     let stop = line_stop(text, comma);
     let after = comma.saturating_add(1);
@@ -89,9 +89,9 @@ fn cut_comma(text: &str, comma: usize, plan: &mut Plan) -> Result<(), AllocError
     })
 }
 
-/// Plans to remove the items in the span `items`, the comment after them on the same line, and the comma after them, if
-/// any. `space` is the offset of the next item or of the closing bracket or brace; a line end must come before it.
-/// Fails if an allocation fails.
+/// Adds to `plan` the changes that remove the items in the span `items`, the comment after them on the same line, and
+/// the comma after them, if any. `space` is the offset of the next item or of the closing bracket or brace; a line end
+/// must come before it. Fails if an allocation fails.
 fn cut_to_line_end(
     text: &str,
     items: Span,
@@ -114,10 +114,10 @@ fn cut_to_line_end(
     }
 }
 
-/// Plans to remove the last items of a list, and one comma. `items` is the span of these items, and `before` that of
-/// the item before them. The closing bracket or brace at the offset `close` must be on the line where the items end.
-/// Removes the comma between `before` and the items if neither a line end nor a comment is between them. Otherwise
-/// removes the comma after the items, if there is one. Fails if an allocation fails.
+/// Adds to `plan` the changes that remove the last items of a list and one comma. `items` is the span of these items,
+/// `before` that of the item before them, if there is one. The closing bracket or brace at the offset `close` must
+/// be on the line where the items end. Removes the comma between `before` and the items if neither a line end nor a
+/// comment is between them. Otherwise removes the comma after the items, if there is one. Fails if an allocation fails.
 fn cut_last(
     text: &str,
     before: Option<Span>,
@@ -144,8 +144,9 @@ fn cut_last(
     })
 }
 
-/// Plans to remove the items of `list` from index `first` to `last`, both included, with one comma and the comment at
-/// the end of their last line. A comment on its own line before or after them stays. Fails if an allocation fails.
+/// Adds to `plan` the removal of the items of `list` from index `first` to `last`, both included, with one comma and
+/// the comment at the end of their last line. A comment on its own line before or after them stays. Does nothing if one
+/// of these indices is out of range. Fails if an allocation fails.
 pub(crate) fn cut_items(
     text: &str,
     list: &Val<'_>,
@@ -177,7 +178,8 @@ pub(crate) fn cut_items(
     cut_last(text, before, items, end, plan)
 }
 
-/// Plans to insert the first item into the empty brackets or braces of `list`. Fails if an allocation fails.
+/// Adds to `plan` the insertion of `item` into the brackets or braces of `list`, which must have no items. Fails if an
+/// allocation fails.
 fn put_first(
     alloc: Global,
     text: &str,
@@ -208,10 +210,10 @@ pub(crate) struct Item<'i> {
     pub note: &'i str,
 }
 
-/// Plans to insert an item into `list` after the last item, whose span is `last`. The new item gets its own line if the
-/// last item begins a line or has a comment after it on its line; otherwise it follows on the same line. If the comma
-/// of the last item is on a later line, with the closing bracket or brace, the new item follows that comma. Fails if an
-/// allocation fails.
+/// Adds to `plan` the insertion of an item into `list` after the last item, whose span is `last`. The new item gets its
+/// own line if the last item begins a line or has a comment after it on its line; otherwise it follows on the same
+/// line. If the comma of the last item is on a later line, with the closing bracket or brace, the new item follows that
+/// comma. Fails if an allocation fails.
 fn put_last(
     alloc: Global,
     text: &str,
@@ -259,8 +261,8 @@ fn put_last(
     }
 }
 
-/// Returns the indent of a new item on its own line: that of the line of the item in the span `last`, and four spaces
-/// more if `list` opens on that line. Fails if an allocation fails.
+/// Returns the indent of a new item on its own line: the indent of the line where the item in the span `last` begins,
+/// and four spaces more if `list` opens on that line. Fails if an allocation fails.
 fn front_of(alloc: Global, text: &str, list: &Val<'_>, last: Span) -> Result<String, AllocError> {
     let mut front = String::from_str(alloc, indent(text, last.start))?;
     if list.span.start >= line_start(text, last.start) {
@@ -269,9 +271,9 @@ fn front_of(alloc: Global, text: &str, list: &Val<'_>, last: Span) -> Result<Str
     Ok(front)
 }
 
-/// Plans to insert an item before the item of `list` at `index`, whose span is `next`. If `next` begins a line, the new
-/// item gets its own line, above the comments of `next`. Otherwise it is written on the same line. Fails if an
-/// allocation fails.
+/// Adds to `plan` the insertion of an item before the item of `list` at `index`, whose span is `next`. If `next` begins
+/// a line, the new item gets its own line, above the comments of `next`. Otherwise the new item is written on the same
+/// line. Fails if an allocation fails.
 fn put_before(
     alloc: Global,
     text: &str,
@@ -304,8 +306,8 @@ fn put_before(
     plan.put(point(next.start), format!(in alloc; "{item}, ")?)
 }
 
-/// Plans to insert an item into `list` before the item at `index` or, if there is none, after the last item. Fails if
-/// an allocation fails.
+/// Adds to `plan` the insertion of an item into `list` before the item at `index` or, if `index` is too large, after
+/// the last item. Fails if an allocation fails.
 pub(crate) fn put_item(
     alloc: Global,
     text: &str,
@@ -348,8 +350,8 @@ fn note_after(text: &str, end: usize) -> &str {
     }
 }
 
-/// Returns the comment lines above the item in a span, and the comment at the end of its line. Both are empty if the
-/// item does not begin a line.
+/// Returns the comment lines above the item in a span, and the comment at the end of the item's line. Both are empty if
+/// the item does not begin a line.
 pub(crate) fn comments_of(text: &str, item: Span) -> (&str, &str) {
     if !begins_line(text, item.start) {
         return ("", "");

@@ -29,7 +29,8 @@ fn is_all_space(bytes: &[u8]) -> bool
     true
 }
 
-/// Returns the bytes from `start` to `end`, or to the end of the text if that comes first.
+/// Returns the bytes from `start` to `end`, or to the end of the text if that comes first. Returns an empty slice if
+/// `start` is not before that end.
 fn bytes_of(text: &str, start: usize, end: usize) -> &[u8]
     ensures { result.now ≡ slice_range text.now start end }
 {
@@ -128,8 +129,8 @@ fn has_byte(bytes: &[u8], wanted: u8) -> bool
     false
 }
 
-/// Returns whether a replacement is inside one line, and what comes before it on that line is only blanks and one or
-/// more opening brackets.
+/// Returns whether a replacement is inside one line, and only blanks and one or more opening brackets come before it on
+/// that line.
 fn is_header_part(text: &str, replacement: Replacement<'_>) -> bool
     ensures { result ≡ spec.is_header_part text.now (edit_of replacement.entry) }
 {
@@ -138,7 +139,8 @@ fn is_header_part(text: &str, replacement: Replacement<'_>) -> bool
     is_opening(before) && has_byte(before, b'[') && !has_byte(bytes_of(text, start, end), b'\n')
 }
 
-/// Returns whether each replacement is inside a line, after the brackets that open it: see `is_header_part`.
+/// Returns whether each replacement is inside one line, and only blanks and one or more opening brackets come before it
+/// on that line.
 pub(crate) fn are_header_parts(text: &str, list: &[Replacement<'_>]) -> bool
     ensures { result ≡ list_all (spec.is_header_part text.now) (map edit_of list.now) }
 {

@@ -1,7 +1,8 @@
 //! Finds the starts and ends of lines, their indents, and the comments above them.
 use toml_span::Span;
 
-/// Returns the text from `start` to `end`, or an empty text if that is not a part of the text.
+/// Returns the text from the offset `start` to `end`, or an empty string if `end` is before `start`, or if one of them
+/// is after the end of the text or inside a character.
 pub(crate) fn part(text: &str, start: usize, end: usize) -> &str {
     text.get(start..end).unwrap_or("")
 }

@@ -47,7 +47,7 @@ pub(crate) fn child<'v, 'de>(value: &'v Value<'de>, segment: &str) -> Option<&'v
     }
 }
 
-/// Returns the value at a path below `value`, if there is one.
+/// Returns the value at a path that begins at `value`, or `None` if the path names nothing.
 pub(crate) fn value_at<'v, 'de>(path: &[&str], value: &'v Value<'de>) -> Option<&'v Value<'de>>
     ensures { option_map (λ v. view v.now) result ≡ paths.found (map (λ s. s.now) path.now) (view value.now) }
 {
@@ -75,8 +75,8 @@ fn items_but(items: &[Value<'_>], at: usize, others: &[Value<'_>]) -> bool
     same_items(&items[..at], &others[..at]) && same_items(&items[at + 1..], &others[at + 1..])
 }
 
-/// Returns whether two arrays are equal except for the elements at the position that a segment spells, and whether they
-/// have such elements. Returns `false` if the segment does not spell a position.
+/// Returns whether both arrays have an element at the position that a segment spells, and are equal except for these
+/// elements. Returns false if the segment does not spell a position.
 fn array_but(array: &Array<'_>, segment: &str, others: &Array<'_>) -> bool
     ensures { result ≡ spec.at_position (λ i. spec.items_but i (items_view array.now.items)
         (items_view others.now.items)) (position_of segment.now) }
@@ -106,7 +106,8 @@ fn members_but(table: &Table<'_>, name: &str, others: &Table<'_>) -> bool
     rest.next().is_none()
 }
 
-/// Returns whether two tables, or two arrays, are equal except for what a segment selects.
+/// Returns whether two tables have the same names and are equal except for the value of the entry that a segment names,
+/// or whether two arrays are equal except for the element at the position that the segment spells.
 fn same_but(value: &Value<'_>, segment: &str, other: &Value<'_>) -> bool
     ensures { result ≡ spec.same_but segment.now (inner_of (view value.now)) (inner_of (view other.now)) }
 {
@@ -164,7 +165,8 @@ fn members_gone(table: &Table<'_>, name: &str, others: &Table<'_>) -> bool
     rest.next().is_none()
 }
 
-/// Returns whether `other` is `value` without what a segment selects.
+/// Returns whether `other` is `value` without the entry or element that a segment selects. Returns false if there is no
+/// such entry or element.
 fn gone(value: &Value<'_>, segment: &str, other: &Value<'_>) -> bool
     ensures { result ≡ spec.gone segment.now (inner_of (view value.now)) (inner_of (view other.now)) }
 {
@@ -179,7 +181,8 @@ fn gone(value: &Value<'_>, segment: &str, other: &Value<'_>) -> bool
     }
 }
 
-/// Returns whether `other` is `value`, except that a segment selects the value `new` in `other`.
+/// Returns whether `other` is `value` with `new` added: as the entry of a table with the name `segment`, or as the
+/// element of an array at the position that `segment` spells.
 fn put(value: &Value<'_>, segment: &str, new: &Value<'_>, other: &Value<'_>) -> bool
     ensures { result ≡ spec.put segment.now (view new.now) (view value.now) (view other.now) }
 {
@@ -274,9 +277,9 @@ fn renamed(value: &Value<'_>, name: &str, new: &str, other: &Value<'_>) -> bool
 pub(crate) enum Local<'l, 'v, 'de> {
     /// The value is replaced with this one.
     Set(&'v Value<'de>),
-    /// What the segment selects is removed.
+    /// The entry or element that the segment selects is removed.
     Gone(&'l str),
-    /// The segment selects this value afterwards.
+    /// This value is added as an entry with this name, or inserted as an element at this position.
     Put(&'l str, &'v Value<'de>),
     /// This element is added at the end.
     Last(&'v Value<'de>),
@@ -319,7 +322,8 @@ pub(crate) fn changed(
     }
 }
 
-/// Returns whether `value` is `new` inside nested tables, one for each of the names, each with only one entry.
+/// Returns whether `value` is `new` inside nested tables, each of which has only one entry. `names` are the names of
+/// these entries, from the outermost table on.
 fn is_nested(names: &[&str], new: &Value<'_>, value: &Value<'_>) -> bool
     ensures { result ≡ same (spec.nested (map (λ s. s.now) names.now) (view new.now)) (view value.now) }
 {

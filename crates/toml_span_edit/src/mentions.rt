@@ -10,7 +10,7 @@ use toml_span_read::{Assignment, DottedKey, Section, Val, ValKind};
 pub(crate) enum Home<'s, 'de> {
     /// On a line of a section.
     Lines,
-    /// In the braces of an inline table, where this is its index among the pairs.
+    /// In the braces of this inline table, as the pair with this index.
     Braces(&'s Val<'de>, usize),
 }
 
@@ -19,9 +19,10 @@ pub(crate) enum Home<'s, 'de> {
 pub(crate) enum Mention<'s, 'de> {
     /// The section of the table itself. For the root, the section without a header.
     Own(&'s Section<'de>),
-    /// The section of a table inside the value. The part of its header with this index names the value.
+    /// The section of a table inside the value. The part of the section's header with this index names the value.
     Below(&'s Section<'de>, usize),
-    /// An assignment with a dotted key, whose part with this index names the value. It is not the last part.
+    /// An assignment with a dotted key. The part of the key with this index, which is not the last part, names the
+    /// value.
     Dotted(&'s Assignment<'de>, usize, Home<'s, 'de>),
     /// The assignment of the value.
     Assigned(&'s Assignment<'de>, Home<'s, 'de>),
@@ -32,9 +33,9 @@ pub(crate) enum Mention<'s, 'de> {
 /// Where the table of a section is, relative to a path.
 enum Placement {
     Apart,
-    /// On the way to the path: it is named by this many of the path's segments.
+    /// At the path or on the way to it: this many of the path's first segments name the table.
     Above(usize),
-    /// At the path or inside the value there. The part of its header with this index is the last segment of the path.
+    /// Inside the value at the path. The part of the header with this index names that value.
     Below(usize),
 }
 
@@ -46,13 +47,14 @@ pub(crate) fn part_at<'s, 'de>(parts: &'s DottedKey<'de>, index: usize) -> &'s K
     &parts.last
 }
 
-/// Returns how many elements have been opened in the array of tables that the first `depth` segments of a path name.
+/// Returns how many elements have been opened in the array of tables that the first `depth` segments of a path name, or
+/// 0 if `depth` is out of range.
 fn count_at(counts: &[usize], depth: usize) -> usize {
     counts.get(depth).copied().unwrap_or(0)
 }
 
 /// Counts one more element of the array of tables that the first `depth` segments of a path name, and returns how many
-/// there were before.
+/// elements there were before. If `depth` is out of range, counts nothing and returns 0.
 fn count_up(counts: &mut Vec<usize>, depth: usize) -> usize {
     match counts.get_mut(depth) {
         Some(count) => {
@@ -66,7 +68,7 @@ fn count_up(counts: &mut Vec<usize>, depth: usize) -> usize {
 
 /// Returns where the table of a section is, relative to a path. `counts[n]` is the number of elements that have been
 /// opened in the array of tables that the first `n` segments of the path name. If the section opens an element of such
-/// an array, it is counted.
+/// an array, the function counts that element.
 fn placement_of(section: &Section<'_>, path: &[&str], counts: &mut Vec<usize>) -> Placement {
     let mut depth: usize = 0;
     let last = section.header.len().saturating_sub(1);
@@ -99,7 +101,7 @@ fn placement_of(section: &Section<'_>, path: &[&str], counts: &mut Vec<usize>) -
 }
 
 /// Compares the parts of a dotted key with the first segments of a path. Returns how many have been compared: all
-/// parts, or as many as the path has segments. Returns `None` if one of them differs.
+/// parts, or as many as the path has segments. Returns `None` if a part differs from its segment.
 fn common(parts: &DottedKey<'_>, path: &[&str]) -> Option<usize> {
     let count = parts.inner.len().saturating_add(1).min(path.len());
     for index in 0..count {
@@ -147,8 +149,8 @@ fn push_element<'s, 'de>(
     Ok(())
 }
 
-/// Appends the mentions of a path inside a value. The path begins at the value. If it is empty, nothing is appended.
-/// Fails if an allocation fails.
+/// Appends the mentions of a path inside a value. The path begins at the value. If the path is empty, nothing is
+/// appended. Fails if an allocation fails.
 #[cycle(push_inside)]
 fn push_inside<'s, 'de>(
     value: &'s Val<'de>,
@@ -174,8 +176,8 @@ fn push_inside<'s, 'de>(
     Ok(())
 }
 
-/// Appends the mentions of a path in a section, and counts the element that its header opens in `counts`: see
-/// `placement_of`. Fails if an allocation fails.
+/// Appends the mentions of a path in a section. If the section opens an element of an array of tables on the path,
+/// counts that element in `counts` (see `placement_of`). Fails if an allocation fails.
 fn push_section<'s, 'de>(
     section: &'s Section<'de>,
     path: &[&str],
@@ -210,8 +212,8 @@ pub(crate) fn mentions_of<'s, 'de>(
     Ok(out)
 }
 
-/// Returns whether a section is an element of the array of tables that the part of its header at the index `part`
-/// names.
+/// Returns whether a section opens an element of the array of tables that its header names up to the part at the index
+/// `part`.
 pub(crate) fn opens_element(section: &Section<'_>, part: usize) -> bool {
     section.array && part.saturating_add(1) == section.header.len()
 }

@@ -28,8 +28,8 @@ fn comments_start(text: &str, extent: Span) -> usize {
     comments_above(text, line_start(text, extent.start))
 }
 
-/// Returns the value at a path with its comments, or `None` if it is not written as a value. Fails if an allocation
-/// fails.
+/// Returns the value at a path with its comments, or `None` if the value is not written as a literal. Fails if an
+/// allocation fails.
 pub(crate) fn moved_value<'s>(
     document: Document<'s, '_>,
     path: &[&str],
@@ -53,8 +53,8 @@ pub(crate) fn moved_value<'s>(
     Ok(Some(Moved { above, value, note }))
 }
 
-/// Returns the span of the assignment or element in a mention, if its comments move with it: for an assignment on its
-/// own line, and for an element of an array in brackets. Returns `None` for any other mention.
+/// Returns the span of the assignment or element that a mention names, if comments above it move with it: an assignment
+/// on its own line, or an element of an array in brackets. Returns `None` for any other mention.
 fn extent_of(text: &str, mention: &Mention<'_, '_>) -> Option<Span> {
     match *mention {
         Mention::Assigned(assignment, Home::Lines) => Some(assignment.extent),
@@ -63,8 +63,8 @@ fn extent_of(text: &str, mention: &Mention<'_, '_>) -> Option<Span> {
     }
 }
 
-/// Plans to remove the comment lines directly above the value at a path, which move with the value. Fails if an
-/// allocation fails.
+/// Adds to `plan` the removal of the comment lines directly above the value at a path, which move with the value. Fails
+/// if an allocation fails.
 pub(crate) fn cut_comments(
     document: Document<'_, '_>,
     path: &[&str],
@@ -97,8 +97,9 @@ fn is_array(document: Document<'_, '_>, path: &[&str]) -> Result<bool, AllocErro
     })
 }
 
-/// Plans to insert the value `moved` at a path: as an element if the path leads into an array, otherwise as an entry of
-/// a table. Fails with the reason if that is not possible, or if an allocation fails.
+/// Adds to `plan` the changes that put the value `moved` at a path: as an element if the path leads into an array,
+/// otherwise as an entry of a table. Fails with the reason if that is not possible, and with `Stop::Memory` if an
+/// allocation fails.
 pub(crate) fn put_moved(
     document: Document<'_, '_>,
     path: &[&str],
@@ -140,7 +141,8 @@ fn new_header(document: Document<'_, '_>, path: &[&str]) -> Result<Option<String
     Ok(Some(format!(in document.alloc; "{table}.{key}")?))
 }
 
-/// Returns the span of a section's header from its first part to the part at `index`, quotes included.
+/// Returns the span of a section's header from its first part to the part at `index`, quotes included. Returns the span
+/// of the whole header if it does not have that part.
 fn header_span(text: &str, section: &Section<'_>, index: usize) -> Span {
     let keys = section.header.as_slice();
     match (keys.first(), keys.get(index)) {
@@ -152,9 +154,10 @@ fn header_span(text: &str, section: &Section<'_>, index: usize) -> Span {
     }
 }
 
-/// Plans to write `target` instead of `path` in the headers of the table, or array of tables, at `path`, and of the
-/// tables inside it. Fails with `NotSpelled` if anything but headers defines the value at `path` or the table around
-/// `target`, or if `path` names an element of an array, or if an allocation fails.
+/// Adds to `plan` the changes that write `target` instead of `path` in the headers of the table or array of tables at
+/// `path`, and in those of the tables inside it. Fails with `NotSpelled` if `path` names an element of an array, or if
+/// anything but headers defines the value at `path` or the table around `target`. Fails with `Stop::Memory` if an
+/// allocation fails.
 pub(crate) fn rename_headers(
     document: Document<'_, '_>,
     path: &[&str],

@@ -23,7 +23,7 @@ pub fn path_error_text(alloc: Global, path: &str, error: &PathError) -> Result<S
 }
 
 /// Returns the segments of a path, which is a pointer such as `/a/0` or a dotted key such as `a[0]`. Fails with
-/// `WrongPath` if it can't be read, or if an allocation fails.
+/// `WrongPath` if the path is neither, and with `Stop::Memory` if an allocation fails.
 pub(crate) fn segments_of<'p>(alloc: Global, path: &'p str) -> Result<Vec<CowStr<'p>>, Stop<Reason>>
     ensures { IfOk result (λ segments. IsPath path.now (Ok (map cow_str_bytes segments.items))) }
 {
@@ -52,18 +52,18 @@ pub(crate) fn position(segment: &str) -> Option<usize>
     segment.parse::<usize>().ok()
 }
 
-/// Returns the segments after the first `count`: none if there are fewer.
+/// Returns the segments after the first `count`, or none if there are fewer than `count`.
 pub(crate) fn rest_of<'p, 'e>(path: &'p [&'e str], count: usize) -> &'p [&'e str] {
     let start = count.min(path.len());
     &path[start..]
 }
 
-/// Returns the first `count` segments, or all if there are fewer.
+/// Returns the first `count` segments, or all if there are fewer than `count`.
 pub(crate) fn front_of<'p, 'e>(path: &'p [&'e str], count: usize) -> &'p [&'e str] {
     path.get(..count).unwrap_or(path)
 }
 
-/// Returns whether the segment of a path at an index is this one.
+/// Returns whether the segment of a path at `index` is `segment`. Returns false if the path is too short.
 pub(crate) fn has_segment(path: &[&str], index: usize, segment: &str) -> bool {
     match path.get(index) {
         Some(other) => *other == segment,
@@ -71,7 +71,7 @@ pub(crate) fn has_segment(path: &[&str], index: usize, segment: &str) -> bool {
     }
 }
 
-/// Returns whether the segment of a path at an index spells this position.
+/// Returns whether the segment of a path at `index` spells the position `at`. Returns false if the path is too short.
 pub(crate) fn has_position(path: &[&str], index: usize, at: usize) -> bool {
     match path.get(index) {
         Some(segment) => position(*segment) == Some(at),
@@ -79,7 +79,7 @@ pub(crate) fn has_position(path: &[&str], index: usize, at: usize) -> bool {
     }
 }
 
-/// Returns whether a segment names a step: a key with this name, or an element at this position.
+/// Returns whether a segment names `step`: whether it is the name of the key, or spells the position of the element.
 fn is_step(segment: &str, step: Step<'_>) -> bool
     ensures { result ≡ spec.is_step segment.now (step_of step.entry) }
 {

@@ -16,7 +16,7 @@ pub(crate) struct Piece {
     pub text: String,
 }
 
-/// Replacements in the order of the text, whose spans don't overlap.
+/// Replacements in a text. They must be in the order of the text, and their spans must not overlap.
 #[derive(Drop)]
 pub(crate) struct Plan {
     alloc: Global,
@@ -56,15 +56,16 @@ impl Plan {
         Ok(list)
     }
 
-    /// Returns the text with the replacements made. Fails if an allocation fails, and with `WouldDiffer` if they
-    /// overlap or are not in the order of the text.
+    /// Returns the text with the replacements made. Fails with `WouldDiffer` if a span is invalid, or overlaps or
+    /// precedes an earlier one, and with `Stop::Memory` if an allocation fails.
     pub(crate) fn applied(&self, text: &str) -> Result<String, Stop<Reason>> {
         let list = self.replacements()?;
         with_replaced(self.alloc, text, list.as_slice())
     }
 
-    /// Returns the text with the replacements made. Fails if an allocation fails, and with `WouldDiffer` if they
-    /// replace anything but white space, are not in the order of the text, or overlap.
+    /// Returns the text with the replacements made. Fails with `WouldDiffer` if a replacement replaces anything but
+    /// white space, or if a span is invalid, or overlaps or precedes an earlier one, and with `Stop::Memory` if an
+    /// allocation fails.
     pub(crate) fn inserted(&self, text: &str) -> Result<String, Stop<Reason>>
         ensures { IfOk result (λ new. spec.IsInserted text.now (string_bytes new)) }
     {
@@ -75,8 +76,9 @@ impl Plan {
         with_replaced(self.alloc, text, list.as_slice())
     }
 
-    /// Returns the text with the replacements made. Fails if an allocation fails, and with `WouldDiffer` if they
-    /// replace anything but parts of headers, are not in the order of the text, or overlap.
+    /// Returns the text with the replacements made. Fails with `WouldDiffer` if a replacement replaces anything but a
+    /// part of a header, or if a span is invalid, or overlaps or precedes an earlier one, and with `Stop::Memory` if an
+    /// allocation fails.
     pub(crate) fn in_headers(&self, text: &str) -> Result<String, Stop<Reason>>
         ensures { IfOk result (λ new. spec.AreHeadersReplaced text.now (string_bytes new)) }
     {
@@ -88,8 +90,8 @@ impl Plan {
     }
 }
 
-/// Returns the text with these replacements made. Fails if an allocation fails, and with `WouldDiffer` if they overlap
-/// or are not in the order of the text.
+/// Returns the text with these replacements made. Fails with `WouldDiffer` if a span is invalid, or overlaps or
+/// precedes an earlier one, and with `Stop::Memory` if an allocation fails.
 fn with_replaced(
     alloc: Global,
     text: &str,

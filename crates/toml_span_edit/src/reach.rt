@@ -51,7 +51,7 @@ fn reach(text: &str, value: &Value<'_>) -> Span
     }
 }
 
-/// Returns the smallest span that contains `own` and the `reach` of each element.
+/// Returns the smallest span that contains `own` and each element, with all literals and keys inside it.
 #[cycle(reach)]
 fn items_reach(text: &str, own: Span, items: &[Value<'_>]) -> Span
     ensures { result ≡ spec.items_reach text.now own (items_view items.now) }
@@ -63,7 +63,8 @@ fn items_reach(text: &str, own: Span, items: &[Value<'_>]) -> Span
     span
 }
 
-/// Returns the smallest span that contains `own` and, for each entry, its key and the `reach` of its value.
+/// Returns the smallest span that contains `own` and each entry: its key, and its value with all literals and keys
+/// inside.
 #[cycle(reach)]
 fn entries_reach(text: &str, own: Span, table: &Table<'_>) -> Span
     ensures { result ≡ spec.members_reach text.now own (members_view table.now.entries) }
@@ -87,7 +88,8 @@ fn entry<'v, 'de>(table: &'v Table<'de>, name: &str) -> Option<(Option<Span>, &'
     None
 }
 
-/// Returns the entry or element that a segment names, with the span of its key if it is an entry.
+/// Returns the entry or element that a segment names, with the span of its key if it is an entry. Returns `None` if the
+/// segment names nothing.
 fn named<'v, 'de>(value: &'v Value<'de>, segment: &str) -> Option<(Option<Span>, &'v Value<'de>)>
     ensures { option_map (λ e. (e.0, view e.1.now)) result ≡ spec.named segment.now (inner_of (view value.now)) }
 {
@@ -121,8 +123,8 @@ pub(crate) fn line_start(text: &str, at: usize) -> usize
     start
 }
 
-/// Returns the offset after the first line feed at or after the offset `from`, or the length of the text if there is
-/// none.
+/// Returns the offset after the first line feed at or after the offset `from`. Without such a line feed, returns the
+/// length of the text or, if larger, `from`.
 fn after_line(text: &str, from: usize) -> usize
     ensures { result ≡ after_line text.now from }
 {
@@ -135,7 +137,8 @@ fn after_line(text: &str, from: usize) -> usize
     bytes.len().max(from)
 }
 
-/// Returns the end of the line that contains the byte before the offset `end`, including its line end.
+/// Returns the end of the line that contains the byte before the offset `end`, line end included. Returns 0 if `end` is
+/// 0.
 fn lines_end(text: &str, end: usize) -> usize
     ensures { result ≡ spec.lines_end text.now end }
 {
@@ -177,9 +180,9 @@ fn held_in(text: &str, value: &Value<'_>, span: Span, outer: Option<Span>) -> Op
     outer
 }
 
-/// Returns the part of the text in which the value at a path is written: what is between the innermost brackets or
-/// braces around it or, without such, its lines from the first to the last. Returns `None` if the path is empty or
-/// leads to nothing. `outer` is what is between the brackets or braces around `value`, where the path begins.
+/// Returns the span in which the value at a path is written: from its first to its last line or, if brackets or braces
+/// are around it, the span between the innermost pair of these. Returns `None` if the path is empty or names nothing.
+/// The path begins at `value`; `outer` is the span between the brackets or braces around `value`, if there are any.
 fn room(text: &str, path: &[&str], outer: Option<Span>, value: &Value<'_>) -> Option<Span>
     ensures { result ≡ spec.room text.now (map (λ s. s.now) path.now) outer (view value.now) }
 {
@@ -195,8 +198,8 @@ fn room(text: &str, path: &[&str], outer: Option<Span>, value: &Value<'_>) -> Op
     room(text, rest, held, below)
 }
 
-/// Returns the smallest span that contains `span` and the lines of all sections of the table at a path, and of the
-/// tables inside it.
+/// Returns the smallest span that contains `span` and the lines of each section of the table at a path or of a table
+/// inside that table.
 fn with_sections(text: &str, path: &[&str], span: Span, places: &[SectionPlace<'_>]) -> Span
     ensures { result ≡ spec.with_sections text.now (map (λ s. s.now) path.now) span
         (map section_mention places.now) }
@@ -210,9 +213,9 @@ fn with_sections(text: &str, path: &[&str], span: Span, places: &[SectionPlace<'
     around
 }
 
-/// Returns the span that contains everything that a path names: what is between the innermost brackets or braces around
-/// it, or its lines. `value` is the tree of the document. Fails with `Nothing` if the path is empty or leads to
-/// nothing, or if an allocation fails.
+/// Returns a span that contains the whole value at a path: the lines of the value and of its sections or, if brackets
+/// or braces are around it, the span between the innermost pair of these. `value` is the tree of the document. Fails
+/// with `Nothing` if the path is empty or names nothing, and with `Stop::Memory` if an allocation fails.
 pub(crate) fn around(
     document: Document<'_, '_>,
     path: &[&str],

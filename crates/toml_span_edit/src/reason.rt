@@ -7,14 +7,15 @@ pub enum Reason {
     TooLong,
     /// The document is not valid UTF-8.
     NotUtf8,
-    /// The document is not valid TOML. This is its error with line and column.
+    /// The document is not valid TOML. The string is its error with line and column.
     NoDocument(String),
-    /// The path is neither a pointer nor a dotted key. This is where it can't be read, and why.
+    /// The path is neither a pointer nor a dotted key. The string says at which column reading the path failed, and
+    /// why.
     WrongPath(String),
     /// There is no value at the path.
     Nothing,
-    /// The new value is not a TOML value. For a bare word, this is the string that was probably meant, quoted for a
-    /// shell, followed by a question mark.
+    /// The new value is not a TOML value. For a bare word, the string is what was probably meant, quoted for a shell
+    /// and followed by a question mark, to complete `did you mean`.
     NoValue(Option<String>),
     /// Headers or dotted keys define the value at the path.
     NotSpelled,
@@ -22,13 +23,14 @@ pub enum Reason {
     NoKey,
     /// There already is a value at the path.
     There,
-    /// The path does not lead to a table.
+    /// The value to which an entry would be added is not a table.
     NoTable,
-    /// The path does not lead to an array, or not to a position in one.
+    /// The value to which an element would be added is not an array, or the array does not have the position in the
+    /// path.
     NoArray,
     /// A new element of an array of tables must be written as an inline table.
     NoInlineTable,
-    /// The result would not be valid TOML. This is its error with line and column.
+    /// The result would not be valid TOML. The string is its error with line and column.
     WouldBeNone(String),
     /// The edit would change something else too.
     WouldDiffer,
@@ -61,8 +63,8 @@ impl Reason {
         }
     }
 
-    /// Returns what follows the reason: the place and message of an error, or the string that was probably meant. It is
-    /// empty for other reasons.
+    /// Returns the detail that follows the reason: the place and the message of an error, or the string that was
+    /// probably meant. Returns an empty text for other reasons.
     pub fn detail(&self) -> &str {
         match self {
             Reason::NoDocument(fault) => fault.as_str(),

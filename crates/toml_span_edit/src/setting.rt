@@ -1,4 +1,4 @@
-//! Replaces values that no headers or dotted keys define, and renames keys.
+//! Replaces values that are written as literals, and renames keys.
 ghost use Rattle.std.specs.Prelude.{◌≡◌, ◌++◌, IfOk, Ok, Some, [], ◌∷◌, map, string_bytes};
 ghost use Rattle.toml_span_read.specs.Data.{depth_limit, parsed_section};
 ghost use Rattle.toml_span_read.specs.Read.{document as read};
@@ -29,8 +29,8 @@ pub(crate) enum Written {
     Nowhere,
 }
 
-/// Returns how the value at a path is written. Fails if the text can't be split into sections, or if an allocation
-/// fails.
+/// Returns how the value at a path is written. Fails with `WouldDiffer` if the text can't be split into sections, and
+/// with `Stop::Memory` if an allocation fails.
 pub(crate) fn how_written(
     alloc: Global,
     text: &str,
@@ -53,8 +53,8 @@ pub(crate) fn how_written(
     })
 }
 
-/// Returns the text with `new` in place of a span. Fails with `WouldDiffer` if the span is not a part of the text, or
-/// if an allocation fails.
+/// Returns the text with `new` in place of a span. Fails with `WouldDiffer` if the span is not a part of the text, and
+/// with `Stop::Memory` if an allocation fails.
 fn with_span_replaced(
     alloc: Global,
     text: &str,
@@ -70,7 +70,7 @@ fn with_span_replaced(
 }
 
 /// Returns the text with `value` written over the literal of the value at a path. `old` is the tree of the text. Fails
-/// with `Nothing` if there is no such value, or if an allocation fails.
+/// with `Nothing` if the path names nothing, and with `Stop::Memory` if an allocation fails.
 pub(crate) fn write_over(
     alloc: Global,
     text: &str,
@@ -88,8 +88,8 @@ pub(crate) fn write_over(
 }
 
 /// Returns the text with the TOML value `value` written over the value at a path. `old` is the tree of the text. Fails
-/// with `NoValue` if `value` is not a TOML value, with `Nothing` if the path leads to nothing, with `NotSpelled` if
-/// headers or dotted keys define the value at the path, or if an allocation fails.
+/// with `NoValue` if `value` is not a TOML value, with `Nothing` if the path names nothing, with `NotSpelled` if
+/// headers or dotted keys define the value at the path, and with `Stop::Memory` if an allocation fails.
 pub(crate) fn set_text(
     alloc: Global,
     text: &str,
@@ -135,7 +135,7 @@ fn key_spans(document: Document<'_, '_>, path: &[&str]) -> Result<Vec<Span>, All
 }
 
 /// Returns the text with `key` in place of each of the spans. Fails with `WouldDiffer` if the spans are not parts of
-/// the text, overlap, or are not in the order of the text, or if an allocation fails.
+/// the text, overlap, or are not in the order of the text, and with `Stop::Memory` if an allocation fails.
 fn with_spans(alloc: Global, text: &str, spans: &[Span], key: &str) -> Result<String, Stop<Reason>>
     ensures { IfOk result (λ new. places.replaced text.now (map (λ span. (span, key.now)) spans.now)
         ≡ Some (string_bytes new)) }
@@ -146,8 +146,8 @@ fn with_spans(alloc: Global, text: &str, spans: &[Span], key: &str) -> Result<St
     }
 }
 
-/// Returns the text with `key` in place of all keys that name the value at a path. Fails if they can't be replaced, or
-/// if an allocation fails.
+/// Returns the text with `key` in place of all keys that name the value at a path. Fails with `WouldDiffer` if the keys
+/// can't be replaced, and with `Stop::Memory` if an allocation fails.
 fn with_key(document: Document<'_, '_>, path: &[&str], key: &str) -> Result<String, Stop<Reason>>
     ensures { IfOk result (λ new. places.replaced document.entry.text.now (map (λ span. (span, key.now))
         (spec.keys_at (map (λ s. s.now) path.now) (document_keys document.entry.text.now
@@ -158,7 +158,7 @@ fn with_key(document: Document<'_, '_>, path: &[&str], key: &str) -> Result<Stri
 }
 
 /// Checks that keys name the value at a path. Fails with `NoKey` for the root and for an element of an array, with
-/// `Nothing` if the path leads to nothing, or if an allocation fails.
+/// `Nothing` if the path names nothing, and with `Stop::Memory` if an allocation fails.
 fn check_keys(document: Document<'_, '_>, path: &[&str]) -> Result<(), Stop<Reason>> {
     if path.is_empty() {
         return Err(Stop::Fault(Reason::NoKey));
@@ -177,8 +177,9 @@ fn check_keys(document: Document<'_, '_>, path: &[&str]) -> Result<(), Stop<Reas
     Ok(())
 }
 
-/// Returns the text with the key `name` in place of all keys that name the value at a path. Fails with the reason if
-/// there is no such value or it has no key, or if an allocation fails.
+/// Returns the text with the key `name` in place of all keys that name the value at a path. Fails with `Nothing` if the
+/// path names nothing, with `NoKey` if the value is the root or an element of an array, and with `Stop::Memory` if an
+/// allocation fails.
 fn rename_keys(
     document: Document<'_, '_>,
     path: &[&str],
@@ -193,8 +194,9 @@ fn rename_keys(
     with_key(document, path, key.as_str())
 }
 
-/// Returns the text with the key `name` in place of all keys that name the value at a path. Fails with the reason if
-/// the text can't be split into sections, if there is no such value or it has no key, or if an allocation fails.
+/// Returns the text with the key `name` in place of all keys that name the value at a path. Fails with `WouldDiffer` if
+/// the text can't be split into sections, with `Nothing` if the path names nothing, with `NoKey` if the value is the
+/// root or an element of an array, and with `Stop::Memory` if an allocation fails.
 pub(crate) fn renamed_text(
     alloc: Global,
     text: &str,

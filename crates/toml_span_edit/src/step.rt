@@ -33,7 +33,8 @@ fn fault_text(alloc: Global, fault: &Error<'_>) -> Result<String, AllocError> {
     format!(in alloc; "{line}:{column}: {fault}")
 }
 
-/// Returns the tree of a text, or its error as `fault_text` writes it. Fails if an allocation fails.
+/// Returns the tree of a text, or the error of the text with line and column if it is not valid TOML. Fails if an
+/// allocation fails.
 fn tree<'t>(alloc: Global, text: &'t str) -> Result<Result<Value<'t>, String>, AllocError>
     ensures { IfOk result (λ read. IfOk read (λ root. IsTree text.now depth_limit root)) }
 {
@@ -48,8 +49,8 @@ fn tree<'t>(alloc: Global, text: &'t str) -> Result<Result<Value<'t>, String>, A
     }
 }
 
-/// Returns the tree of `probe`, a document in which `v` is `value`. Fails with `NoValue` if it is not valid TOML, or if
-/// an allocation fails.
+/// Returns the tree of `probe`, which is `v = ` followed by `value`. Fails with `NoValue` if `probe` is not valid TOML,
+/// and with `Stop::Memory` if an allocation fails.
 fn given_tree<'p>(alloc: Global, probe: &'p str, value: &str) -> Result<Value<'p>, Stop<Reason>>
     ensures { IfOk result (λ root. IsTree probe.now depth_limit root) }
 {
@@ -73,8 +74,8 @@ fn local_of<'l, 'v, 'de>(spot: Spot<'l>, given: &'v Value<'de>) -> Local<'l, 'v,
     }
 }
 
-/// Returns whether the tree `new` is `old` with the TOML value `value` at a spot relative to the path. Fails with
-/// `NoValue` if `value` is not a TOML value, or if an allocation fails.
+/// Returns whether the tree `new` is `old` with the TOML value `value` at `spot`, relative to the path. Fails with
+/// `NoValue` if `value` is not a TOML value, and with `Stop::Memory` if an allocation fails.
 fn goes(
     alloc: Global,
     spot: Spot<'_>,
@@ -94,8 +95,8 @@ fn goes(
     }
 }
 
-/// Returns whether the tree `new` is `old` with the TOML value `value` added at a path, which named nothing before.
-/// Fails with `NoValue` if `value` is not a TOML value, or if an allocation fails.
+/// Returns whether the tree `new` is `old` with the TOML value `value` added at a path that names nothing in `old`.
+/// Fails with `NoValue` if `value` is not a TOML value, and with `Stop::Memory` if an allocation fails.
 fn is_new(
     alloc: Global,
     value: &str,
@@ -115,7 +116,7 @@ fn is_new(
 }
 
 /// Returns whether the tree `new` is `old` with this edit made. Returns false for a move. Fails with `NoValue` if the
-/// given value is not a TOML value, or if an allocation fails.
+/// given value is not a TOML value, and with `Stop::Memory` if an allocation fails.
 fn is_made(
     alloc: Global,
     edit: Edit<'_>,
@@ -141,7 +142,7 @@ fn is_made(
 }
 
 /// Returns whether the tree `new` is `old` with the TOML value `value` at a path, added or in place of another value.
-/// Fails with `NoValue` if `value` is not a TOML value, or if an allocation fails.
+/// Fails with `NoValue` if `value` is not a TOML value, and with `Stop::Memory` if an allocation fails.
 fn is_set_or_new(
     alloc: Global,
     value: &str,
@@ -160,7 +161,8 @@ fn is_set_or_new(
 }
 
 /// Returns whether the tree `new` is `old` with the TOML value `value` at the end of the array at a path, or with a new
-/// array that has only this element. Fails with `NoValue` if `value` is not a TOML value, or if an allocation fails.
+/// array that has only this element. Fails with `NoValue` if `value` is not a TOML value, and with `Stop::Memory` if an
+/// allocation fails.
 fn is_appended(
     alloc: Global,
     value: &str,
@@ -181,8 +183,8 @@ fn is_appended(
     goes(alloc, Spot::End, value, path, old, new)
 }
 
-/// Returns whether the tree `new` is `old` with the TOML value `value` at a path, added to a table or array that
-/// existed. Fails with `NoValue` if `value` is not a TOML value, or if an allocation fails.
+/// Returns whether the tree `new` is `old` with the TOML value `value` added at a path, in a table or array that `old`
+/// has. Fails with `NoValue` if `value` is not a TOML value, and with `Stop::Memory` if an allocation fails.
 fn is_under(
     alloc: Global,
     value: &str,
@@ -209,7 +211,7 @@ fn is_gone(path: &[&str], old: &Value<'_>, new: &Value<'_>) -> bool
     }
 }
 
-/// Returns whether the tree `new` is `old` with another name for the key at a path.
+/// Returns whether the tree `new` is `old` with the key at a path renamed to `new_name`.
 fn is_renamed(new_name: &str, path: &[&str], old: &Value<'_>, new: &Value<'_>) -> bool
     ensures { result ≡ true
         → spec.IsRenamed new_name.now (map (λ s. s.now) path.now) (view old.now) (view new.now) }
@@ -234,7 +236,8 @@ fn is_put(path: &[&str], value: &Value<'_>, old: &Value<'_>, new: &Value<'_>) ->
     }
 }
 
-/// Returns the tree of the text to edit. Fails with `NoDocument` if it is not valid TOML, or if an allocation fails.
+/// Returns the tree of the text to edit. Fails with `NoDocument` if it is not valid TOML, and with `Stop::Memory` if an
+/// allocation fails.
 pub(crate) fn old_tree<'t>(alloc: Global, text: &'t str) -> Result<Value<'t>, Stop<Reason>>
     ensures { IfOk result (λ root. IsTree text.now depth_limit root) }
 {
@@ -244,8 +247,8 @@ pub(crate) fn old_tree<'t>(alloc: Global, text: &'t str) -> Result<Value<'t>, St
     }
 }
 
-/// Returns the tree of the text that an edit made. Fails with `WouldBeNone` if it is not valid TOML, or if an
-/// allocation fails.
+/// Returns the tree of the text that an edit made. Fails with `WouldBeNone` if it is not valid TOML, and with
+/// `Stop::Memory` if an allocation fails.
 pub(crate) fn new_tree<'t>(alloc: Global, text: &'t str) -> Result<Value<'t>, Stop<Reason>>
     ensures { IfOk result (λ root. IsTree text.now depth_limit root) }
 {
@@ -256,7 +259,7 @@ pub(crate) fn new_tree<'t>(alloc: Global, text: &'t str) -> Result<Value<'t>, St
 }
 
 /// Checks that the text `new` is a document whose tree is `old` with an edit made, other than a move. Fails with
-/// `WouldBeNone` or `WouldDiffer` if not, or if an allocation fails.
+/// `WouldBeNone` or `WouldDiffer` if not, and with `Stop::Memory` if an allocation fails.
 fn check_made(alloc: Global, edit: Edit<'_>, old: &Value<'_>, new: &str) -> Result<(), Stop<Reason>>
     ensures { OnOk result (spec.IsMade edit.entry.change (map (λ s. s.now) edit.entry.path.now) (view old.now)
         new.now) }
@@ -270,7 +273,7 @@ fn check_made(alloc: Global, edit: Edit<'_>, old: &Value<'_>, new: &str) -> Resu
 }
 
 /// Checks that the text `new` is a document whose tree is `rest` with `value` inserted at a path. Fails with
-/// `WouldBeNone` or `WouldDiffer` if not, or if an allocation fails.
+/// `WouldBeNone` or `WouldDiffer` if not, and with `Stop::Memory` if an allocation fails.
 fn check_put_back(
     alloc: Global,
     path: &[&str],
@@ -289,7 +292,7 @@ fn check_put_back(
 }
 
 /// Checks that the text `new` is a document whose tree is `old` with the value at `path` moved to `target`. `without`
-/// is the text without that value. Fails with the reason if not, or if an allocation fails.
+/// is the text without that value. Fails with the reason if not, and with `Stop::Memory` if an allocation fails.
 fn check_moved(
     alloc: Global,
     without: &str,
@@ -312,7 +315,7 @@ fn check_moved(
 }
 
 /// Returns the text with the value at `path` moved to `target`. `old` is the tree of the text. Fails with the reason if
-/// that is not possible, or if an allocation fails.
+/// that is not possible, and with `Stop::Memory` if an allocation fails.
 fn move_value(
     alloc: Global,
     text: &str,
@@ -332,7 +335,7 @@ fn move_value(
 }
 
 /// Makes an edit other than a move, and returns the new text. `old` is the tree of the text. Fails with the reason if
-/// the edit is refused, or if an allocation fails.
+/// the edit is refused, and with `Stop::Memory` if an allocation fails.
 fn edited(
     alloc: Global,
     text: &str,
@@ -351,7 +354,7 @@ fn edited(
 
 /// Makes an edit, and returns the new text. Fails with the reason if the text is not a document, if the edit can't be
 /// made, if the tree of the result would not be the old tree with only this change, or if other bytes would change.
-/// Fails also if an allocation fails.
+/// Fails with `Stop::Memory` if an allocation fails.
 pub(crate) fn step(alloc: Global, text: &str, edit: Edit<'_>) -> Result<String, Stop<Reason>>
     ensures { IfOk result (λ new. spec.EditMade edit.entry text.now (string_bytes new)) }
 {

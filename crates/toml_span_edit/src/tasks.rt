@@ -1,4 +1,4 @@
-//! One edit at a path, of a document in bytes.
+//! Makes one edit at a path in a document, which is passed as bytes.
 ghost use Rattle.std.specs.Prelude.{◌≡◌, IfOk, map, string_bytes};
 ghost use Rattle.toml_span_edit.specs.Tasks as spec;
 
@@ -46,7 +46,7 @@ fn change_of<'w>(
 }
 
 /// Carries out a task at the value that a path names, and returns the new text. Fails with the reason if the edit is
-/// refused, or if an allocation fails.
+/// refused, and with `Stop::Memory` if an allocation fails.
 fn perform(alloc: Global, text: &str, path: &str, task: Task<'_>) -> Result<String, Stop<Reason>>
     ensures { IfOk result (λ new. spec.TaskMade path.now task.entry text.now (string_bytes new)) }
 {
@@ -57,11 +57,11 @@ fn perform(alloc: Global, text: &str, path: &str, task: Task<'_>) -> Result<Stri
     step(alloc, text, Edit { path, change })
 }
 
-/// Makes one edit of a document, as `Edits` does, at the value that a path names: a pointer such as `/a/b/0`, or a
-/// dotted key such as `a.b[0]`. Returns the new text.
+/// Makes one edit of a document, as `Edits` does, and returns the new text. `path` names the value to edit: a pointer
+/// such as `/a/b/0`, or a dotted key such as `a.b[0]`.
 ///
 /// Fails with `TooLong` for a document of more than 16 MiB, with `NotUtf8` if it is not valid UTF-8, with the reason if
-/// the edit is refused, or if an allocation fails.
+/// the edit is refused, and with `Stop::Memory` if an allocation fails.
 pub fn edited(
     alloc: Global,
     document: &[u8],

@@ -23,8 +23,8 @@ use toml_span::{Span, Stop};
 
 // ---- what is inserted
 
-/// Adds to `plan` what a change inserts at a path. Fails with the reason if the change can't be made, with
-/// `WouldDiffer` if it does more than insert, or if an allocation fails.
+/// Adds to `plan` the insertions that make a change at a path. Fails with the reason if the change can't be made, with
+/// `WouldDiffer` if it does more than insert, and with `Stop::Memory` if an allocation fails.
 fn plan(
     document: Document<'_, '_>,
     path: &[&str],
@@ -41,8 +41,8 @@ fn plan(
     }
 }
 
-/// Returns the text with what a change inserts at a path. Fails with the reason if the change can't be made, with
-/// `WouldDiffer` if it would replace more than white space, or if an allocation fails.
+/// Returns the text after a change at a path that only inserts text. Fails with the reason if the change can't be made,
+/// with `WouldDiffer` if it would replace more than white space, and with `Stop::Memory` if an allocation fails.
 fn inserted_text(
     alloc: Global,
     text: &str,
@@ -64,7 +64,7 @@ fn inserted_text(
 
 /// Returns the text with `value` written over the value at a path or, if there is nothing, added there. `old` is the
 /// tree of the text. Fails with `NotSpelled` if headers or dotted keys define the value at the path, with another
-/// reason if `value` can't be written there, or if an allocation fails.
+/// reason if `value` can't be written there, and with `Stop::Memory` if an allocation fails.
 fn set_or_added_text(
     alloc: Global,
     text: &str,
@@ -87,7 +87,7 @@ fn set_or_added_text(
 // ---- what is removed
 
 /// Returns the text without the value at a path and, if `has_comments`, without the comments above it. Fails with the
-/// reason if the value can't be removed, or if an allocation fails.
+/// reason if the value can't be removed, and with `Stop::Memory` if an allocation fails.
 fn removed(
     document: Document<'_, '_>,
     path: &[&str],
@@ -115,8 +115,8 @@ fn if_around(text: &str, start: usize, end: usize, new: String) -> Result<String
 }
 
 /// Returns the text without the value at a path. `old` is the tree of the text. Fails with the reason if the value
-/// can't be removed, with `WouldDiffer` if more would change than the part of the text that `around` returns, or if an
-/// allocation fails.
+/// can't be removed, with `WouldDiffer` if text outside the value's lines, or outside the brackets or braces around the
+/// value, would change, and with `Stop::Memory` if an allocation fails.
 fn cut_text(
     alloc: Global,
     text: &str,
@@ -149,8 +149,8 @@ fn comments_from(text: &str, at: usize) -> usize
 }
 
 /// Returns the text without the value at a path and the comments directly above it. `old` is the tree of the text.
-/// Fails with the reason if the value can't be removed, with `WouldDiffer` if anything else would change, or if an
-/// allocation fails.
+/// Fails with the reason if the value can't be removed, with `WouldDiffer` if anything else would change, and with
+/// `Stop::Memory` if an allocation fails.
 pub(crate) fn text_without(
     alloc: Global,
     text: &str,
@@ -172,7 +172,7 @@ pub(crate) fn text_without(
 }
 
 /// Returns the text with the value at a path removed, and then `value` added at that path. `old` is the tree of the
-/// text. Fails with the reason if one of the two is not possible, or if an allocation fails.
+/// text. Fails with the reason if one of the two is not possible, and with `Stop::Memory` if an allocation fails.
 fn cut_then_added(
     alloc: Global,
     text: &str,
@@ -187,8 +187,8 @@ fn cut_then_added(
     inserted_text(alloc, without.as_str(), path, Change::SetOrAdd(value))
 }
 
-/// Returns whether a path names the only element of an array of tables. Fails if the text can't be read, or if an
-/// allocation fails.
+/// Returns whether a path names the only element of an array of tables. Fails with `WouldDiffer` if the text can't be
+/// split into sections, and with `Stop::Memory` if an allocation fails.
 fn is_only_element(alloc: Global, text: &str, path: &[&str]) -> Result<bool, Stop<Reason>> {
     let [front @ .., segment] = path else {
         return Ok(false);
@@ -206,8 +206,9 @@ fn is_only_element(alloc: Global, text: &str, path: &[&str]) -> Result<bool, Sto
     Ok(names_array(array.as_slice()) && element.len() == array.len())
 }
 
-/// Returns the text without the value at a path. If that is the only element of an array of tables, the array becomes
-/// `[]`. `old` is the tree of the text. Fails with the reason if the value can't be removed, or if an allocation fails.
+/// Returns the text without the value at a path. If the value is the only element of an array of tables, the array
+/// becomes `[]`. `old` is the tree of the text. Fails with the reason if the value can't be removed, and with
+/// `Stop::Memory` if an allocation fails.
 fn removed_text(
     alloc: Global,
     text: &str,
@@ -228,7 +229,7 @@ fn removed_text(
 
 /// Returns the text with the value at a path replaced with `value`. Headers or dotted keys may define the old value.
 /// `old` is the tree of the text. Fails with the reason if `value` is not a TOML value or the old value can't be
-/// removed, or if an allocation fails.
+/// removed, and with `Stop::Memory` if an allocation fails.
 fn replaced_text(
     alloc: Global,
     text: &str,
@@ -249,8 +250,8 @@ fn replaced_text(
 
 // ---- what is moved
 
-/// Returns the text with the value `moved` added at a path. Fails with the reason if that is not possible, or if an
-/// allocation fails.
+/// Returns the text with the value `moved` added at a path. Fails with the reason if that is not possible, and with
+/// `Stop::Memory` if an allocation fails.
 fn put_text(
     alloc: Global,
     text: &str,
@@ -270,8 +271,9 @@ fn put_text(
     pieces.inserted(text)
 }
 
-/// Returns the text with the path `target` instead of `path` in the headers of the table, or array of tables, at
-/// `path`, and of the tables inside it. Fails with the reason if that is not possible, or if an allocation fails.
+/// Returns the text with `target` written instead of `path` in the headers of the table, or array of tables, at `path`,
+/// and of the tables inside that one. Fails with the reason if that is not possible, and with `Stop::Memory` if an
+/// allocation fails.
 fn headers_text(
     document: Document<'_, '_>,
     path: &[&str],
@@ -285,7 +287,7 @@ fn headers_text(
 }
 
 /// Returns the text with the value at `path` moved to `target`. `without` is the text without that value and its
-/// comments. Fails with the reason if the value can't be moved, or if an allocation fails.
+/// comments. Fails with the reason if the value can't be moved, and with `Stop::Memory` if an allocation fails.
 pub(crate) fn moved_text(
     alloc: Global,
     text: &str,
@@ -311,7 +313,7 @@ pub(crate) fn moved_text(
 // ---- changes
 
 /// Returns the text after an edit other than a move. `old` is the tree of the text. Fails with the reason if the edit
-/// can't be made, with `WouldDiffer` for a move, or if an allocation fails.
+/// can't be made, with `WouldDiffer` for a move, and with `Stop::Memory` if an allocation fails.
 pub(crate) fn edited_text(
     alloc: Global,
     text: &str,

@@ -8,11 +8,12 @@ use crate::step::{new_tree, old_tree};
 use std::alloc::Global;
 use toml_span::Stop;
 
-/// Returns the new text of a document, if both are valid and have the same tree except for spans: the same keys and
-/// values, where floats and dates have the same texts. Blanks, comments, the order of entries, and the spelling of
+/// Returns `new` if it and `text` are valid TOML and have the same tree except for spans: the same keys and values,
+/// where floats and dates are compared by their texts. Blanks, comments, the order of entries, and the spelling of
 /// strings and integers may differ.
 ///
-/// Fails with `NoDocument`, `WouldBeNone` or `WouldDiffer`, or if an allocation fails.
+/// Fails with `NoDocument` if `text` is not valid TOML, with `WouldBeNone` if `new` is not, with `WouldDiffer` if the
+/// trees differ, and with `Stop::Memory` if an allocation fails.
 pub fn validated(alloc: Global, text: &str, new: String) -> Result<String, Stop<Reason>>
     ensures same { IfOk result (λ out. IsSameDocument text.now (string_bytes out)) }
     ensures text { IfOk result (λ out. string_bytes out ≡ string_bytes new) }

@@ -10,13 +10,13 @@ use Rattle.toml_span_edit.specs.Edited.{Makes, Spells}
 use Rattle.toml_span_edit.specs.Paths.{Path}
 use Rattle.toml_span_edit.specs.declared.edits.Change.{Change}
 
--- After `v = `, the text is the literal of this scalar, and nothing else.
+-- The text is a literal of this scalar and nothing else, when it follows `v = `.
 abbrev pub IsLiteral : List ℕ → Scalar → Type 0
 IsLiteral text x =
     (w : Node) × Spells text w × (inner_of w ≡ scalar x)
     × (literal_span (codes "v = " ++ text) w ≡ record { start = 4; end = length (codes "v = " ++ text) })
 
--- The new text is a document. Its tree is this one with the change made.
+-- The new text is a document, and its tree is this tree with the change made.
 abbrev pub MustBeMade : Change → Path → Node → List ℕ → Type 0
 MustBeMade change path n new =
     (sections : List ParsedSection) × HasOutcome new depth_limit (resolved sections)

@@ -45,7 +45,7 @@ fn new_finding(
     }
 }
 
-/// Returns a finding if a table at the root has an unknown name. Fails if an allocation fails.
+/// Returns a finding if a key at the root is not in `TABLES`, otherwise `None`. Fails if an allocation fails.
 fn unknown_table(alloc: Global, key: &Key) -> Result<Option<Finding>, AllocError> {
     if TABLES.contains(&key.name.as_str()) {
         return Ok(None);
@@ -100,6 +100,7 @@ fn package(key: &Key, package: &Value) -> [Option<Finding>; 5] {
     found
 }
 
+/// Returns whether a value is a string that has only lower-case ASCII letters, digits and `-`, or is empty.
 fn is_kebab(name: &Value) -> bool {
     let Some(name) = name.as_str() else {
         return false;
@@ -112,6 +113,7 @@ fn is_kebab(name: &Value) -> bool {
     true
 }
 
+/// Returns whether a value is a string that names an edition of Rust.
 fn is_edition(edition: &Value) -> bool {
     matches!(edition.as_str(), Some("2015" | "2018" | "2021" | "2024"))
 }
@@ -150,7 +152,8 @@ fn push_all(found: &[Option<Finding>], list: &mut Vec<Finding>) -> Result<(), Al
     Ok(())
 }
 
-/// Checks the keywords of a package. Fails if an allocation fails.
+/// Checks the keywords of a package, if they are an array, and appends the findings to `list`. Fails if an allocation
+/// fails.
 fn keywords(alloc: Global, package: &Value, list: &mut Vec<Finding>) -> Result<(), AllocError> {
     let Some(found) = package.pointer("/keywords") else {
         return Ok(());

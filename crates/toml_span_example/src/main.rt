@@ -13,7 +13,8 @@ use std::process::ExitCode;
 use std::{env, io};
 use toml_span_load::{LoadError, TextFile};
 
-/// Returns what to print for a file, and whether nothing is wrong with it. Fails if an allocation fails.
+/// Returns what to print for a file, and whether nothing is wrong with it. `format` is the format for the findings of a
+/// manifest. Fails if an allocation fails.
 fn shown(alloc: Global, file: &TextFile, format: &str) -> Result<(String, bool), AllocError> {
     let text = file.text.as_str();
     if !text.starts_with("[package]") && !text.starts_with("[dependencies]") {
@@ -22,7 +23,8 @@ fn shown(alloc: Global, file: &TextFile, format: &str) -> Result<(String, bool),
     lint::shown(alloc, text, format)
 }
 
-/// Returns what to print for a file or, if it could not be read, the error. Fails if an allocation fails.
+/// Returns what to print for a file or, if it could not be read, the error, and whether nothing is wrong. `format` is
+/// as in `shown`. Fails if an allocation fails.
 fn opened(
     alloc: Global,
     file: Result<TextFile, LoadError>,
@@ -35,6 +37,8 @@ fn opened(
     }
 }
 
+/// Prints the result for the file that the first argument names, or for standard input. Ends with status 1 if something
+/// is wrong.
 fn main(rt: HostRuntime) -> io::Result<ExitCode> {
     let words: Vec<String> = env::args(&rt)?.skip(1).collect(rt.alloc())?;
     let file = match words.as_slice() {

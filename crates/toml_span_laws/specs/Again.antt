@@ -41,7 +41,8 @@ abbrev mutual
 abbrev pub assigned_again : List ℕ → ℕ → ℕ → List ℕ
 assigned_again t i j = codes "x = " ++ slice_range t i j
 
--- That assignment: its key is x, its value is the one from i to j, moved to 4, and its extent is the whole text.
+-- The assignment in `assigned_again`: its key is x, its value is the one from i to j, moved to the offset 4, and its
+-- extent is the whole text.
 abbrev pub assignment_again : ParsedValue → ℕ → ℕ → ParsedAssignment
 assignment_again v i j =
     record {
@@ -50,7 +51,7 @@ assignment_again v i j =
       extent = record { start = 0; end = (j + 4) - i };
     }
 
--- The text from i to j spells the value again: after `x = ` it is a document of only that assignment.
+-- The text from i to j spells the value again: `x = ` followed by it is a document of only that assignment.
 abbrev pub SpellsAgain : ParsedValue → List ℕ → ℕ → ℕ → ℕ → Type 0
 SpellsAgain v t limit i j =
     SpellsDocument (headerless_section (assignment_again v i j ∷ [])) (assigned_again t i j) limit
@@ -100,9 +101,9 @@ SectionsReadAgain t limit (b ∷ bs) = AssignmentsReadAgain t limit b.assignment
 abbrev pub with_part : List ℕ → ℕ → ℕ → List ℕ → List ℕ
 with_part t i j part = take i t ++ (part ++ drop j t)
 
--- The text from i to j is this scalar, with this span. A part that is read as another value wherever it occurs is read
--- as that value in its place, from its first byte to its last. Each value that is spelled after it is spelled in the
--- new text too, moved.
+-- The text from i to j is this scalar, with this span. If a part that is read as some value wherever it occurs is put
+-- in place of the scalar, it is read there as that value, from its first byte to its last. Each value that is spelled
+-- after the scalar is spelled in the new text too, moved.
 pub record TakesAnother (t : List ℕ) (s : Scalar) (span : Span) : Type 0 where
   pub i : ℕ
   pub j : ℕ
@@ -114,8 +115,8 @@ pub record TakesAnother (t : List ℕ) (s : Scalar) (span : Span) : Type 0 where
       → Spells (moved j (i + length part) v) (with_part t i j part) limit depth ((k + (i + length part)) - j)
       ((l + (i + length part)) - j)
 
--- Wherever this part occurs in a text, it is this scalar, from its first byte to its last, unless what follows may
--- continue it.
+-- Wherever this part occurs in a text before bytes that do not continue it (`parts_off`), it is this scalar, from its
+-- first byte to its last.
 abbrev pub ReadsAsScalar : Scalar → List ℕ → Type 0
 ReadsAsScalar s part =
     (before after : List ℕ) → parts_off after ≡ true

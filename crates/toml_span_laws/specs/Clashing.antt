@@ -13,7 +13,8 @@ IsIn c (d ∷ ds) = (c ≡ d) ⊎ IsIn c ds
 abbrev pub DoClash : Claim → Claim → Type 0
 DoClash c d = (t : NamedClash) × (clash c d ≡ Some t)
 
--- A claim clashes with an earlier one of its scope, where the given claims came before in the outer scope.
+-- The claim d clashes with c, an earlier claim of its scope. The list has the claims that came before in the outer
+-- scope.
 abbrev pub IsPair : List Claim → Claims → Claim → Claim → Type 0
 IsPair earlier no_claims c d = ⊥
 IsPair earlier (claimed x cs) c d = ((d ≡ x) × IsIn c earlier × DoClash c d) ⊎ IsPair (earlier ++ (x ∷ [])) cs c d
@@ -34,13 +35,13 @@ own no_claims = []
 own (claimed c cs) = c ∷ own cs
 own (scope inner cs) = own cs
 
--- two claims of one of the scopes inside
+-- Both claims belong to the same inner scope.
 abbrev pub ShareInside : Claims → Claim → Claim → Type 0
 ShareInside no_claims c d = ⊥
 ShareInside (claimed x cs) c d = ShareInside cs c d
 ShareInside (scope inner cs) c d = (IsIn c (own inner) × IsIn d (own inner)) ⊎ ShareInside inner c d
     ⊎ ShareInside cs c d
 
--- two claims of the same scope, the outer one or one inside
+-- Both claims belong to the same scope, the outer one or an inner one.
 abbrev pub ShareScope : Claims → Claim → Claim → Type 0
 ShareScope cs c d = (IsIn c (own cs) × IsIn d (own cs)) ⊎ ShareInside cs c d

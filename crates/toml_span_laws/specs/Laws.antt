@@ -16,8 +16,8 @@ keys_in [] = 0
 keys_in (key name ∷ p) = suc (keys_in p)
 keys_in (position i ∷ p) = keys_in p
 
--- The text from i to j is a string with this value. The span is everything between its quotes or, if that is nothing,
--- the first quote.
+-- The text from i to j is a string with this value. The span is that of the string's content (`CutsContent`) or, for an
+-- empty single-line string, the first quote.
 pub record ShowsString (text value : List ℕ) (span : Span) : Type 0 where
   pub i : ℕ
   pub j : ℕ
@@ -35,7 +35,8 @@ ValueReadsAgain text limit (read.parsed (read.array items) span) =
 ValueReadsAgain text limit (read.parsed (read.inline pairs) span) =
     ReadsAgain text limit (read.parsed (read.inline pairs) span)
 
--- What a claim assigns is read again as a value, and the claims that follow directly are those inside that value.
+-- For each claim that assigns a value: the text at the span of the value is read as that value again, and the claims
+-- that follow directly are those inside the value.
 abbrev pub AssignsAgain : List ℕ → ℕ → Claims → Type 0
 AssignsAgain text limit no_claims = ⊤
 AssignsAgain text limit (claimed c cs) =

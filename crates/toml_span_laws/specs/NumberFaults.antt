@@ -48,9 +48,10 @@ pub data DigitPart (text : List ℕ) (i : ℕ) : ℕ → ℕ → ℕ → ℕ →
 
 -- ---- faults
 
--- The number at i has a fault with the span from the first to the second offset:
+-- The number at i has a fault with the span from the first to the second offset. The comment of each case says what is
+-- wrong and, after the colon, what the span covers.
 pub data NumberFault (text : List ℕ) (i : ℕ) : ℕ → ℕ → Type 0 where
-  -- nothing after a plus: there
+  -- nothing after a plus: the empty span after the plus
   lone_plus : slice_index text i ≡ plus → is_keylike (slice_index text (i + 1)) ≡ false
       → NumberFault text i (i + 1) (i + 1)
   -- a plus before `-` or a prefix: both and the run
@@ -82,7 +83,7 @@ pub data NumberFault (text : List ℕ) (i : ℕ) : ℕ → ℕ → Type 0 where
   -- a fraction after `inf` or `nan`: that run
   fraction_of_word : (a b end : ℕ) → AfterDot text i a b end → b + 1 < end
       → is_some (special (is_negative text a) (slice_range text (after_sign text a) b)) ≡ true → NumberFault text i a b
-  -- nothing after the dot: all of it
+  -- nothing after the dot: the whole number, with the dot
   nothing_after_dot : (a b : ℕ) → FirstRun text i a b → slice_index text b ≡ period
       → is_keylike (slice_index text (b + 1)) ≡ false → NumberFault text i i (b + 1)
   -- out of range: the digit part

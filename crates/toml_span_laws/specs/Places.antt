@@ -25,12 +25,12 @@ SectionsAscend (b ∷ bs) i j =
 
 -- ---- the starts of keys
 
--- those of the parts of a key
+-- the starts of the parts of a key
 abbrev pub part_starts : List SimpleKey → List ℕ
 part_starts [] = []
 part_starts (p ∷ ps) = p.span.start ∷ part_starts ps
 
--- those of the parts of the keys in a value, at any depth
+-- the starts of the parts of the keys in a value, at any depth
 abbrev mutual
   pub key_starts : ParsedValue → List ℕ
   key_starts (parsed k span) = inner_key_starts k
@@ -48,20 +48,20 @@ abbrev mutual
   pair_key_starts no_pairs = []
   pair_key_starts (pair ss v extent ps) = part_starts ss ++ (key_starts v ++ pair_key_starts ps)
 
--- those of the parts of the keys of assignments, and of the keys inside their values
+-- the starts of the parts of the keys of assignments, and of the keys inside their values
 abbrev pub assignment_key_starts : List ParsedAssignment → List ℕ
 assignment_key_starts [] = []
 assignment_key_starts (e ∷ es) = part_starts e.parts ++ (key_starts e.value ++ assignment_key_starts es)
 
--- those of the parts of all headers and keys in sections
+-- the starts of the parts of all headers and keys in sections
 abbrev pub section_key_starts : List ParsedSection → List ℕ
 section_key_starts [] = []
 section_key_starts (b ∷ bs) = part_starts b.header ++ (assignment_key_starts b.assignments ++ section_key_starts bs)
 
 -- ---- the starts of keys and brackets
 
--- those of the arrays, inline tables and parts of keys in a value, and of the value itself if it is an array or inline
--- table
+-- the starts of the arrays, inline tables and parts of keys in a value, and of the value itself if it is an array or
+-- inline table
 abbrev mutual
   pub starts : ParsedValue → List ℕ
   starts (parsed k span) = inner_starts k span
@@ -79,17 +79,17 @@ abbrev mutual
   pair_starts no_pairs = []
   pair_starts (pair ss v extent ps) = part_starts ss ++ (starts v ++ pair_starts ps)
 
--- those in assignments: of the parts of each key, and then of those inside its value
+-- these starts in assignments: for each assignment those of the parts of its key, and then those in its value
 abbrev pub assignment_starts : List ParsedAssignment → List ℕ
 assignment_starts [] = []
 assignment_starts (e ∷ es) = part_starts e.parts ++ (starts e.value ++ assignment_starts es)
 
--- those of a header: its first bracket and its parts; the section before the first header has none
+-- these starts in a header: its first bracket and its parts; the section before the first header has none
 abbrev pub header_starts : List SimpleKey → Span → List ℕ
 header_starts [] span = []
 header_starts (p ∷ ps) span = span.start ∷ part_starts (p ∷ ps)
 
--- those in sections: of each header, and then of those in its assignments
+-- these starts in sections: for each section those in its header, and then those in its assignments
 abbrev pub section_starts : List ParsedSection → List ℕ
 section_starts [] = []
 section_starts (b ∷ bs) = header_starts b.header b.header_span ++ (assignment_starts b.assignments ++ section_starts bs)
@@ -97,7 +97,7 @@ section_starts (b ∷ bs) = header_starts b.header b.header_span ++ (assignment_
 -- ---- between the quotes of a string
 
 -- The span is everything between the quotes of the string from i to j, except for a line end directly after three
--- opening quotes, and the value is what that denotes.
+-- opening quotes, and the value is what the text at this span denotes.
 pub record CutsContent (text : List ℕ) (i j : ℕ) (span : Span) (value : List ℕ) (multi : Bool) : Type 0 where
   pub begins : ContentFrom multi text i span.start
   pub forward : span.start ≤ span.end

@@ -40,15 +40,16 @@ abbrev pub literal_text : List ℕ → Scalar → Span → List ℕ
 literal_text t s span =
     slice_range t (literal_span t (node (scalar s) span)).start (literal_span t (node (scalar s) span)).end
 
--- The text is a document, and its tree is the other one with this scalar at the path, except for spans.
+-- The text t is a document, and its tree is `root` with this scalar at the path, except for spans.
 abbrev pub IsDocumentWith : Path → Scalar → Value → List ℕ → ℕ → Type 0
 IsDocumentWith path s root t limit =
     (sections : List ParsedSection) × HasOutcome t limit (resolved sections)
     × ((other : Value) → IsTree t limit other
     → without_spans (view other) ≡ without_spans (put path (node (scalar s) no_span) (view root)))
 
--- The text has this scalar, with this span, and its tree has it at the path. With a part that spells another scalar in
--- place of its literal, quotes included, the text is a document too: the same one, except for that scalar and spans.
+-- The text has this scalar, with this span. If a part that spells another scalar replaces the literal of this one,
+-- quotes included, the result is a document too: its tree is `root` with the other scalar at the path, except for
+-- spans.
 pub record TakesScalar (t : List ℕ) (limit : ℕ) (root : Value) (path : Path) (s : Scalar) (span : Span) : Type 0 where
   pub takes : TakesAnother t s span
   pub literal : literal_span t (node (scalar s) span) ≡ record { start = takes.i; end = takes.j }

@@ -1,4 +1,4 @@
--- Where what a fault reports ends.
+-- The offset at which the bytes that a fault reports end.
 use Rattle.std.specs.Prelude.{◌≡◌, ℕ, ◌+◌, ◌<◌, ◌≤◌, ◌⊎◌, Bool, true, false, if◌then◌else◌, List, length}
 use Rattle.toml_span_lex.specs.declared.span.Span.{Span}
 use Rattle.toml_span_lex.specs.Bytes.{is_blank, MaximalRun}
@@ -16,13 +16,16 @@ use Rattle.toml_span_read.specs.declared.fault.FaultKind.TheVariants as kinds
 abbrev pub TokenTo : List ℕ → ℕ → ℕ → Type 0
 TokenTo text i j = ((span : Span) × (l : Lexeme) × IsLexeme text i j span l) ⊎ ((i ≡ length text) × (j ≡ i))
 
--- What a fault of this kind with the span s reports ends at j:
--- the token, where another one was expected, or the string that is no key;
--- for a fault in a string the character, or the spaces and tabs after a backslash, or the digits of the escape;
--- for a number all letters, digits, dashes, underscores, colons, dots and plus signs;
--- the end of the text, where it ends too early;
--- beyond the limit the string or the key, or the first byte of another value;
--- for a key through a value the end of its line, or in braces that of its value, whose last quotes are after its span.
+-- A fault of this kind with the span s reports the bytes up to j:
+-- for a token other than the expected one, and for a multi-line string as a key, up to the end of the token;
+-- if the text ends too early, up to its end;
+-- for a character that is not allowed, up to its end, or up to the end of the spaces and tabs after a backslash;
+-- for an escape value, up to the end of its digits;
+-- for a number, up to the end of all letters, digits, dashes, underscores, colons, dots and plus signs;
+-- for a date or an unquoted string, up to the end of the span;
+-- beyond the limit, up to the end of the string or key, or of the first byte of another value;
+-- for a key through a value, up to the end of its line or, in an inline table, of its value, whose closing quotes are
+-- after the span.
 abbrev pub ReportsTo : FaultKind → List ℕ → Span → ℕ → Type 0
 ReportsTo (kinds.Wanted expected found) text s j = TokenTo text s.start j
 ReportsTo kinds.MultilineStringKey text s j = TokenTo text s.start j
@@ -55,8 +58,8 @@ is_whole found_tokens.OneLineString = false
 is_whole found_tokens.MultilineString = false
 is_whole found = true
 
--- How many bytes after that end decide a fault of this kind: none after a token that is whole in itself; two after a
--- number, a date, an invalid escape, a key through a value, and beyond the limit; otherwise one.
+-- How many bytes after that end decide whether there is a fault of this kind: none after a token of one byte or a line
+-- end; two after a number, a date, an invalid escape, a key through a value, and beyond the limit; otherwise one.
 abbrev pub ahead : FaultKind → ℕ
 ahead (kinds.Wanted expected found) = if is_whole found then 0 else 1
 ahead kinds.InvalidNumber = 2

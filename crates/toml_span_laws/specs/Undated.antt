@@ -18,7 +18,7 @@ UndatedScalar (datetime date) span t i j = ⊥
 UndatedScalar (integer n) span t i j = IsNumber (integer n) t i j × (span ≡ from_to i j)
 UndatedScalar (float x) span t i j = IsNumber (float x) t i j × (span ≡ from_to i j)
 
--- a value, and a document
+-- the values and the documents of this grammar
 abbrev pub SpellsUndated : ParsedValue → List ℕ → ℕ → ℕ → ℕ → ℕ → Type 0
 SpellsUndated = SpellsWith UndatedScalar
 

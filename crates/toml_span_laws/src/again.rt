@@ -13,37 +13,38 @@ ghost use Rattle.toml_span_laws.specs.Replaced.{TakesScalar, literal_text};
 ghost use Rattle.toml_span_laws.specs.Again.{ReadsAsScalar, SpellsAgain, SpellsAssignment, SectionsReadAgain};
 ghost use Rattle.toml_span_laws.specs.Again.{TakesAnother};
 
-/// The text that spells a value spells it again elsewhere: after `x = ` it is a document of one assignment, with the
-/// key `x` and the same value, in which all spans are moved.
+/// If a text spells a value, then `x = ` followed by that text is a document with one assignment, whose key is `x`, and
+/// whose value is the same, with all spans moved. In this sense, the text spells the value again.
 pub fn spelled_again()
     ensures { (text : List ℕ) (limit depth i j : ℕ) (v : ParsedValue) → 1 ≤ depth → Spells v text limit depth i j
         → SpellsAgain v text limit i j }
 {}
 
 /// In a document, the text at the span of each number, boolean, date, array and inline table, at any depth, spells that
-/// value again.
+/// value again: `x = ` followed by this text is a document with one assignment of that value.
 pub fn values_read_again()
     ensures { (text : List ℕ) (limit : ℕ) (sections : List ParsedSection) → SpellsDocument sections text limit
         → SectionsReadAgain text limit sections }
 {}
 
 /// In the tree of a text, the text of each float is a literal of that float. So the result of `to_toml` for a value of
-/// the tree can be read again, if the value is within the limit on depth.
+/// the tree can be read again, if the value is within the depth limit of that read.
 pub fn float_texts()
     ensures { (text : List ℕ) (limit : ℕ) (root : Value) → IsTree text limit root → HasFloatTexts (view root) }
 {}
 
-/// Another value can be written in place of each scalar of a tree. A text that is read as this value wherever it
-/// occurs, such as a result of `to_toml`, is also read as this value there, and all values after it are spelled as
-/// before.
+/// In a text that has a tree, any value can be written in place of a scalar if it is whole and within the depth limit,
+/// and the texts of its floats are valid. If the new part of the text is read as its value wherever it occurs, as a
+/// result of `to_toml` is, then it is also read as that value in place of the scalar, and all values after it are
+/// spelled as before.
 pub fn written_over()
     ensures { (text : List ℕ) (limit : ℕ) (root : Value) (path : Path) (place : Place) (s : Scalar)
         → IsTree text limit root → place_at path (view root) ≡ Some place → place.shape ≡ shape_scalar s
         → TakesAnother text s place.span }
 {}
 
-/// The text of a scalar is read as that scalar wherever it occurs, unless what follows continues it. In the tree of a
-/// text, that is the text of the scalar's literal, which `literal_span` returns.
+/// Wherever the text of a scalar occurs, it is read as that scalar, unless the bytes after the text continue it. For a
+/// scalar in the tree of a text, this is the text at the span that `literal_span` returns.
 pub fn scalar_texts()
     ensures spelled { (s : Scalar) (span : Span) (text : List ℕ) (i j : ℕ) → i ≤ j → j ≤ length text
         → SpellsScalar s span text i j → ReadsAsScalar s (slice_range text i j) }
@@ -52,17 +53,19 @@ pub fn scalar_texts()
         → ReadsAsScalar s (literal_text text s place.span) }
 {}
 
-/// A scalar of a tree can be replaced with any scalar: with the text of another one in place of its literal, the text
-/// is a document, so `parse` does not refuse it. Its tree is the old one with the new scalar, except for spans. The
-/// literal is where `literal_span` says, quotes included.
+/// In a text that has a tree, any scalar can be replaced by any other. If the literal of a scalar, which is at the span
+/// that `literal_span` returns, is replaced by the text of another scalar, the result is a document again, so `parse`
+/// accepts it. Its tree is the old tree with the new scalar, except for spans.
 pub fn scalar_replaced()
     ensures { (text : List ℕ) (limit : ℕ) (root : Value) (path : Path) (place : Place) (s : Scalar)
         → IsTree text limit root → place_at path (view root) ≡ Some place → place.shape ≡ shape_scalar s
         → TakesScalar text limit root path s place.span }
 {}
 
-/// A key, ` = ` and a value, each of which can be read wherever it occurs, are a document of one assignment of this
-/// value. This applies to the results of `quote_key` and `to_toml`.
+/// If a text is read as a certain key wherever it occurs, as a result of `quote_key` is, and another text as a certain
+/// value, as a result of `to_toml` is, then the first text, ` = ` and the second text are a document with one
+/// assignment, of that value to that key. The value must be whole and within the depth limit `limit`, and the texts of
+/// its floats must be valid.
 pub fn spelled_assignment()
     ensures { (limit : ℕ) (name key : List ℕ) (n : Node) (value : List ℕ) → ReadsAsKey name key → ReadsAsValue n value
         → is_whole n ≡ true → IsWithin limit 1 n → HasFloatTexts n

@@ -5,7 +5,7 @@ ghost use Rattle.toml_span_read.specs.declared.fault.FaultKind.TheVariants as ki
 ghost use Rattle.toml_span_read.specs.Data.{ParsedAssignment, SimpleKey, parsed_span, from_to};
 ghost use Rattle.toml_span_read.specs.Earlier.{crossing, last_span, part_names};
 
-/// If a key goes through no earlier value, no earlier key has the names of a proper prefix of its parts.
+/// If a key goes through no earlier value, no proper prefix of its parts has the same names as an earlier key.
 pub fn clear_keys_pass_no_value()
     ensures { (earlier : List ParsedAssignment) (next : ParsedAssignment) (outer rest : List SimpleKey)
         (part more : SimpleKey)
@@ -13,8 +13,8 @@ pub fn clear_keys_pass_no_value()
         → AllByRecursion (λ e. part_names e.parts ≢ part_names (outer ++ (part ∷ []))) earlier }
 {}
 
-/// If earlier keys have the names of a proper prefix of a key's parts, the first of these keys and the last part of the
-/// prefix determine the fault, unless the key goes through a value before that part.
+/// If a proper prefix of a key's parts has the same names as earlier keys, the first of these keys and the last part of
+/// the prefix determine the fault, unless the key goes through a value before that part.
 pub fn first_value_met_is_the_fault()
     ensures { (before after : List ParsedAssignment) (found next : ParsedAssignment) (outer rest : List SimpleKey)
         (part more : SimpleKey)

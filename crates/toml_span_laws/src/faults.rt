@@ -1,4 +1,4 @@
-//! Laws about faults: nothing after a fault matters, and no document goes on there.
+//! Laws about faults: nothing after a fault matters, and no document begins with the text up to a fault.
 ghost use Rattle.std.specs.Prelude.{◌≡◌, ◌+◌, ℕ, List, take, Err};
 ghost use Rattle.toml_span_read.specs.declared.fault.Fault.{Fault};
 ghost use Rattle.toml_span_read.specs.Data.{ParsedSection};
@@ -6,9 +6,9 @@ ghost use Rattle.toml_span_read.specs.Grammar.{SpellsDocument};
 ghost use Rattle.toml_span_read.specs.Read.{document};
 ghost use Rattle.toml_span_laws.specs.Reported.{EndsReported, ahead};
 
-/// Nothing after a fault matters. Each text that has the same bytes up to the end of what the fault reports, and up to
-/// two bytes more, has the same fault. The kind of the fault decides whether none, one or two more bytes count. If the
-/// text ends before them, only the text itself is such a text.
+/// Nothing after a fault matters: each text that begins with the same bytes has the same fault. These are the bytes up
+/// to the end of what the fault reports (`EndsReported`), and up to two more, depending on the kind of the fault
+/// (`ahead`). If the text has fewer bytes, only the text itself counts as beginning with the same bytes.
 pub fn nothing_after_a_fault_matters()
     ensures { (text : List ℕ) (limit : ℕ) (fault : Fault) → document text limit (Err fault)
         → (end : ℕ) × EndsReported text fault end
@@ -16,8 +16,8 @@ pub fn nothing_after_a_fault_matters()
         → document other limit (Err fault)) }
 {}
 
-/// A fault is only reported where no document goes on: no text with the same bytes, as many as in
-/// `nothing_after_a_fault_matters`, is spelled as a document within the limit.
+/// A fault is reported only if no document within the depth limit `limit` begins with the same bytes. These are the
+/// bytes up to the end of what the fault reports (`EndsReported`), and up to two more (`ahead`).
 pub fn no_document_goes_on_after_a_fault()
     ensures { (text : List ℕ) (limit : ℕ) (fault : Fault) → document text limit (Err fault)
         → (end : ℕ) × EndsReported text fault end

@@ -1,4 +1,4 @@
-//! Laws: at each offset in a text, each form of the grammar is either present or absent.
+//! Laws: at each character boundary of a text, each form of the grammar is either present or absent.
 //!
 //! The bodies examine one form each: they are the proofs.
 ghost use Rattle.std.specs.Prelude.{◌≡◌, ℕ, true, Result};
@@ -25,7 +25,8 @@ pub fn date_or_fault(text: &str, at: usize)
     }
 }
 
-/// At an offset, each form that can be read independently of others is either present or absent.
+/// At a character boundary, each form that can be read independently of others is either present or absent: a token, a
+/// gap, a run of spaces and tabs, a run of bare key bytes, a dot, the rest of a line, and a date.
 pub fn place_is_judged(text: &str, at: usize)
     requires { IsCharBoundary text.now at }
     ensures { Judged text.now at }
@@ -39,7 +40,8 @@ pub fn place_is_judged(text: &str, at: usize)
     date_or_fault(text, at);
 }
 
-/// At every offset in a text, each form that can be read independently of others is either present or absent.
+/// At every character boundary of a text, each form that can be read independently of others, such as a token or a
+/// date, is either present or absent: see `place_is_judged`.
 pub fn places_are_judged(text: &str)
     ensures { (i : ℕ) → IsCharBoundary text.now i → Judged text.now i }
 {

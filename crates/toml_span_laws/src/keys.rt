@@ -13,7 +13,7 @@ pub fn keys_are_read()
         → read.key header text limit [] i (Ok (ps, j)) ↔ (SpellsKey ps text i j × (length ps ≤ limit)) }
 {}
 
-/// Reading a key has exactly one result: a key or a fault.
+/// Reading a key has at most one result: a key or a fault.
 pub fn one_key()
     ensures single { (text : List ℕ) (i : ℕ) (r s : Result (SimpleKey × ℕ) Fault) → read.simple_key_at text i r
         → read.simple_key_at text i s → r ≡ s }

@@ -9,22 +9,23 @@ ghost use Rattle.toml_span_read.specs.Grammar.{SpellsDocument};
 ghost use Rattle.toml_span_read.specs.Limits.{WithinSections};
 ghost use Rattle.toml_span_read.specs.Reading.{ReadsDocument, AreRead};
 
-/// A text that spells a document within a limit spells the same document within any higher limit.
+/// A text that spells a document within the depth limit `limit` spells the same document within any higher limit.
 pub fn wider_document()
     ensures { (text : List ℕ) (limit wider : ℕ) (sections : List ParsedSection) → limit ≤ wider
         → SpellsDocument sections text limit
         → SpellsDocument sections text wider }
 {}
 
-/// A text that is read within a limit is read as the same sections within any higher limit, unless an allocation fails.
+/// A text that is read within the depth limit `limit` is read as the same sections within any higher limit, unless an
+/// allocation fails.
 pub fn read_within_wider()
     ensures { (text : List ℕ) (limit wider : ℕ) (found : Vec Section Global)
         (result : Result (Vec Section Global) (Stop Error)) → limit ≤ wider → ReadsDocument text limit (Ok found)
         → ReadsDocument text wider result → AreRead (map parsed_section found.items) result }
 {}
 
-/// In the sections of a document, each header and each key has at most as many parts as the limit allows, and each
-/// value is nested within the limit.
+/// In the sections of a document within the depth limit `limit`, each header and each key has at most `limit` parts,
+/// and each value is nested at most `limit` levels deep.
 pub fn sections_within_the_limit()
     ensures { (text : List ℕ) (limit : ℕ) (sections : List Section)
         → SpellsDocument (map parsed_section sections) text limit

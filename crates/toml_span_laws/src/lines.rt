@@ -17,14 +17,14 @@ ghost use Rattle.toml_span_read.specs.Grammar.{SpellsDocument, SpellsHeader, Spe
 ghost use Rattle.toml_span_read.specs.Read as read;
 ghost use Rattle.toml_span_read.specs.Reading.{ReadsDocument, AreRead};
 
-/// A text is read as sections if and only if it spells them.
+/// A text is read as sections within the depth limit `limit` if and only if it spells these sections within that limit.
 pub fn documents_are_read()
     ensures { (text : List ℕ) (limit : ℕ) (sections : List ParsedSection)
         → read.document text limit (Ok sections) ↔ SpellsDocument sections text limit }
 {}
 
-/// The text spells each section that is read, with a header or before the first header, within the limit and inside the
-/// text.
+/// The text spells each section that is read, with a header or before the first header. The section is within the depth
+/// limit `limit` and inside the text.
 pub fn sections_are_read()
     ensures section { (text : List ℕ) (limit i j : ℕ) (s : Section) → slice_index text i ≡ left_bracket
         → read.section text limit i (Ok (parsed_section s, j)) → SpellsSection (parsed_section s) text limit i j
@@ -37,20 +37,20 @@ pub fn sections_are_read()
         × WithinSections limit sections × SectionsInside (length text) sections }
 {}
 
-/// A text spells at most one document.
+/// A text spells at most one list of sections.
 pub fn one_document()
     ensures { (text : List ℕ) (limit : ℕ) (sections others : List ParsedSection) → SpellsDocument sections text limit
         → SpellsDocument others text limit → sections ≡ others }
 {}
 
-/// A text that spells a document has no fault.
+/// A text that spells a document within the depth limit `limit` has no fault within that limit.
 pub fn document_or_fault()
     ensures { (text : List ℕ) (limit : ℕ) (sections : List ParsedSection) (fault : Fault)
         → SpellsDocument sections text limit
         → read.document text limit (Err fault) → ⊥ }
 {}
 
-/// A text that spells a document is read as that document, unless an allocation fails.
+/// A text that spells a document within the depth limit `limit` is read as that document, unless an allocation fails.
 pub fn read_where_spelled()
     ensures { (text : List ℕ) (limit : ℕ) (result : Result (Vec Section Global) (Stop Error))
         (sections : List ParsedSection)
@@ -71,8 +71,8 @@ pub fn header_or_fault()
 {}
 
 /// A gap that ends at the end of the text, or at a character other than a control character, consists of lines that are
-/// blank or have only a comment, and then of spaces and tabs. Conversely, such lines, spaces and tabs are a gap if
-/// nothing of a gap follows them.
+/// blank or have only a comment, and then of spaces and tabs. Conversely, such lines, spaces and tabs are a gap if no
+/// space, tab, line end or comment follows them.
 pub fn blank_lines()
     ensures before { (text : List ℕ) (i j : ℕ) → MaximalGap text i j → AfterLines text j
         → (ends : List ℕ) × (k : ℕ) × BlankLines text i ends k × MaximalRun is_blank text k j }

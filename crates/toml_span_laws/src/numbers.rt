@@ -8,8 +8,8 @@ ghost use Rattle.toml_span_read.specs.Numerals.{number};
 ghost use Rattle.toml_span_read.specs.code.Gaps.{Further};
 ghost use Rattle.toml_span_laws.specs.NumberFaults.{IsNumberFault};
 
-/// A number that is spelled is read. Conversely, what is read at a letter, a digit, a dash, an underscore or a plus
-/// sign is spelled there.
+/// A number that the text spells is read. Conversely, the text spells a number that is read at a letter, a digit, a
+/// dash, an underscore or a plus sign.
 pub fn numbers_are_read()
     ensures read { (text : List ℕ) (i j : ℕ) (s : Scalar) → IsNumber s text i j → number text i ≡ Ok (s, j) }
     ensures spelled { (text : List ℕ) (i j : ℕ) (s : Scalar)
@@ -28,8 +28,8 @@ pub fn one_number()
         → (s ≡ t) × (j ≡ k) }
 {}
 
-/// The fault of a number is one of those that `NumberFault` lists: the literal has this mistake, and the span is the
-/// one in the list.
+/// `NumberFault` lists the faults of numbers: the literal has one of the mistakes in the list, and the fault has the
+/// span that the list gives for it.
 pub fn number_faults()
     ensures { (text : List ℕ) (i : ℕ) (fault : Fault)
         → (is_keylike (slice_index text i) || slice_index text i == plus) ≡ true → number text i ≡ Err fault

@@ -39,15 +39,15 @@ pub mod clashes;
 use crate::reading::reading_gives;
 use toml_span_typed::Deserialize;
 
-/// All results for a text agree, unless an allocation fails: if there is a tree, there is no error; all its trees are
-/// equal as data; and all its errors have the same contents.
+/// All results for a text within the same depth limit agree, unless an allocation fails: if there is a tree, there is
+/// no error; all its trees are equal as data; and all its errors have the same contents.
 pub fn one_answer()
     ensures { (text : List ℕ) (limit : ℕ) (result other : Result Value (Stop Error)) → IsParseResult text limit result
         → IsParseResult text limit other → IsAlike result other }
 {}
 
-/// Each text has exactly one outcome within a limit: sections that do not clash, sections and their first clash, or a
-/// fault.
+/// Within each depth limit, a text has exactly one outcome: sections that do not clash, sections and their first clash,
+/// or a fault.
 pub fn one_outcome(text: &str)
     ensures some { (limit : ℕ) → (outcome : Outcome) × HasOutcome text.now limit outcome }
     ensures one { (limit : ℕ) (outcome other : Outcome) → HasOutcome text.now limit outcome
@@ -56,8 +56,8 @@ pub fn one_outcome(text: &str)
     reading_gives(text);
 }
 
-/// A text whose outcome within a limit is no fault has the same outcome within any higher limit: the same sections,
-/// without a clash or with the same first clash.
+/// A text that has no fault within the depth limit `limit` has the same outcome within any higher limit: the same
+/// sections, without a clash or with the same first clash.
 pub fn outcome_within_wider()
     ensures resolved { (text : List ℕ) (limit wider : ℕ) (sections : List ParsedSection) → limit ≤ wider
         → HasOutcome text limit (resolved sections) → HasOutcome text wider (resolved sections) }
@@ -89,8 +89,8 @@ pub fn ordered_has_one_each()
     ensures { (n : Node) → IsOrdered n → HasOneEach n }
 {}
 
-/// In a document within a limit, a path has at most as many keys as a header and an assignment may have together, and
-/// at most three steps per level. The same holds for the paths of its tree.
+/// In a document within the depth limit `limit`, a path has at most `2 * limit` keys (as many as a header and an
+/// assignment may have together) and at most `3 * limit` steps. The same holds for the paths of its tree.
 pub fn paths_within()
     ensures keys { (text : List ℕ) (limit n : ℕ) (sections : List ParsedSection) (path : Path) (place : Place)
         → SpellsDocument sections text limit → flat n (claims sections) path ≡ Some place → keys_in path ≤ 2 * limit }
@@ -100,14 +100,15 @@ pub fn paths_within()
         → node_at path (view root) ≡ Some m → (keys_in path ≤ 2 * limit) × (length path ≤ 3 * limit) }
 {}
 
-/// The claims of a document, of all its scopes, are in the order of the text: each starts after the one before it,
-/// except that an array of tables and its element are claimed by the same key.
+/// The claims of a document, including those inside arrays and inline tables, are in the order of the text: each starts
+/// after the one before it, except that an array of tables and its element are claimed by the same key.
 pub fn claims_ascend()
     ensures { (text : List ℕ) (limit : ℕ) (sections : List ParsedSection) → SpellsDocument sections text limit
         → Ascends (all_claims (claims sections)) }
 {}
 
-/// No two keys of the flat document, or of the tree, start at the same offset, nor do two names in the same table.
+/// No two keys of the flat document, or of the tree, start at the same offset. So the keys of two names in the same
+/// table start at different offsets.
 pub fn keys_stand_apart()
     ensures flat { (text : List ℕ) (limit n : ℕ) (sections : List ParsedSection) → SpellsDocument sections text limit
         → KeysApart (flat n (claims sections)) }
@@ -119,8 +120,8 @@ pub fn keys_stand_apart()
         → KeysApart (λ path. place_at path (view root)) }
 {}
 
-/// The text at the span of each number, boolean and date of a document, and of its tree, spells that value again: after
-/// `x = ` it is a document with one assignment of that value.
+/// The text at the span of each number, boolean and date in a document, or in its tree, spells that value again. After
+/// `x = `, this text makes a document with one assignment of that value.
 pub fn scalars_read_again()
     ensures flat { (text : List ℕ) (limit n : ℕ) (sections : List ParsedSection) (path : Path) (place : Place)
         (s : Scalar)
@@ -157,9 +158,9 @@ pub fn brackets_read_again()
 {}
 
 /// An array in brackets or an inline table does not depend on its context. Its claim determines the place at its path.
-/// After `x = `, the text at its span is a document without clashes, and the places at `/x` and below are those at the
-/// path and below: they have the same kinds, keys and values, and their spans, also those of keys, are moved with the
-/// text. The same holds for the trees of the two texts.
+/// `x = ` followed by the text at its span is a document without clashes. In that document, the places at `/x` and
+/// below are those at the old path and below: they have the same kinds, keys and values, and their spans, also those of
+/// keys, are moved with the text. The same holds for the trees of the two texts.
 pub fn bracketed_values_stand_alone()
     ensures place { (text : List ℕ) (limit n : ℕ) (sections : List ParsedSection) (c : Claim)
         → SpellsDocument sections text limit
@@ -177,8 +178,8 @@ pub fn bracketed_values_stand_alone()
         (λ path. place_at path (view other)) at_x }
 {}
 
-/// At most one value whose tables are in order shows given places. So the flat document determines the tree of a text,
-/// and every function of the tree, such as its JSON value or what a type reads, is a function of the flat document.
+/// Given the places at all paths, at most one value whose tables are in order has exactly these places. So the flat
+/// document determines the tree of a text, and everything that is computed from the tree, such as its JSON value.
 pub fn one_tree()
     ensures value { (places : Path → Option Place) (n m : Node) → IsValueOf places n → IsValueOf places m → n ≡ m }
     ensures document { (text : List ℕ) (limit : ℕ) (root : Value) (sections : List ParsedSection)
@@ -209,7 +210,8 @@ pub fn helper_opens_on_a_table()
 {}
 
 /// `required` reads the value that shows the places of the flat document below the key. It fails with `MissingField` if
-/// and only if the flat document has nothing there. Afterwards, the helper is still one for its table.
+/// and only if the flat document has nothing there. Afterwards, the helper has the entries of the same table, except
+/// those that were asked for.
 pub fn required_reads_the_document<'de, T: Deserialize<'de>>()
     ensures reads { (places : Path → Option Place) (name : List ℕ) (before after : State)
         (answer : Result T (Stop Error)) → IsOver places before → Requires T.reads name before answer after
@@ -219,8 +221,9 @@ pub fn required_reads_the_document<'de, T: Deserialize<'de>>()
         → IsOver places after }
 {}
 
-/// `optional` reads like `required`, but if and only if the flat document has nothing below the key, it returns `None`
-/// and keeps no error.
+/// `optional` reads the value that shows the places of the flat document below the key. It returns `None` without
+/// keeping an error if and only if the flat document has nothing there. Afterwards, the helper has the entries of the
+/// same table, except those that were asked for.
 pub fn optional_reads_the_document<'de, T: Deserialize<'de>>()
     ensures reads { (places : Path → Option Place) (name : List ℕ) (before after : State)
         (answer : Result (Option T) AllocError) → IsOver places before → Tries T.reads name before answer after
@@ -231,8 +234,8 @@ pub fn optional_reads_the_document<'de, T: Deserialize<'de>>()
 {}
 
 /// `finalize(None)` returns `Ok` if and only if no error was kept, and the flat document's table has only keys that
-/// were asked for. Otherwise the errors are those that were kept, and then the one for the other keys. An allocation
-/// fails only if there are other keys.
+/// were asked for. Otherwise the errors are those that were kept, and then, if there are other keys, the error for
+/// these. An allocation can fail only if there are other keys.
 pub fn finalize_ends_the_table()
     ensures ok { (places : Path → Option Place) (s : State) (answer : Result (Unit {0}) Unfinished) → IsOver places s
         → Refuses s answer → IsOk answer ↔ ((s.errors ≡ []) × HasNoKeyBut s.asked places) }

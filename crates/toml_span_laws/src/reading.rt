@@ -26,7 +26,8 @@ pub fn one_reading()
         → read.document text limit s → r ≡ s }
 {}
 
-/// Reading has at least one result: for a key and a value at each offset of a text, and for each text.
+/// Reading has at least one result: for a key or a value at each character boundary of a text, and for the text as a
+/// document.
 pub fn reading_gives(text: &str)
     ensures key { (header : Bool) (limit i : ℕ) → IsCharBoundary text.now i
         → (found : Result read.Parts Fault) × read.key header text.now limit [] i found }

@@ -9,14 +9,14 @@ ghost use Rattle.toml_span_lines.specs.Lines.{error_line};
 ghost use Rattle.toml_span_lines.specs.Run.{IsAnswer, Runs};
 ghost use Rattle.toml_span_lines.specs.Shown.{ShowsDocument, ShowsRefusal, ShowsPlaces};
 
-/// At most one text has the lines of given places.
+/// Given the places at all paths, at most one text can be their lines.
 pub fn one_text()
     ensures { (places : Path → Option Place) (text other : List ℕ) → ShowsPlaces places text → ShowsPlaces places other
         → text ≡ other }
 {}
 
-/// Bytes that are a document have one output, and no error. Bytes that have an error have one output, the line of that
-/// error.
+/// Bytes that are a document have at most one output, and no error. Bytes that have an error have at most one output,
+/// the line of that error.
 pub fn one_answer()
     ensures document { (bytes : List ℕ) (limit : ℕ) (text other : List ℕ) → ShowsDocument bytes limit text
         → ShowsDocument bytes limit other → text ≡ other }
@@ -28,8 +28,9 @@ pub fn one_answer()
         → ShowsRefusal bytes limit other → text ≡ other }
 {}
 
-/// The input determines the exit status and the output, unless an allocation, a read or a write fails: an input has one
-/// answer, and two runs on the same input in which nothing fails return the same status and write the same bytes.
+/// The input determines the exit status and the output, unless an allocation, a read or a write fails: an input has at
+/// most one answer, and two runs on the same input in which nothing fails return the same status and write the same
+/// bytes.
 pub fn one_output()
     ensures answer { (bytes : List ℕ) (limit status other : ℕ) (text last : List ℕ) → IsAnswer bytes limit status text
         → IsAnswer bytes limit other last → (status ≡ other) × (text ≡ last) }

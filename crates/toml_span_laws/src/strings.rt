@@ -7,32 +7,32 @@ ghost use Rattle.toml_span_read.specs.declared.strings.StringToken.{StringToken}
 ghost use Rattle.toml_span_laws.specs.Places.{CutsContent};
 ghost use Rattle.toml_span_read.specs.code.Strings.{StringReads};
 
-/// Unless it is empty and on a single line, the span of a string or quoted key is everything between its quotes, except
-/// for a line end directly after three opening quotes.
+/// The span of a string or quoted key is everything between its quotes, except for a line end directly after three
+/// opening quotes. This does not apply to an empty single-line string or key.
 pub fn span_is_the_content()
     ensures { (text : List ℕ) (i j : ℕ) (span : Span) (source value : List ℕ) (multi : Bool)
         → IsString text i j span source value multi → (IsEmptyOnOneLine i j → ⊥)
         → CutsContent text i j span value multi }
 {}
 
-/// Unless a string is empty and on a single line, its value is the text at its span if that text has no carriage return
-/// and, between `"`, no backslash.
+/// If the text at the span of a string has no carriage return and, between `"`, no backslash, that text is the string's
+/// value. This does not apply to an empty single-line string.
 pub fn unchanged_is_the_text()
     ensures { (text : List ℕ) (i j : ℕ) (span : Span) (source value : List ℕ) (multi : Bool)
         → IsString text i j span source value multi → (IsEmptyOnOneLine i j → ⊥)
         → (HasChange (slice_index text i) text span.start span.end → ⊥) → value ≡ slice_range text span.start span.end }
 {}
 
-/// Unless it is empty and on a single line, a string that is read is borrowed if and only if its value is the text at
-/// its span.
+/// A string that is read is borrowed if and only if its value is the text at its span. This does not apply to an empty
+/// single-line string.
 pub fn borrowed_is_the_text()
     ensures { (text : List ℕ) (i : ℕ) (token : StringToken) → StringReads text i (Ok token)
         → (IsEmptyOnOneLine i token.end → ⊥) → IsBorrowedStr token.content
         ↔ (cow_str_bytes token.content ≡ slice_range text token.span.start token.span.end) }
 {}
 
-/// Unless it is empty and on a single line, a string that is read is borrowed if and only if the text at its span has
-/// no carriage return and, between `"`, no backslash.
+/// A string that is read is borrowed if and only if the text at its span has no carriage return and, between `"`, no
+/// backslash. This does not apply to an empty single-line string.
 pub fn borrowed_where_unchanged()
     ensures { (text : List ℕ) (i : ℕ) (token : StringToken) → StringReads text i (Ok token)
         → (IsEmptyOnOneLine i token.end → ⊥) → IsBorrowedStr token.content

@@ -6,7 +6,7 @@ ghost use Rattle.toml_span_read.specs.Limits.{Within};
 ghost use Rattle.toml_span_read.specs.Places.{Inside};
 ghost use Rattle.toml_span_read.specs.Read as read;
 
-/// A value is read at an offset if and only if the text spells it there within the limit.
+/// A value is read at an offset if and only if the text spells it there within the depth limit `limit`.
 pub fn values_are_read()
     ensures { (text : List ℕ) (limit depth i j : ℕ) (v : ParsedValue)
         → read.value text limit ((limit + 1) - depth) 0 i (Ok (v, j)) ↔ Spells v text limit depth i j }
@@ -18,7 +18,7 @@ pub fn one_value()
         → Spells w text limit depth i k → (v ≡ w) × (j ≡ k) }
 {}
 
-/// A value that is spelled within a limit is spelled within any higher limit.
+/// A value that is spelled within the depth limit `limit` is spelled within any higher limit.
 pub fn wider_limit()
     ensures { (text : List ℕ) (limit wider depth i j : ℕ) (v : ParsedValue) → limit ≤ wider
         → Spells v text limit depth i j
@@ -32,7 +32,7 @@ pub fn spans_within()
         → Inside v i j × (i ≤ j) × (j ≤ length text) }
 {}
 
-/// A value that is spelled is nested within the limit.
+/// A value that is spelled within the depth limit `limit` is nested at most `limit` levels deep.
 pub fn depth_within()
     ensures { (text : List ℕ) (limit depth i j : ℕ) (v : ParsedValue) → Spells v text limit depth i j
         → Within limit depth v }

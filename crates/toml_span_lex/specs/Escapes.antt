@@ -40,12 +40,12 @@ pub record HexRun (text : List ℕ) (a b : ℕ) : Type 0 where
 abbrev pub hex_value : List ℕ → ℕ → ℕ → ℕ
 hex_value text a n = digits_value 16 (take n (drop a text))
 
--- The n digits after the letter at i are the number of the character c, and end at j.
+-- The n digits after the letter at i spell the code point of the character c, and end at j.
 abbrev pub IsHexEscape : List ℕ → ℕ → ℕ → ℕ → ℕ → Type 0
 IsHexEscape text i n c j = HexRun text (i + 1) j × (j ≡ (i + 1) + n) × (c ≡ hex_value text (i + 1) n) × IsScalar c
 
--- n digits must follow the letter at i, but the text ends too early, there is another character, or the digits are not
--- the number of a character. This is the fault.
+-- n digits must follow the letter at i, but the text ends too early, there is another character, or the digits do not
+-- spell the code point of a character. The error says which of these it is, and j is the offset up to which was read.
 abbrev pub IsHexFault : ℕ → List ℕ → ℕ → ℕ → ℕ → Error → Type 0
 IsHexFault start text i n j (errors.UnterminatedString s) =
     (s ≡ start) × (j ≡ length text) × HexRun text (i + 1) (length text) × (length text < (i + 1) + n)
@@ -65,7 +65,8 @@ IsEscape text i c j =
     ((simple_escape (slice_index text i) ≡ Some c) × (i < length text) × (j ≡ i + 1))
     ⊎ ((0 < hex_len (slice_index text i)) × (i < length text) × IsHexEscape text i (hex_len (slice_index text i)) c j)
 
--- The letter at i, after a backslash, does not begin a valid escape, and this is the fault.
+-- The letter at i, after a backslash, does not begin a valid escape. The fault is e, and j is the offset up to which
+-- the escape was read.
 abbrev pub IsEscapeFault : ℕ → List ℕ → ℕ → ℕ → Error → Type 0
 IsEscapeFault start text i j e =
     ((e ≡ errors.UnterminatedString start) × (i ≡ length text) × (j ≡ i))

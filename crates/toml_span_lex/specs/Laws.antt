@@ -30,8 +30,8 @@ abbrev pub TokenOrFault : Type 0
 TokenOrFault =
     (text : List ℕ) (i j k : ℕ) (s : Span) (l : Lexeme) (e : Error) → IsLexeme text i j s l → IsNoToken text i k e → ⊥
 
--- A token is at least one byte long and ends inside the text, and so does what a fault names. At the end of the text
--- there is neither.
+-- A token is at least one byte long and ends inside the text. A fault is found after at least one byte was read, inside
+-- the text. So there is neither at the end of the text.
 abbrev pub TokensWithin : Type 0
 TokensWithin = (text : List ℕ) (i j : ℕ) (s : Span) (l : Lexeme) → IsLexeme text i j s l → (i < j) × (j ≤ length text)
 
@@ -44,7 +44,7 @@ SomethingStands text i =
     (i ≡ length text)
     ⊎ (((j : ℕ) × (s : Span) × (l : Lexeme) × IsLexeme text i j s l) ⊎ ((j : ℕ) × (e : Error) × IsNoToken text i j e))
 
--- What is between the quotes of a string has exactly one value and one end.
+-- The content of a string has exactly one value, and ends at exactly one offset.
 abbrev pub OneContent : Type 0
 OneContent = (q : ℕ) (m : Bool) (text v w : List ℕ) (i s t j k : ℕ) → IsQuote q → IsContent q m text i v s j
     → IsContent q m text i w t k → (v ≡ w) × (s ≡ t) × (j ≡ k)
@@ -56,7 +56,8 @@ abbrev pub FoldedText : Type 0
 FoldedText =
     (text : List ℕ) (i c j : ℕ) → IsUtf8 (drop i text) → CharAt text i c j → folded text i ≡ (i, c) ∷ folded text j
 
--- Tokens and faults that begin at a character of the folded text end at one.
+-- A token that begins at a character of the folded text ends at one, or at its end. So does the text that was read when
+-- a fault was found.
 abbrev pub TokensUnfolded : Type 0
 TokensUnfolded =
     (text : List ℕ) (i j : ℕ) (s : Span) (l : Lexeme) → KeepsLineEnd text i → IsLexeme text i j s l

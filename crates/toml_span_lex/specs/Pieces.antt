@@ -26,13 +26,13 @@ pub record WsAndNewlines (text : List ℕ) (i j : ℕ) : Type 0 where
   pub passes : (k : ℕ) → i ≤ k → k < j → is_ws_or_newline text k ≡ true
   pub stops : j < length text → is_ws_or_newline text j ≡ false
 
--- `mlb-escaped-nl = escape ws newline *( wschar / newline )`: what a backslash at the end of a line drops: spaces and
--- tabs, a line end, and all spaces, tabs and line ends after it
+-- `mlb-escaped-nl = escape ws newline *( wschar / newline )`: a backslash before i drops the text from i to j: spaces
+-- and tabs, a line end, and all spaces, tabs and line ends after it
 abbrev pub IsDropped : List ℕ → ℕ → ℕ → Type 0
 IsDropped text i j = (k : ℕ) × (l : ℕ) × MaximalRun is_blank text i k × LineEnd text k l × WsAndNewlines text l j
 
--- The text from i to j is this piece. Only multi-line strings have line ends, one or two quotes, and what a backslash
--- drops; only basic strings have escapes.
+-- The text from i to j is this piece. Only multi-line strings have line ends and runs of one or two quotes, only basic
+-- strings have escapes, and only multi-line basic strings have line ends that a backslash drops.
 -- `basic-char = basic-unescaped / escaped`
 -- `mlb-content = basic-char / newline / mlb-escaped-nl`, `mlb-quotes = 1*2quotation-mark`
 -- `mll-content = literal-char / newline`, `mll-quotes = 1*2apostrophe`
@@ -54,21 +54,22 @@ piece_value text i j _ = slice_range text i j
 
 -- `ml-basic-string-delim = 3quotation-mark`, `ml-literal-string-delim = 3apostrophe`, after `[ mlb-quotes ]` or `[
 -- mll-quotes ]`: the quotes at i close the string, and j is the offset after them. One quote closes a single-line
--- string. The first run of at least three quotes closes a multi-line string, but no more than five of them belong to
--- it.
+-- string. The first run of at least three quotes closes a multi-line string; at most five of these quotes belong to the
+-- string.
 abbrev pub IsClose : ℕ → Bool → List ℕ → ℕ → ℕ → Type 0
 IsClose q false text i j = (slice_index text i ≡ q) × (i < length text) × (j ≡ i + 1)
 IsClose q true text i j = (r : ℕ) × MaximalRun (λ c. c == q) text i r × (i + 3 ≤ r) × (j ≡ min r (i + 5))
 
--- the fault of a backslash at i that spaces and tabs follow up to j, where there is no line end
+-- the fault if spaces and tabs follow the backslash at i up to j, and something other than a line end is at j
 abbrev pub drop_fault : ℕ → List ℕ → ℕ → ℕ → Error
 drop_fault start text i j =
     if j == length text then errors.UnterminatedString start
     else errors.InvalidEscape (i + 1) (slice_index text (i + 1))
 
--- In the string that was opened at `start`, there is neither a piece nor the end at i, but this fault: the end of the
--- text, a line end in a single-line string, a character that may not occur in a string, an invalid escape, or a
--- backslash before spaces and tabs that are not followed by a line end.
+-- In the string that was opened at `start`, neither a piece nor the closing quotes begin at i. The fault e says why:
+-- the end of the text, a line end in a single-line string, a character that may not occur in a string, an invalid
+-- escape, or a backslash before spaces and tabs that are not followed by a line end. The offset up to which was read is
+-- j.
 abbrev pub IsContentFault : ℕ → Bool → ℕ → List ℕ → ℕ → ℕ → Error → Type 0
 IsContentFault q multi start text i j e =
     ((e ≡ errors.UnterminatedString start) × (i ≡ length text) × (j ≡ i))

@@ -4,12 +4,12 @@ use Rattle.std.specs.declared.alloc.AllocError.{AllocError}
 use Rattle.toml_span_lex.specs.declared.stop.Stop.{Stop}
 use Rattle.toml_span_lex.specs.declared.stop.Stop.TheVariants.{Memory, Fault}
 
--- the text of the fault, if its type says what that is, or `out of memory`
+-- the text of the fault, if its type has one, or `memory allocation failed`
 abbrev pub stop_text : {E : Type 0} → (E → Option (List ℕ)) → Stop E → Option (List ℕ)
 stop_text output (Fault fault) = output fault
 stop_text output (Memory error) = Some (codes "memory allocation failed")
 
--- the same reason, with the fault converted
+-- Both stops are failed allocations, or both are faults, and `gives` converts the first fault to the second.
 abbrev pub Converts : {E F : Type 0} → (E → F → Type 0) → Stop E → Stop F → Type 0
 Converts gives (Fault fault) stop = (other : _) × gives fault other × (stop ≡ Fault other)
 Converts gives (Memory error) stop = stop ≡ Memory error

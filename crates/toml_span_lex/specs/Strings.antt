@@ -25,11 +25,14 @@ abbrev pub content : List ℕ → ℕ → List (Piece × ℕ) → List ℕ
 content text i [] = []
 content text i (p ∷ ps) = piece_value text i p.1 p.0 ++ content text p.1 ps
 
--- The content ends before the last quote, or before the last three.
+-- the offset at which the content of a string that ends at j ends: before the last quote or, if it is multi-line,
+-- before the last three
 abbrev pub content_end : Bool → ℕ → ℕ
 content_end multi j = if multi then j - 3 else j - 1
 
--- The content consists of pieces from an offset up to the closing quotes, the first of which may belong to it.
+-- The content begins at `from`, ends at `to` and has this value, and the string ends at `end`. The content consists of
+-- pieces up to the run of quotes at `at` that closes the string, and of the first one or two quotes of this run if it
+-- has more than three.
 pub record IsContent (q : ℕ) (multi : Bool) (text : List ℕ) (from : ℕ) (value : List ℕ) (to end : ℕ) : Type 0 where
   pub pieces : List (Piece × ℕ)
   pub at : ℕ
@@ -38,14 +41,14 @@ pub record IsContent (q : ℕ) (multi : Bool) (text : List ℕ) (from : ℕ) (va
   pub to_is : to ≡ content_end multi end
   pub value_is : value ≡ content text from pieces ++ slice_range text at to
 
--- The content consists of pieces from an offset up to this fault.
+-- The content begins at `from` with pieces, and after them there is the fault e.
 pub record IsContentCutOff (q : ℕ) (multi : Bool) (start : ℕ) (text : List ℕ) (from j : ℕ) (e : Error) : Type 0 where
   pub pieces : List (Piece × ℕ)
   pub at : ℕ
   pub cut : Cut q multi text from pieces at
   pub fault : IsContentFault q multi start text at j e
 
--- Between two offsets there is something whose value differs from its text: a carriage return or, in a basic string, a
+-- Between two offsets there is a byte whose value may differ from its text: a carriage return or, in a basic string, a
 -- backslash.
 abbrev pub HasChange : ℕ → List ℕ → ℕ → ℕ → Type 0
 HasChange q text from to =
@@ -96,14 +99,14 @@ pub record IsString (text : List ℕ) (i j : ℕ) (span : Span) (source value : 
   pub source_is : source ≡ slice_range text i j
   pub span_is : span ≡ content_span multi i from to
 
--- Quotes open at i, but there is no valid string, and this is the fault.
+-- The quote at i opens a string that is not valid, and the fault is e.
 pub record IsNoString (text : List ℕ) (i j : ℕ) (e : Error) : Type 0 where
   pub from : ℕ
   pub quote : IsQuote (slice_index text i)
   pub begins : ContentFrom (opens_multi text i) text i from
   pub fault : IsContentCutOff (slice_index text i) (opens_multi text i) i text from j e
 
--- Quotes open at i, and the content after them has a carriage return or, in a basic string, a backslash.
+-- The quote at i opens a string whose content has a carriage return or, in a basic string, a backslash.
 pub record NeedsMemory (text : List ℕ) (i : ℕ) : Type 0 where
   pub from : ℕ
   pub quote : IsQuote (slice_index text i)

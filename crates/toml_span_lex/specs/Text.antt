@@ -42,7 +42,8 @@ IsFoldedPlace text i = IsCharBoundary text i × KeepsLineEnd text i
 
 -- ---- the folded text
 
--- The characters with their offsets. CRLF is one line feed.
+-- The characters with their offsets, the first of which is at i. CRLF is one line feed. `after_return` says whether the
+-- character before the first one is a carriage return.
 abbrev pub folded_from : ℕ → Bool → List ℕ → List (ℕ × ℕ)
 folded_from i after_return [] = []
 folded_from i after_return (c ∷ cs) =
@@ -50,6 +51,6 @@ folded_from i after_return (c ∷ cs) =
     else (i, (if c == carriage_return && slice_index cs 0 == line_feed then line_feed else c))
     ∷ folded_from (i + len_utf8 c) (c == carriage_return) cs
 
--- those from an offset on
+-- the characters of the folded text from the offset i on
 abbrev pub folded : List ℕ → ℕ → List (ℕ × ℕ)
 folded text i = folded_from i false (chars (drop i text))

@@ -23,8 +23,8 @@ pub record Cursor : Type 0 where
 
 -- ---- failures
 
--- No token was read at i. The tokenizer is then at j: at i if an allocation failed, otherwise after what the fault
--- names.
+-- No token was read at i. The tokenizer is then at j: still at i if an allocation failed, otherwise at the offset up to
+-- which was read when the fault was found.
 abbrev pub Fails : List ℕ → ℕ → Stop Error → ℕ → Type 0
 Fails text i (stops.Memory e) j = (j ≡ i) × NeedsMemory text i
 Fails text i (stops.Fault e) j = IsNoToken text i j e
@@ -50,7 +50,7 @@ StepGives text i (Ok None) j = (i ≡ length text) × (j ≡ i)
 StepGives text i (Ok (Some found)) j = IsLexeme text i j found.0 (lexeme found.1)
 StepGives text i (Err stop) j = Fails text i stop j
 
--- which strings are borrowed
+-- If a string was read at i, its value is borrowed as `Borrows` says.
 abbrev pub BorrowsAt : List ℕ → ℕ → Result (Option (Span × Token)) (Stop Error) → ℕ → Type 0
 BorrowsAt text i (Ok (Some (span, tokens.String src val multi))) j = Borrows text i j span val
 BorrowsAt text i _ j = Unit {0}
@@ -102,8 +102,8 @@ MayBeKey (keylike s) = Unit {0}
 MayBeKey (string source value multi) = Unit {0}
 MayBeKey _ = ⊥
 
--- There is a multi-line string where a key is expected. The error has its offset, and the offset that lies as many
--- bytes after it as the value has.
+-- There is a multi-line string where a key is expected. The error has the offset of the string, and that offset plus
+-- the length of the string's value.
 abbrev pub IsMultilineKey : List ℕ → ℕ → ℕ → Error → Type 0
 IsMultilineKey text i j (errors.MultilineStringKey at end) =
     (span : Span) × (source : List ℕ) × (value : List ℕ) × IsLexeme text i j span (string source value true) × (at ≡ i)
@@ -119,7 +119,7 @@ TableKeyGives text i (Err (stops.Fault e)) j =
 
 -- ---- line ends
 
--- after the line end at i, or at the end of the text
+-- There is a line end from i to j, or i and j are the end of the text.
 abbrev pub EndsLine : List ℕ → ℕ → ℕ → Type 0
 EndsLine text i j = LineEnd text i j ⊎ ((i ≡ length text) × (j ≡ i))
 
@@ -138,7 +138,7 @@ EatsComment text i (Ok false) j = (slice_index text i ≡ hash → ⊥) × (j �
 EatsComment text i (Err e) j =
     (k : ℕ) × (span : Span) × (s : List ℕ) × IsLexeme text i k span (comment s) × IsUnexpected text k j e
 
--- after the next line end, or at the end of the text
+-- j is the offset after the first line end at or after i or, without such a line end, the end of the text.
 abbrev pub SkipsLine : List ℕ → ℕ → ℕ → Type 0
 SkipsLine text i j = (k : ℕ) × (i ≤ k) × ((n : ℕ) → i ≤ n → n < k → NoLineEnd text n) × EndsLine text k j
 

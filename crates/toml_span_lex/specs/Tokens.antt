@@ -25,7 +25,7 @@ pub data Lexeme : Type 0 where
   whitespace : List ℕ → Lexeme
   newline : Lexeme
   comment : List ℕ → Lexeme
-  -- one of nine bytes each of which is a token
+  -- one of the nine bytes that are tokens by themselves
   punctuator : ℕ → Lexeme
   keylike : List ℕ → Lexeme
   -- the text with its quotes, the value, and whether it is a multi-line string
@@ -72,7 +72,7 @@ words (string src value false) = codes "a string"
 
 -- ---- tokens and faults at an offset
 
--- all bytes from i on that pass the test, at least one
+-- The text from i to j is `part`, a run of all bytes from i on that pass the test, at least one.
 abbrev pub RunAt : (ℕ → Bool) → List ℕ → ℕ → ℕ → List ℕ → Type 0
 RunAt p text i j part = (i < j) × MaximalRun p text i j × (part ≡ slice_range text i j)
 
@@ -94,19 +94,20 @@ abbrev pub IsLexeme : List ℕ → ℕ → ℕ → Span → Lexeme → Type 0
 IsLexeme text i j span (string src value multi) = IsString text i j span src value multi
 IsLexeme text i j span l = IsToken text i j l × (span ≡ record { start = i; end = j })
 
--- the characters that begin a token: a blank, a punctuator, a line feed or a hash
+-- the characters that alone decide which token they begin: a blank, a punctuator, a line feed or a hash
 abbrev pub begins_alone : ℕ → Bool
 begins_alone c = is_blank c || is_punctuator c || c == line_feed || c == hash
 
--- the same, or a character of a bare key, or a quote
+-- all characters that begin a token, where CRLF is one line feed: also those of bare keys, and quotes
 abbrev pub begins_token : ℕ → Bool
 begins_token c = (begins_alone c || is_keylike c) || (c == quotation_mark || c == apostrophe)
 
--- No token begins with the character at i, which ends at j.
+-- No token begins with the character at i, which ends at j, and the error says so.
 abbrev pub IsUnexpected : List ℕ → ℕ → ℕ → Error → Type 0
 IsUnexpected text i j (errors.Unexpected at c) = (at ≡ i) × CharAt text i c j × (begins_token c ≡ false)
 IsUnexpected text i j _ = ⊥
 
--- There is no token at i, but this fault. j is the offset after the character that it names, or the end of the text.
+-- No token can be read at i, and the fault is e. The offset up to which was read is j: after the character that e
+-- names, after the digits or blanks of an invalid escape, or the end of the text.
 abbrev pub IsNoToken : List ℕ → ℕ → ℕ → Error → Type 0
 IsNoToken text i j e = IsUnexpected text i j e ⊎ IsNoString text i j e

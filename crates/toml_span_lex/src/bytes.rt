@@ -1,4 +1,5 @@
-//! Classes of bytes, and runs of bytes of a class (TOML 1.1, "Whitespace", "Keys", "Comment").
+//! Classes of bytes, and runs of bytes of a class (TOML 1.1, "Whitespace", "Keys", "Comment"). Offsets must be
+//! character boundaries.
 ghost use Rattle.std.specs.Prelude.{◌≡◌, ℕ, ◌<◌, ◌==◌, ◌&&◌, not, true, length, slice_index, IsTrue};
 ghost use Rattle.std.specs.Str.{IsCharBoundary};
 ghost use Rattle.toml_span_lex.specs.Bytes as spec;
@@ -18,8 +19,8 @@ pub fn is_blank(byte: u8) -> bool
 /// The bit that is set in `CLASS` for the bytes of bare keys.
 const KEYLIKE: u8 = 1;
 
-// For each byte, the digit `1` if the byte may occur in a bare key, otherwise `0`. The bit `KEYLIKE` is set only in
-// `1`.
+// For each byte, the digit `1` if the byte may occur in a bare key, otherwise `0`. In ASCII, the two digits differ in
+// the bit `KEYLIKE` alone, which is set in `1`.
 static CLASS: [u8; 256] = *b"\
     00000000000000000000000000000000\
     00000000000001001111111111000000\

@@ -21,7 +21,8 @@ pub struct Key<'de> {
 }
 
 impl<'de> Key<'de> {
-    /// Returns a key with this name and the span 0..0, to look up an entry.
+    /// Returns a key with this name and the span 0..0. With such a key, an entry of a table can be looked up by its
+    /// name.
     pub fn named(name: &'de str) -> Self
         ensures { (cow_str_bytes result.name ≡ name.now) × (result.span ≡ record { start = 0; end = 0 })
             × IsBorrowedStr result.name }
@@ -34,8 +35,8 @@ impl<'de> Key<'de> {
 }
 
 impl Key<'_> {
-    /// Returns a key with the same name and span. It borrows the name if and only if this key does. Fails only if an
-    /// allocation fails.
+    /// Returns a key with the same name and span. The new key borrows its name if and only if this key does. Fails only
+    /// if an allocation fails.
     pub fn clone(&self, alloc: Global) -> Result<Self, AllocError>
         ensures name { IfOk result (λ key. cow_str_bytes key.name ≡ cow_str_bytes self.now.name) }
         ensures span { IfOk result (λ key. key.span ≡ self.now.span) }

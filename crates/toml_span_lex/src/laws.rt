@@ -26,23 +26,24 @@ pub fn token_or_fault()
     ensures { law.TokenOrFault }
 {}
 
-/// Tokens and faults are at least one byte long and end within the text.
+/// A token is at least one byte long, and ends within the text. A fault is found after at least one byte was read, and
+/// within the text.
 pub fn within_the_text()
     ensures tokens { law.TokensWithin }
     ensures faults { law.FaultsWithin }
 {}
 
-/// The content of a string has only one value and one end.
+/// The content of a string has exactly one value, and ends at exactly one offset.
 pub fn one_content()
     ensures { law.OneContent }
 {}
 
-/// Reading a text character by character yields the text with each CRLF replaced with one line feed.
+/// Reading a text character by character yields the text with each CRLF replaced by one line feed.
 pub fn folded_text()
     ensures { law.FoldedText }
 {}
 
-/// No token and no fault ends between the two bytes of a CRLF.
+/// After a token or a fault, the tokenizer is never between the two bytes of a CRLF.
 pub fn line_ends_stay_whole()
     ensures tokens { law.TokensUnfolded }
     ensures faults { law.FaultsUnfolded }
@@ -68,13 +69,13 @@ pub fn spanned_equal_by_value<T: PartialEq>()
     ensures { (a b : Spanned T) → ⟦<Spanned<T> as PartialEq>⟧.eq a b ≡ T.eq a.value b.value }
 {}
 
-/// `partial_cmp` compares spanned values as it compares their values.
+/// `partial_cmp` of two spanned values returns what `partial_cmp` of their values returns.
 pub fn spanned_partly_ordered_by_value<T: PartialOrd>()
     ensures { (a b : Spanned T) → ⟦<Spanned<T> as PartialOrd>⟧.partial_cmp a b ≡ T.partial_cmp a.value b.value }
 {}
 
-/// `cmp` compares spanned values as it compares their values. It returns `Equal` if and only if the spanned values are
-/// equal.
+/// `cmp` of two spanned values returns what `cmp` of their values returns. It returns `Equal` if and only if the
+/// spanned values are equal.
 pub fn spanned_ordered_by_value<T: Ord>()
     ensures cmp { (a b : Spanned T) → ⟦<Spanned<T> as Ord>⟧.cmp a b ≡ T.cmp a.value b.value }
     ensures ties { (a b : Spanned T)

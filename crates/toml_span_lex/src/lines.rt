@@ -5,7 +5,8 @@ ghost use Rattle.toml_span_lex.specs.Lines as spec;
 use crate::span::Span;
 
 /// Returns the line and the column of the byte offset `at`, both counted from 0. The line is the number of line feeds
-/// before `at`. The column is the number of bytes from the start of that line to `at`.
+/// before `at`. The column is the number of bytes from the start of that line to `at`. `at` must be at most the length
+/// of the text.
 pub fn line_info(text: &str, at: usize) -> (usize, usize)
     requires { at ≤ length text.now }
     ensures { result ≡ spec.line_info text.now at }
@@ -25,8 +26,8 @@ pub fn line_info(text: &str, at: usize) -> (usize, usize)
 /// Returns the line and the column at which a span starts, both counted from 1, the column in bytes. A span that starts
 /// after the end of the text counts as starting at the end.
 ///
-/// Both are one more than in `Error::line_info`. `toml_span_report::line_column` counts columns in characters, as
-/// editors do.
+/// Both numbers are one more than those of `Error::line_info`, which count from 0. `toml_span_report::line_column`
+/// counts columns in characters, as editors do.
 pub fn line_and_byte(text: &str, span: Span) -> (usize, usize)
     ensures { let place = spec.line_info text.now (min span.start (length text.now)) in
         result ≡ (place.0 + 1, place.1 + 1) }

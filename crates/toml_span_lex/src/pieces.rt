@@ -38,8 +38,9 @@ fn is_plain(quote: u8, byte: u8) -> bool
     is_printed(byte) && byte != quote && !(quote == b'"' && byte == b'\\')
 }
 
-/// Returns the offset after the run of bytes that begins at the byte offset `from`, and whose bytes may occur unescaped
-/// in a string quoted with `quote`; `from` itself if the run is empty.
+/// Returns the offset after the run of bytes, beginning at the byte offset `from`, that may occur unescaped in a string
+/// quoted with `quote`; `from` itself if the run is empty. `from` must be a character boundary, and `quote` an ASCII
+/// byte.
 #[inline(always)]
 pub fn plain_end(text: &str, quote: u8, from: usize) -> usize
     requires boundary { IsCharBoundary text.now from }
@@ -105,9 +106,10 @@ fn ws_and_newlines_end(text: &str, from: usize) -> usize
     bytes.len()
 }
 
-/// Reads the quotes at `at` in a multi-line string. One or two of them are a piece, which is returned with the offset
-/// after it. Three or more end the string: returns `None` with the offset after the closing three, before which there
-/// may be one or two that belong to the content.
+/// Reads the run of quotes at `at` in a multi-line string. One or two quotes belong to the content: returns the piece
+/// `Quotes` with the offset after it. Three or more quotes close the string: returns `None` with the offset after the
+/// string. The string ends after the fifth quote at the latest. The last three of its quotes are the delimiter, and
+/// those before them belong to the content.
 ///
 /// `mlb-quotes = 1*2quotation-mark`, `mll-quotes = 1*2apostrophe`, `ml-basic-string-delim = 3quotation-mark`,
 /// `ml-literal-string-delim = 3apostrophe`
@@ -128,7 +130,8 @@ fn quotes(text: &str, quote: u8, at: usize) -> (Option<Piece>, usize)
 }
 
 /// Reads the piece that begins with the backslash at `at`: an escape (`escaped`) or, if `multi`, an escaped line end
-/// (`mlb-escaped-nl`). Returns the piece with the offset after it. Fails like `piece_at`.
+/// (`mlb-escaped-nl`). Returns the piece, never `None`, with the offset after it. Fails with the error, and the offset
+/// up to which the string was read. `start` is the offset of the opening quote, for the error `UnterminatedString`.
 fn escape_piece(
     text: &str,
     multi: bool,
@@ -160,9 +163,13 @@ fn ws_or_newline_at(text: &str, at: usize) -> bool
     at < bytes.len() && is_ws_or_newline(bytes, at)
 }
 
-/// Reads the backslash at `at`, which ends a line of a multi-line string, with all white space and line ends after it:
-/// `mlb-escaped-nl = escape ws newline *( wschar / newline )`. Returns the piece `Dropped`, with the offset after it.
-/// Fails if the line goes on after the white space, or if the text ends there.
+/// Reads an escaped line end in a multi-line string: the backslash at `at`, and all white space and line ends after it.
+/// Only white space may be between the backslash and the end of its line: `mlb-escaped-nl = escape ws newline *( wschar
+/// / newline )`. Returns the piece `Dropped` with the offset after it.
+///
+/// Fails with the error, and the offset up to which the string was read: `InvalidEscape` if the line goes on after the
+/// white space, `UnterminatedString` if the text ends there. `start` is the offset of the opening quote, for
+/// `UnterminatedString`.
 fn drop_line(text: &str, start: usize, at: usize) -> Result<(Option<Piece>, usize), (Error, usize)>
     requires within { at + 1 < length text.now }
     requires here { slice_index text.now at ≡ backslash }
@@ -183,8 +190,9 @@ fn drop_line(text: &str, start: usize, at: usize) -> Result<(Option<Piece>, usiz
     }
 }
 
-/// Reads the piece at the byte offset `at` of a string quoted with `quote`, which is multi-line if `multi`. Returns the
-/// piece with the offset after it. At the end of the string, returns `None` with the offset after the closing quotes.
+/// Reads the piece of a string that is at the byte offset `at` of the text. The string is quoted with `quote`, and
+/// multi-line if `multi`. Returns the piece with the offset after it. At the end of the string, returns `None` with the
+/// offset after the closing quotes.
 ///
 /// Fails with the error, and the offset up to which the string was read. `start` is the offset of the opening quote,
 /// for the error `UnterminatedString`.

@@ -52,7 +52,7 @@ impl<E> From<AllocError> for Stop<E> {
     }
 }
 
-/// Drops the item that could not be stored.
+/// Converts the error of an insertion whose allocation failed, and drops the item that was to be inserted.
 impl<T: Drop, E> From<AllocFailed<T>> for Stop<E> {
     ghost use Rattle.std.specs.Prelude.{◌≡◌, alloc_error};
     ghost use Rattle.toml_span_lex.specs.declared.stop.Stop.TheVariants.{Memory};

@@ -36,8 +36,9 @@ fn owned(
     }
 }
 
-/// Adds the characters `at..next`, which stand for themselves, to the value of the content `from..at`. `kept` is that
-/// value, or `None` if it equals the text. Returns the new value in the same form. Fails if an allocation fails.
+/// Extends the value of the content `from..at` by the text `at..next`, whose characters represent themselves. `kept` is
+/// the value so far, or `None` as long as it equals the text `from..at`. Returns the value of the content `from..next`
+/// in the same form. Fails if an allocation fails.
 fn same(
     kept: Option<String>,
     text: &str,
@@ -63,7 +64,8 @@ fn same(
     }
 }
 
-/// Adds the piece `at..next` to the value of the content `from..at`. `kept` and the result are values as in `same`.
+/// Extends the value of the content `from..at` by the value of the piece `at..next`. `kept` is the value so far, or
+/// `None` as long as it equals the text `from..at`. Returns the value of the content `from..next` in the same form.
 /// Fails if an allocation fails.
 fn with_piece(
     alloc: Global,
@@ -103,12 +105,12 @@ fn with_piece(
     }
 }
 
-/// Reads the content, which begins at `from`, of a string quoted with `quote`, which is multi-line if `multi`. Returns
-/// the value of the content, or `None` if that equals the text, with the offset at which the content ends and the
-/// offset after the string.
+/// Reads the content of a string, from its beginning at `from` up to and including the closing quotes. `quote` is the
+/// byte that quotes the string, and `multi` says whether it is multi-line. Returns the value of the content, or `None`
+/// if it equals the text of the content, with the offset at which the content ends, and the offset after the string.
 ///
-/// Fails with the error, and the offset up to which the string was read, or if an allocation fails. `start` is the
-/// offset of the opening quote, for the error `UnterminatedString`.
+/// Fails with the error and the offset up to which the string was read, or with `Memory` if an allocation fails.
+/// `start` is the offset of the opening quote, for the error `UnterminatedString`.
 ///
 /// `*basic-char`, `*literal-char`, `ml-basic-body = *mlb-content *( mlb-quotes 1*mlb-content ) [ mlb-quotes ]`,
 /// `ml-literal-body = *mll-content *( mll-quotes 1*mll-content ) [ mll-quotes ]`
@@ -148,7 +150,7 @@ fn content(
     }
 }
 
-/// Returns whether there are three equal quotes at the offset `at`.
+/// Returns whether the quote at the offset `at` is the first of three equal ones, which open a multi-line string.
 #[inline]
 fn opens_multi(bytes: &[u8], at: usize) -> bool
     requires within { at < length bytes.now }
@@ -177,9 +179,9 @@ fn content_from(text: &str, multi: bool, at: usize) -> usize
     }
 }
 
-/// Reads the string whose opening quote is at the byte offset `at`. Returns its span, which `content_span` defines, its
-/// token, and the offset after it. Fails with the error, and the offset up to which the string was read, or if an
-/// allocation fails.
+/// Reads the string whose opening quote is at the byte offset `at`. Returns its span (its content or, if that is empty
+/// and on a single line, the opening quote), its token, and the offset after its closing quotes. Fails with the error
+/// and the offset up to which the string was read, or with `Memory` if an allocation fails.
 ///
 /// `string = ml-basic-string / basic-string / ml-literal-string / literal-string`
 /// `basic-string = quotation-mark *basic-char quotation-mark`
@@ -241,8 +243,8 @@ fn content_span(multi: bool, at: usize, from: usize, to: usize) -> Span
     }
 }
 
-/// Returns the offset after the string at `at`. Fails with the error, and the offset up to which the string was read.
-/// Does not allocate.
+/// Returns the offset after the string whose opening quote is at `at`. Fails with the error, and the offset up to which
+/// the string was read. Does not allocate.
 pub(crate) fn scan_string(text: &str, at: usize) -> Result<usize, (Error, usize)>
     requires within { at < length text.now }
     requires quote { IsQuote (slice_index text.now at) }

@@ -21,11 +21,11 @@ use std::alloc::{AllocError, Global};
 use std::borrow::CowStr;
 use std::marker::Model;
 
-/// A text, and the byte offset up to which it has been read. This is always a character boundary, where CRLF counts as
-/// one character.
+/// A text, and the byte offset up to which it has been read. The offset is always a character boundary, and never
+/// between the two bytes of a CRLF.
 ///
-/// If an allocation fails, the call can be repeated. After a fault, the offset is further on, as each method says, so
-/// that reading can continue there.
+/// If an allocation fails, the offset does not change, and the call can be repeated. For other errors, each method says
+/// where it leaves the tokenizer. Reading can continue there.
 #[derive(Drop)]
 pub struct Tokenizer<'a> {
     input: &'a str,
@@ -57,8 +57,8 @@ pub fn first_place(text: &str) -> usize
     if c == '\u{feff}' { next } else { 0 }
 }
 
-/// Reads the token at the byte offset `at`, which is not a string. Returns the token with the offset after it. Fails
-/// with `Unexpected` at a character that no token begins with, and with the offset after that character.
+/// Reads the token at the byte offset `at`, where there must not be a quote. Returns the token with the offset after
+/// it. If no token begins with the character at `at`, fails with `Unexpected` and the offset after that character.
 ///
 /// `ws = *wschar`, `newline = %x0A / %x0D.0A`, `comment = comment-start-symbol *non-eol`,
 /// `unquoted-key = 1*( ALPHA / DIGIT / %x2D / %x5F )`
@@ -95,7 +95,8 @@ pub fn token_at(input: &str, at: usize) -> Result<(Token<'_>, usize), (Error, us
     }
 }
 
-/// Reads the CRLF or bare key at `at`. Returns the token, or fails, like `token_at`.
+/// Reads the CRLF or bare key at `at`. Returns the token with the offset after it. If there is something else, fails
+/// with `Unexpected` and the offset after the character at `at`.
 fn other_at(input: &str, at: usize) -> Result<(Token<'_>, usize), (Error, usize)>
     requires boundary { IsCharBoundary input.now at }
     requires within { at < length input.now }
@@ -202,7 +203,8 @@ impl<'a> Tokenizer<'a> {
         }
     }
 
-    /// Returns what `step` would return, and changes nothing.
+    /// Returns the next token with its span, or `None` at the end of the text, as `step` does, but does not move on.
+    /// Fails like `step`, but the tokenizer stays where it is.
     pub fn peek(&mut self, alloc: Global) -> Result<Option<(Span, Token<'a>)>, Stop<Error>>
         ensures unchanged { self.new ≡ self.old }
         ensures step { (j : ℕ) × spec.StepGives self.old.text self.old.at result j
@@ -212,10 +214,11 @@ impl<'a> Tokenizer<'a> {
         ahead.step(alloc)
     }
 
-    /// Reads the next token if it equals `expected`, contents included. Returns whether it did.
+    /// Reads the next token if it equals `expected`, contents included. Returns whether the token was read: `false` for
+    /// another token or at the end of the text.
     ///
-    /// Unless it returns `true`, the tokenizer stays where it is. Fails if no token can be read, or if an allocation
-    /// fails.
+    /// Unless the result is `Ok(true)`, the tokenizer stays where it is. Fails if no token can be read, or if an
+    /// allocation fails.
     pub fn eat(&mut self, alloc: Global, expected: Token<'a>) -> Result<bool, Stop<Error>>
         ensures text { self.new.text ≡ self.old.text }
         ensures eats { spec.Eats self.old result (lexeme expected.entry) self.new }
@@ -230,7 +233,7 @@ impl<'a> Tokenizer<'a> {
     /// Reads the next token if it equals `expected`, contents included. Returns the span of the token, or `None` for
     /// another token or at the end of the text.
     ///
-    /// Unless it returns a span, the tokenizer stays where it is. Fails if no token can be read, or if an allocation
+    /// Unless the result is a span, the tokenizer stays where it is. Fails if no token can be read, or if an allocation
     /// fails.
     pub fn eat_spanned(
         &mut self,
@@ -259,7 +262,7 @@ impl<'a> Tokenizer<'a> {
     /// # Errors
     ///
     /// Fails with `Wanted` at another token or at the end of the text. The tokenizer is then after that token. If no
-    /// token can be read, or an allocation fails, it is where `step` leaves it.
+    /// token can be read, the tokenizer is where `step` would leave it. If an allocation fails, it stays where it is.
     pub fn expect(&mut self, alloc: Global, expected: Token<'a>) -> Result<(), Stop<Error>>
         ensures text { self.new.text ≡ self.old.text }
         ensures expects { spec.Expects self.old.text self.old.at result (lexeme expected.entry) self.new.at }
@@ -275,7 +278,7 @@ impl<'a> Tokenizer<'a> {
     /// # Errors
     ///
     /// Fails with `Wanted` at another token or at the end of the text. The tokenizer is then after that token. If no
-    /// token can be read, or an allocation fails, it is where `step` leaves it.
+    /// token can be read, the tokenizer is where `step` would leave it. If an allocation fails, it stays where it is.
     pub fn expect_spanned(
         &mut self,
         alloc: Global,
@@ -310,8 +313,8 @@ impl<'a> Tokenizer<'a> {
     /// # Errors
     ///
     /// Fails with `MultilineStringKey` at a multi-line string, and with `Wanted` at another token or at the end of the
-    /// text. The tokenizer is then after that token. If no token can be read, or an allocation fails, it is where
-    /// `step` leaves it.
+    /// text. The tokenizer is then after that token. If no token can be read, the tokenizer is where `step` would leave
+    /// it. If an allocation fails, it stays where it is.
     pub fn table_key(&mut self, alloc: Global) -> Result<Key<'a>, Stop<Error>>
         ensures text { self.new.text ≡ self.old.text }
         ensures key { spec.TableKeyGives self.old.text self.old.at result self.new.at }
@@ -355,8 +358,8 @@ impl<'a> Tokenizer<'a> {
     ///
     /// # Errors
     ///
-    /// Fails with `Wanted` at another token. The tokenizer is then after that token. If no token can be read, or an
-    /// allocation fails, it is where `step` leaves it.
+    /// Fails with `Wanted` at another token. The tokenizer is then after that token. If no token can be read, the
+    /// tokenizer is where `step` would leave it. If an allocation fails, it stays where it is.
     pub fn eat_newline_or_eof(&mut self, alloc: Global) -> Result<(), Stop<Error>>
         ensures text { self.new.text ≡ self.old.text }
         ensures line_end { spec.ExpectsLineEnd self.old.text self.old.at result self.new.at }
@@ -372,8 +375,8 @@ impl<'a> Tokenizer<'a> {
         }
     }
 
-    /// Reads the comment (`comment-start-symbol *non-eol`) at the current offset, if there is one, and the line end
-    /// after it, if the text does not end there. Returns whether there was a comment.
+    /// If there is a comment (`comment-start-symbol *non-eol`) at the current offset, reads it and the line end after
+    /// it, if any. Returns whether there was a comment.
     ///
     /// # Errors
     ///
@@ -444,7 +447,7 @@ impl<'a> Tokenizer<'a> {
         Some((at, c))
     }
 
-    /// Returns the byte offset at which a span starts.
+    /// Returns the byte offset at which a span starts. The span must be inside the text, and must not be reversed.
     pub fn substr_offset(&self, span: Span) -> usize
         requires forward { span.start ≤ span.end }
         requires within { span.end ≤ length self.now.text }

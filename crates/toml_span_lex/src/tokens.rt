@@ -11,7 +11,8 @@ pub enum Token<'a> {
     Whitespace(&'a str),
     /// A line feed, alone or after a carriage return.
     Newline,
-    /// A comment, from its `#` up to, but not including, the line end or another control character except a tab.
+    /// A comment: its `#`, and what follows up to, but not including, the next ASCII control character other than a
+    /// tab, such as a line feed, or up to the end of the text.
     Comment(&'a str),
     Equals,
     Period,
@@ -27,8 +28,8 @@ pub enum Token<'a> {
     String {
         /// The string as it is written, with its quotes.
         src: &'a str,
-        /// The value. It is borrowed if and only if it equals the text between the quotes, without a line end directly
-        /// after three opening quotes.
+        /// The value. It is borrowed if and only if it equals the text between the quotes, not counting a line end
+        /// directly after three opening quotes.
         val: CowStr<'a>,
         /// Whether it is a multi-line string.
         multiline: bool,
@@ -59,7 +60,7 @@ pub enum Error {
     MultilineStringKey(usize, usize),
     /// A token other than the expected one, or the end of the text where a token is expected. `found` is the name of
     /// the token, as `Token::describe` returns it, or `eof` at the end of the text. `expected` is the name of the
-    /// expected token, `a table key` or `newline`.
+    /// expected token, also as `Token::describe` returns it, or `a table key` or `newline`.
     Wanted {
         /// The offset of the token, or the length of the text.
         at: usize,

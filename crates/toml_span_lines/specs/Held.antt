@@ -9,8 +9,9 @@ use Rattle.toml_span_lines.specs.Run.{HasWritten}
 abbrev pub HoldsRest : Option (List ℕ) → Option (List ℕ) → List ℕ → List ℕ → Type 0
 HoldsRest old new text held = (front : List ℕ) × Appends old new front × (front ++ held ≡ text)
 
--- Given what had been written before and after, whether a write failed, and the text: a prefix has been written, and
--- the rest is in the buffer. Or the result says why not, and a prefix has been written.
+-- Either a prefix of the text has been written, and the buffer has the rest. Or a write or an allocation failed, as the
+-- result says, and a prefix of the text has been written. `old` and `new` are what the writer has got before and after,
+-- and `failed` says whether a write failed.
 abbrev pub Streams : {A : Type 0} → Result A Unwritten → Option (List ℕ) → Option (List ℕ) → Bool → List ℕ → List ℕ
     → Type 0
 Streams (Ok done) old new failed text held = (failed ≡ false) × HoldsRest old new text held

@@ -9,7 +9,7 @@ use Rattle.toml_span_tree.specs.Node.{Node, node, Inner, taken, scalar, array, t
 use Rattle.toml_span_tree.specs.Node.{no_members, member}
 use Rattle.toml_span_tree.specs.Value.{holds_nothing, kind_name}
 
--- whether a path contains this byte unescaped: it is printable, and neither a slash nor a percent sign
+-- whether a path contains this byte unescaped: it is printable ASCII, and neither a space, a slash nor a percent sign
 abbrev pub stands_for_itself : ℕ → Bool
 stands_for_itself byte = (nat_le 33 byte && nat_le byte 126) && (not (nat_eq byte 47) && not (nat_eq byte 37))
 

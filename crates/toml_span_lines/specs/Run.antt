@@ -15,8 +15,8 @@ abbrev pub IsShown : List ℕ → ℕ → ℕ → List ℕ → Type 0
 IsShown bytes limit status text =
     ((status ≡ 0) × ShowsDocument bytes limit text) ⊎ ((status ≡ 1) × ShowsRefusal bytes limit text)
 
--- The status and the output for an input. It is longer than the maximum, or is not valid UTF-8, or is a document, or
--- has an error.
+-- The status and the output for an input: one that is longer than the maximum, one that is not valid UTF-8, a document,
+-- or a text with an error.
 pub record IsAnswer (bytes : List ℕ) (limit : ℕ) (status : ℕ) (text : List ℕ) : Type 0 where
   pub too_long : bound < length bytes → (status ≡ 2) × (text ≡ codes "error too-long\n")
   pub no_text : length bytes ≤ bound → ¬ (IsUtf8 bytes) → (status ≡ 2) × (text ≡ codes "error not-utf-8\n")
@@ -58,7 +58,7 @@ pub record WritesOut (old new : Option (List ℕ)) (text : List ℕ) (failed : B
   pub whole : all ≡ true → Appends old new text
   pub reported : failed ≡ not all
 
--- Reading stopped, since a read or an allocation failed.
+-- Reading stopped because a read or an allocation failed. Some bytes, at most one more than the maximum, were read.
 abbrev pub HasCut : Option (List ℕ) → Option (List ℕ) → Bool → Cut → Type 0
 HasCut old new failed (Failed error) = (failed ≡ true) × ((bytes : List ℕ) × HasRead old new bytes)
 HasCut old new failed Memory = (failed ≡ false) × ((bytes : List ℕ) × HasRead old new bytes)

@@ -27,7 +27,8 @@ impl From<AllocError> for Unwritten {
     }
 }
 
-/// If the buffer has at least 64 KiB, writes and empties it. After an error, a prefix of the buffer has been written.
+/// If the buffer `held` has at least 64 KiB, writes and empties it. Fails if a write fails; a prefix of the buffer has
+/// then been written. No earlier write may have failed.
 pub fn write_held<W: Sink>(writer: &mut W, held: &mut Vec<u8>) -> Result<(), Unwritten>
     requires { W.failed writer.old ≡ false }
     ensures { Streams result (W.contents writer.old) (W.contents writer.new) (W.failed writer.new)

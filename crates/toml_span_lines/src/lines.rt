@@ -42,7 +42,8 @@ fn push_place(out: &mut Vec<u8>, place: (usize, usize)) -> Result<(), AllocError
     push_number(out, place.1)
 }
 
-/// Returns whether a path contains this byte of a key unescaped: it is printable ASCII, and neither `/` nor `%`.
+/// Returns whether a byte of a key is written unescaped in a path: it must be printable ASCII other than space, `/` and
+/// `%`.
 fn is_plain(byte: u8) -> bool
     ensures { result ≡ spec.stands_for_itself byte }
 {
@@ -109,8 +110,8 @@ fn push_line(out: &mut Vec<u8>, path: &[u8], kind: &str, span: Span) -> Result<(
     Ok(())
 }
 
-/// Appends the line of a value to the buffer, and writes the buffer if it is large. Fails if a write or an allocation
-/// fails.
+/// Appends the line of a value to the buffer `held`, and writes the buffer if it has at least 64 KiB. Fails if a write
+/// or an allocation fails.
 fn write_line<W: Sink>(
     writer: &mut W,
     held: &mut Vec<u8>,
@@ -126,8 +127,9 @@ fn write_line<W: Sink>(
     write_held(writer, held)
 }
 
-/// Writes the line of a value, and those of the values inside it. A value that has been taken has no line. Fails if a
-/// write or an allocation fails.
+/// Writes, through the buffer `held`, the line of the value at `path`, and the lines of the values inside it. A value
+/// that has been taken has no line. Changes `path` on the way, and restores it. Fails if a write or an allocation
+/// fails; `path` is then unspecified.
 #[cycle(write_value)]
 fn write_value<W: Sink>(
     writer: &mut W,
@@ -152,8 +154,8 @@ fn write_value<W: Sink>(
     }
 }
 
-/// Writes the lines of the elements of an array at `path`, and of the values inside them. Fails if a write or an
-/// allocation fails.
+/// Writes, through the buffer `held`, the lines of the elements of the array at `path`, and of the values inside them.
+/// Fails if a write or an allocation fails.
 #[cycle(write_value)]
 fn write_elements<W: Sink>(
     writer: &mut W,
@@ -175,8 +177,8 @@ fn write_elements<W: Sink>(
     Ok(())
 }
 
-/// Writes the lines of the entries of a table at `path`, and of the values inside them. Fails if a write or an
-/// allocation fails.
+/// Writes, through the buffer `held`, the lines of the entries of the table at `path`, and of the values inside them.
+/// Fails if a write or an allocation fails.
 #[cycle(write_value)]
 fn write_entries<W: Sink>(
     writer: &mut W,
@@ -198,9 +200,9 @@ fn write_entries<W: Sink>(
     Ok(())
 }
 
-/// Writes the buffer, and then the lines of a tree: one for each value, before the lines of the values inside it,
-/// entries in the order of their names. The end of the output, less than 64 KiB, stays in the buffer. After an error, a
-/// prefix of the output has been written.
+/// Writes the buffer `held`, and then the lines of a tree: one for each value, before the lines of the values inside
+/// it, entries in the order of their names. The end of the output, less than 64 KiB, stays in the buffer. Fails if a
+/// write or an allocation fails; a prefix of the output has then been written.
 pub fn write_lines<W: Sink>(
     alloc: Global,
     writer: &mut W,

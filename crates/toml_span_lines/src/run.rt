@@ -14,7 +14,7 @@ use toml_span::de::parse_with_limit;
 /// The maximum length of the input, in bytes.
 pub const BOUND: usize = 16_777_216;
 
-/// The limit on the depth of values and on the number of parts of a key.
+/// The limit of `run` on the depth of values and on the number of parts of a key.
 const LIMIT: usize = 128;
 
 /// Why the input was not read completely.
@@ -26,7 +26,8 @@ pub enum Cut {
     Failed(io::Error),
 }
 
-/// Reads the whole input, but at most one byte more than `BOUND`. After an error, what was read is lost.
+/// Reads the whole input or, if it is longer, its first `BOUND + 1` bytes. Fails if a read or an allocation fails; the
+/// bytes read so far are then lost.
 pub fn read_bytes<R: Source>(alloc: Global, reader: &mut R) -> Result<Vec<u8>, Cut>
     requires { R.failed reader.old ≡ false }
     ensures ok { IfOk result (λ v. HasReadAll (R.remaining reader.old) (R.remaining reader.new) v.items
@@ -67,7 +68,7 @@ pub fn write_bytes<W: Sink>(writer: &mut W, text: &[u8]) -> bool
 }
 
 /// Returns the exit status and the output for a text: 0 and the lines of its tree, or 1 and the line of its error.
-/// Fails if an allocation fails.
+/// `limit` is the limit on the depth of values and on the number of parts of a key. Fails if an allocation fails.
 fn answer_text(alloc: Global, text: &str, limit: usize) -> Result<(u8, Vec<u8>), AllocError>
     requires some { 1 ≤ limit }
     requires small { limit ≤ depth_limit }
@@ -80,8 +81,10 @@ fn answer_text(alloc: Global, text: &str, limit: usize) -> Result<(u8, Vec<u8>),
     }
 }
 
-/// Returns the exit status and the output for an input. If it is too long or not valid UTF-8, these are 2 and a line
-/// that says so. Fails if an allocation fails.
+/// Returns the exit status and the output for the bytes of an input: 2 and a line that says so if the input is longer
+/// than `BOUND` or not valid UTF-8, 1 and the line of its error if it is not valid TOML, otherwise 0 and the lines of
+/// its tree. `limit` is the limit on the depth of values and on the number of parts of a key. Fails if an allocation
+/// fails.
 fn answer(alloc: Global, bytes: &[u8], limit: usize) -> Result<(u8, Vec<u8>), AllocError>
     requires some { 1 ≤ limit }
     requires small { limit ≤ depth_limit }
@@ -96,7 +99,8 @@ fn answer(alloc: Global, bytes: &[u8], limit: usize) -> Result<(u8, Vec<u8>), Al
     }
 }
 
-/// Reads a document, and prints the lines of its tree, or the line of its error. `limit` is that of `parse_with_limit`.
+/// Reads a document, and prints the lines of its tree, or the line of its error. `limit` is the limit on the depth of
+/// values and on the number of parts of a key, and must be from 1 to 128. No read or write may have failed before.
 ///
 /// Returns the exit status:
 ///
@@ -133,7 +137,7 @@ pub fn run_with_limit<R: Source, W: Sink>(
     }
 }
 
-/// Calls `run_with_limit` with the depth limit 128.
+/// Like `run_with_limit`, with a limit of 128 on the depth of values and on the number of parts of a key.
 pub fn run<R: Source, W: Sink>(alloc: Global, reader: &mut R, writer: &mut W) -> u8
     requires reader { R.failed reader.old ≡ false }
     requires writer { W.failed writer.old ≡ false }

@@ -15,7 +15,7 @@ pub trait Sink {
     ghost failed: { Self → Bool };
 
     /// Writes bytes from the front of the buffer, and returns how many were written. A write fails if it returns an
-    /// error, or accepts no byte of a buffer that is not empty; `has_failed` then returns true from now on.
+    /// error, or accepts no byte of a buffer that is not empty; from then on, `has_failed` returns `true`.
     fn write(&mut self, buf: &[u8]) -> io::Result<usize>
         ensures bound { WritesAtMost result buf.now }
         ensures bytes { WriteAppends (contents self.old) (contents self.new) result buf.now }

@@ -15,7 +15,7 @@ pub trait Source {
     ghost failed: { Self → Bool };
 
     /// Reads bytes into the front of the buffer, and returns how many were read. 0 means the end of the input, unless
-    /// the buffer is empty. If a read returns an error, `has_failed` returns true from now on.
+    /// the buffer is empty. Once a read has returned an error, `has_failed` returns `true`.
     fn read(&mut self, buf: &mut [u8]) -> io::Result<usize>
         ensures bound { ReadsAtMost result buf.new }
         ensures bytes { ReadConsumes (remaining self.old) (remaining self.new) result buf.new }

@@ -17,7 +17,7 @@ use Rattle.toml_span_load.specs.declared.LoadError.{LoadError}
 use Rattle.toml_span_load.specs.declared.LoadError.TheVariants.{Memory, Io, Reported}
 use Rattle.toml_span_load.specs.declared.Unreadable.{Unreadable}
 
--- the message for a file with this name and an error of the system with this message
+-- the message for the file with the first text as its name, where the second text is the system's message
 unfoldable pub unreadable_text : List ℕ → List ℕ → List ℕ
 unreadable_text name cause = codes "cannot read `" ++ visible name ++ codes "`: " ++ cause
 
@@ -25,13 +25,14 @@ abbrev pub IsUnreadable : List ℕ → Unreadable → Type 0
 IsUnreadable name u =
     (string_bytes u.name ≡ name) × ((cause : List ℕ) × (string_bytes u.text ≡ unreadable_text name cause))
 
--- `open`: the file with this name can't be read, or an allocation failed
+-- The error of `open`: the file with this name can't be read, or an allocation failed.
 abbrev pub NotOpened : List ℕ → LoadError → Type 0
 NotOpened name (Memory e) = ⊤
 NotOpened name (Io u) = IsUnreadable name u
 NotOpened name (Reported r) = ⊥
 
--- Reading the text as the type returns errors, and these are their reports; or an allocation failed.
+-- The error of `read`: reading the text as the type returns errors, and these are their reports; or an allocation
+-- failed.
 abbrev pub NotLoaded : {T : Type 0} → (Node → Result T Errors → Node → Type 0) → List ℕ → List ℕ → LoadError → Type 0
 NotLoaded reads name text (Memory e) = ⊤
 NotLoaded reads name text (Io u) = ⊥
@@ -44,15 +45,15 @@ abbrev pub AreShown : {T : Type 0} → Result T (Stop Errors) → List ErrorCont
 AreShown read warnings name text reports out =
     AreReportsOf read warnings text reports × AreReportTexts styles.Plain name text reports out
 
--- `read_with_warnings`: what the text was read as, with the reports of the warnings
+-- The result of `read_with_warnings`: the text is read as this value, and these are the reports of the warnings.
 abbrev pub IsLoaded : {T : Type 0} → (Node → Result T Errors → List ErrorContent → List ErrorContent → Type 0) → List ℕ
     → List ℕ → T → List ReportContent → List ℕ → Type 0
 IsLoaded reads name text x reports out =
     (warnings : List ErrorContent) × IsReadWithWarnings reads text (Ok x) [] warnings
     × AreShown (Ok x) warnings name text reports out
 
--- Reading the text as the type returns errors, and these are the reports of the warnings and of the errors; or an
--- allocation failed.
+-- The error of `read_with_warnings`: reading the text as the type returns errors, and these are the reports of the
+-- warnings and of the errors; or an allocation failed.
 abbrev pub NotLoadedWithWarnings : {T : Type 0}
     → (Node → Result T Errors → List ErrorContent → List ErrorContent → Type 0) → List ℕ → List ℕ → LoadError → Type 0
 NotLoadedWithWarnings reads name text (Memory e) = ⊤
@@ -67,7 +68,7 @@ abbrev pub failed : Stop Errors → reported.Reported → LoadError
 failed (stops.Fault faults) r = Reported r
 failed (stops.Memory e) r = Memory e
 
--- what an error displays
+-- the text that `Display` writes for an error
 abbrev pub shown : LoadError → List ℕ
 shown (Memory e) = codes "memory allocation failed"
 shown (Io u) = string_bytes u.text

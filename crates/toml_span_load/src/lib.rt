@@ -27,7 +27,8 @@ pub enum LoadError {
     Memory(AllocError),
     /// The file can't be read, or is not valid UTF-8.
     Io(Unreadable),
-    /// The text is not valid TOML, or does not fit the type. These are the reports of all errors.
+    /// The text is not valid TOML, or does not fit the type. These are the reports of all errors and, for a type that
+    /// warns, of its warnings.
     Reported(Reported),
 }
 
@@ -78,8 +79,8 @@ pub struct Loaded<T> {
 
 /// A file's name, which reports print, and its text.
 ///
-/// A value that is read from it may borrow from the text. The errors of a read do not: `let file = TextFile::open(&rt,
-/// "settings.toml")?; file.read::<Settings>(alloc)`.
+/// A value that is read from the file may borrow from its text. The errors of a read do not, so a function can return
+/// them: `let file = TextFile::open(&rt, "settings.toml")?; file.read::<Settings>(alloc)`.
 #[derive(Debug, Drop)]
 pub struct TextFile {
     pub name: String,
@@ -87,8 +88,8 @@ pub struct TextFile {
 }
 
 impl TextFile {
-    /// Reads the file with this name. Fails with `Io` if it can't be read or is not valid UTF-8, or if an allocation
-    /// fails.
+    /// Reads the file with this name. Fails with `LoadError::Io` if it can't be read or is not valid UTF-8, and with
+    /// `LoadError::Memory` if an allocation fails.
     pub fn open<R: Files + Alloc<A = Global>>(rt: &R, name: &str) -> Result<TextFile, LoadError>
         ensures name { IfOk result (λ file. string_bytes file.name ≡ name.now) }
         ensures refused { IfErr result (NotOpened name.now) }
@@ -107,8 +108,8 @@ impl TextFile {
         }
     }
 
-    /// Reads the text as a type, as `from_str` does. Fails with the reports of all errors, without colors, or if an
-    /// allocation fails.
+    /// Reads the text as a type, like `toml_span::from_str`. Fails with `LoadError::Reported`, which has the reports of
+    /// all errors, without colors, or with `LoadError::Memory` if an allocation fails.
     ///
     /// For a type that warns, which does not implement `Deserialize`, use `read_with_warnings`.
     pub fn read<'de, T: Deserialize<'de>>(&'de self, alloc: Global) -> Result<T, LoadError>
@@ -125,8 +126,9 @@ impl TextFile {
         }
     }
 
-    /// Reads the text as a type that warns, as `from_str_with_warnings` does. Returns the value with the reports of its
-    /// warnings. Fails with the reports of all warnings and errors, without colors, or if an allocation fails.
+    /// Reads the text as a type that warns, like `toml_span::from_str_with_warnings`. Returns the value with the
+    /// reports of its warnings. Fails with `LoadError::Reported`, which has the reports of all warnings and errors,
+    /// without colors, or with `LoadError::Memory` if an allocation fails.
     pub fn read_with_warnings<'de, T: DeserializeWithWarnings<'de>>(
         &'de self,
         alloc: Global,
@@ -151,8 +153,8 @@ impl TextFile {
     }
 }
 
-/// Returns the reports of the warnings of a read and, if it failed, of its errors, with their text. Fails if the read
-/// failed with `Stop::Memory`, or if an allocation fails.
+/// Returns the reports of a read and their rendered text: those of its warnings and, if it failed, those of its errors.
+/// Fails if the read failed with `Stop::Memory`, or if an allocation fails.
 fn shown_read<T>(
     alloc: Global,
     read: &Result<T, Stop<DeserError<'_>>>,
@@ -168,7 +170,8 @@ fn shown_read<T>(
     Ok(Reported { reports, text })
 }
 
-/// Returns the error of a read that failed with `stop` and has these reports.
+/// Returns the error of a read that failed with `stop`: `LoadError::Memory` if an allocation failed, otherwise
+/// `LoadError::Reported` with these reports.
 fn failed(stop: Stop<DeserError<'_>>, reported: Reported) -> LoadError
     ensures { result ≡ spec.failed stop.entry reported }
 {

@@ -40,7 +40,8 @@ abbrev pub string_error : ℕ → ℕ → Error → PathError
 string_error i j (errors.UnterminatedString at) = error i faults.Open
 string_error i j other = error j faults.Quoted
 
--- There is no key at i, with this error: neither a bare key nor a quote, a string of several lines, or no string.
+-- No key can be read at i, and the error says why: neither a bare key nor a quote is there, or the string is a
+-- multi-line string, or it is not valid.
 abbrev pub NoKey : List ℕ → ℕ → PathError → Type 0
 NoKey text i e =
     ((is_keylike (slice_index text i) ≡ false) × (opens_string (slice_index text i) ≡ false) × (e ≡ error i faults.Key))
@@ -55,7 +56,7 @@ abbrev pub is_position : List ℕ → Bool
 is_position digits =
     list_all is_ascii_digit digits && (length digits == 1 || not (slice_index digits 0 == digit_zero))
 
--- a position of these digits, after which a bracket closes at k
+-- whether the digits are a position, and a closing bracket is at k
 abbrev pub is_closed : List ℕ → List ℕ → ℕ → Bool
 is_closed text digits k = is_position digits && slice_index text k == right_bracket
 
@@ -65,7 +66,7 @@ IsPosition text i j digits =
     (k : ℕ) × (slice_index text i ≡ left_bracket) × RunAt is_keylike text (i + 1) k digits
     × (is_closed text digits k ≡ true) × (j ≡ k + 1)
 
--- There is no position in brackets at i, with this error.
+-- No position in brackets can be read at i, and the error says why.
 abbrev pub NoPosition : List ℕ → ℕ → PathError → Type 0
 NoPosition text i e =
     (((slice_index text i == left_bracket) ≡ false) × (e ≡ error i faults.Step))
@@ -115,7 +116,7 @@ IsPathOf None text all = IsDotted text all
 abbrev pub IsPath : List ℕ → Outcome → Type 0
 IsPath text all = IsPathOf (pointer_segments text) text all
 
--- the code returns what is read, unless an allocation fails
+-- The outcome satisfies `is`, unless an allocation failed.
 abbrev pub Reads : {Z : Type 0} → (Outcome → Type 0) → Result (Vec (CowStr Z) Global) (Stop PathError) → Type 0
 Reads is (Ok parts) = is (Ok (map cow_str_bytes parts.items))
 Reads is (Err (memory_or.Fault e)) = is (Err e)
@@ -129,6 +130,6 @@ abbrev pub named_by : Outcome → Node → Option Node
 named_by (Ok segments) n = named segments n
 named_by (Err e) n = None
 
--- what a path names in a tree: nothing, if it can't be read
+-- the value that a path names in a tree; None if the path names nothing, or can't be read
 abbrev pub Locates : List ℕ → Node → Option Node → Type 0
 Locates path n place = (all : Outcome) × IsPath path all × (place ≡ named_by all n)

@@ -11,8 +11,8 @@ use Rattle.toml_span_places.specs.Keys.{is_quote}
 abbrev pub byte_before : List ℕ → ℕ → ℕ → ℕ
 byte_before text at back = if nat_lt at back then 0 else slice_index text (at - back)
 
--- The end of the opening quotes of a string whose content begins at an offset. Between them may be a line end, which is
--- dropped.
+-- The end of the opening quotes of a string whose content begins at an offset. A line end may be between the quotes and
+-- the content; it is dropped.
 abbrev pub after_quotes : List ℕ → ℕ → ℕ
 after_quotes text from =
     if not (byte_before text from 1 == line_feed) then from

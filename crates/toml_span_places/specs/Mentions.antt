@@ -26,7 +26,7 @@ Mentioned = Path × Details
 abbrev pub mentioned : Mention → Mentioned
 mentioned m = (steps_of m.path, m.details)
 
--- the path of the key, or of an element of the array there
+-- the path p or, given a position, the path of that element of the array at p
 abbrev pub inside : Path → Option ℕ → Path
 inside p None = p
 inside p (Some i) = with_position p i
@@ -111,7 +111,7 @@ section_mentions with_assignments counts b =
     header_mentions counts b [] b.header
     ++ (if with_assignments then pair_mentions (section_path counts b) (pairs_onto b.assignments no_pairs) else [])
 
--- Those in sections that follow others. The earlier ones are listed with the latest of them first.
+-- The mentions in sections that follow others. The others are in the first list, the latest first.
 abbrev pub mentions_after : Bool → List ParsedSection → List ParsedSection → List Mentioned
 mentions_after with_assignments earlier [] = []
 mentions_after with_assignments earlier (b ∷ bs) =

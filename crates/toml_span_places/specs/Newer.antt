@@ -1,5 +1,6 @@
--- What a text uses that TOML 1.0 lacks, in the order of the text: what TOML 1.1 added ("Inline Table", "String", "Local
--- Time"), and two things that only this parser accepts: line ends around the `=` of a pair, and the byte order mark.
+-- The uses of syntax that TOML 1.0 lacks, in the order of the text: forms that TOML 1.1 added ("Inline Table",
+-- "String", "Local Time"), and forms that only this parser accepts: line ends and comments around the `=` of a pair,
+-- and the byte order mark.
 use Rattle.std.specs.Prelude.{ℕ, zero, suc, ◌+◌, ◌-◌, Bool, true, false, not, ◌==◌, ◌&&◌, ◌||◌, nat_le, nat_lt, is_none}
 use Rattle.std.specs.Prelude.{List, [], ◌∷◌, ◌++◌, length, slice_index, if◌then◌else◌, Option, Some, None, unwrap_or}
 use Rattle.std.specs.List.{flat_map}
@@ -36,13 +37,13 @@ escape text is_letter at =
 abbrev pub begins_escape : List ℕ → Bool → ℕ → Bool
 begins_escape text is_letter at = not is_letter && slice_index text at == backslash
 
--- The uses in this many bytes from an offset on. The first byte is the letter of an escape or not.
+-- The uses in this many bytes from an offset on. `is_letter` says whether the first byte is the letter of an escape.
 abbrev pub escapes : List ℕ → Bool → ℕ → ℕ → List NewerForm
 escapes text is_letter at zero = []
 escapes text is_letter at (suc n) =
     escape text is_letter at ++ escapes text (begins_escape text is_letter at) (at + 1) n
 
--- The uses in the content of a string or key. Only basic strings have escapes: a quotation mark follows the content.
+-- The uses in the content of a string or key. Only basic strings have escapes; a quotation mark follows their content.
 abbrev pub string_forms : List ℕ → Span → List NewerForm
 string_forms text span =
     if nat_lt span.end (length text) && slice_index text span.end == quotation_mark
@@ -54,7 +55,8 @@ key_forms text keys = flat_map (λ key. string_forms text key.span) keys
 
 -- ---- dates and times
 
--- `partial-time = time-hour ":" time-minute [ ":" time-second [ time-secfrac ] ]`, alone or after a date
+-- `partial-time = time-hour ":" time-minute [ ":" time-second [ time-secfrac ] ]`: the offset at which it begins, alone
+-- or after a date
 abbrev pub time_start : List ℕ → ℕ
 time_start date = if slice_index date 2 == colon then 0 else 11
 
@@ -81,7 +83,7 @@ comment_kind AtEquals = kinds.CommentAtEquals
 comment_kind BeforePair = kinds.Comment
 comment_kind AfterLast = kinds.Comment
 
--- the comment that ends at an offset, if it has started
+-- the comment from its start, if a comment has started, to the offset `end`
 abbrev pub comment_form : Gap → Option ℕ → ℕ → List NewerForm
 comment_form gap None end = []
 comment_form gap (Some start) end = form (comment_kind gap) start end
@@ -97,7 +99,7 @@ is_after_last BeforePair = false
 is_after_last AtEquals = false
 is_after_last AfterLast = true
 
--- what the byte at an offset is or ends; `comment` is the start of the comment that contains it
+-- the uses that end with the byte at an offset; `comment` is the start of the comment that contains the byte
 abbrev pub byte_forms : List ℕ → Gap → Option ℕ → ℕ → List NewerForm
 byte_forms text gap comment at =
     if slice_index text at == line_feed then line_end text gap comment at
@@ -112,7 +114,7 @@ next_comment text comment at =
     else if slice_index text at == hash then Some (unwrap_or comment at)
     else comment
 
--- a byte that does not belong to a key, a value or a brace
+-- whether a byte may occur in a gap, or between two gaps, outside comments
 abbrev pub is_between : ℕ → Bool
 is_between c =
     is_blank c || (c == line_feed || c == carriage_return || c == hash || c == comma || c == equals)

@@ -26,7 +26,7 @@ is_control c = (nat_lt c space && not (c == tab)) || c == 0x7F
 abbrev pub digit : ℕ → List ℕ
 digit n = encode_utf8 (digit_char n)
 
--- `\x1f`
+-- an escape by number, such as `\x1f`
 abbrev pub number_escape : ℕ → List ℕ
 number_escape c = codes "\\x" ++ (digit (c / 16) ++ digit (c % 16))
 
@@ -45,14 +45,14 @@ basic text = flat_map basic_char (chars text)
 
 -- ---- strings and keys
 
--- the bytes that must be escaped in a basic string, and those that must not occur in a literal string
+-- whether the byte must be escaped in a basic string; then, whether it must not occur in a literal string
 abbrev pub is_escaped : ℕ → Bool
 is_escaped c = c == quotation_mark || c == backslash
 
 abbrev pub is_unliteral : ℕ → Bool
 is_unliteral c = c == apostrophe || is_control c
 
--- whether a string is shorter as a literal string
+-- whether the text can be a literal string, and is shorter as one
 abbrev pub is_literal : List ℕ → Bool
 is_literal text = list_any is_escaped text && not (list_any is_unliteral text)
 

@@ -31,7 +31,8 @@ spot place = record {
 abbrev pub holds : Span → ℕ → Bool
 holds span offset = nat_le span.start offset && nat_lt offset span.end
 
--- The value or its key, whichever contains the offset. If both do, it is the one that starts last.
+-- The value or its key, whichever contains the offset. If both do, it is the one that starts last, and if neither does,
+-- the value.
 abbrev pub chosen : ℕ → Span → Option Span → Part × Span
 chosen offset literal None = (parts.Value, literal)
 chosen offset literal (Some quoted) =

@@ -1,4 +1,4 @@
--- How the functions share the work. No clause of a public result depends on it.
+-- How the functions share the work. Nothing else in `specs/` cites it.
 pub mod Dotted
 pub mod Opened
 pub mod Spelled

@@ -151,7 +151,8 @@ fn are_digits(bytes: &[u8]) -> bool
     bytes.iter().all(|byte| is_digit(*byte))
 }
 
-/// Returns whether a run of bare key bytes is a position: digits without a leading zero, or `0`.
+/// Returns whether a run of bare key bytes, which must not be empty, is a position: digits without a leading zero, or
+/// `0`.
 fn is_position(run: &str) -> bool
     ensures { result ≡ spec.is_position run.now }
 {
@@ -167,7 +168,7 @@ fn is_closed(path: &str, digits: &str, end: usize) -> bool
 }
 
 /// Reads the position after the opening bracket at the offset `at`. Returns its digits and the offset after the closing
-/// bracket. Fails if anything else is there.
+/// bracket. Fails if no position follows, or no closing bracket follows the position.
 #[tactic(auto, using(toml_span_read::proofs::Places::run_some))]
 fn opened_at<'p>(path: &'p str, at: usize) -> Result<(CowStr<'p>, usize), Stop<PathError>>
     requires { slice_index path.now at ≡ left_bracket }
@@ -290,7 +291,8 @@ fn position(segment: &str) -> Option<usize>
     segment.parse::<usize>().ok()
 }
 
-/// Returns the element at the position that a segment spells, if there is one.
+/// Returns the element at the position that a segment spells. Returns `None` if the segment spells no position, or if
+/// the array has no element there.
 fn array_entry<'v, 'de>(array: &'v Array<'de>, segment: &str) -> Option<&'v Value<'de>>
     ensures { option_map (λ v. view v.now) result
         ≡ option_and_then (λ i. get_item i (items_view array.now.items)) (position_of segment.now) }
@@ -298,7 +300,7 @@ fn array_entry<'v, 'de>(array: &'v Array<'de>, segment: &str) -> Option<&'v Valu
     array.get(position(segment)?)
 }
 
-/// Returns the value of the entry with this name, if there is one.
+/// Returns the value of the entry with this name, or `None` if the table lacks it.
 fn entry_named<'v, 'de>(table: &'v Table<'de>, name: &str) -> Option<&'v Value<'de>>
     ensures { option_map (λ v. view v.now) result ≡ get_member name.now (members_view table.now.entries) }
 {
@@ -310,7 +312,8 @@ fn entry_named<'v, 'de>(table: &'v Table<'de>, name: &str) -> Option<&'v Value<'
     None
 }
 
-/// Returns the entry of a table, or the element of an array, that a segment names.
+/// Returns the value that a segment names: an entry of a table, or an element of an array. Returns `None` if it names
+/// nothing.
 fn entry_of<'v, 'de>(inner: &'v ValueInner<'de>, segment: &str) -> Option<&'v Value<'de>>
     ensures { option_map (λ v. view v.now) result ≡ entry segment.now (inner_view inner.now) }
 {
@@ -321,8 +324,8 @@ fn entry_of<'v, 'de>(inner: &'v ValueInner<'de>, segment: &str) -> Option<&'v Va
     }
 }
 
-/// Returns the entry or element of a value that a segment names, unless the content of that entry or element, or of the
-/// value itself, has been taken.
+/// Returns the entry or element of `value` that a segment names. Returns `None` if the segment names nothing, or if the
+/// content of the entry or element, or of `value`, has been taken.
 fn child_of<'v, 'de>(value: &'v Value<'de>, segment: &str) -> Option<&'v Value<'de>>
     ensures { option_map (λ v. view v.now) result ≡ untaken_entry segment.now (view value.now) }
 {

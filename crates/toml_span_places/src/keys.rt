@@ -46,7 +46,7 @@ pub(crate) fn is_quote(byte: u8) -> bool
 
 /// Returns the span of a key, or of a single-line string, with its quotes. Returns the span of a bare key unchanged.
 ///
-/// `span` is the span in the tree: that of the content or, if the content is empty, of the opening quote.
+/// `span` is the span in the tree: it covers the content or, if the content is empty, the opening quote.
 pub fn with_quotes(text: &str, span: Span) -> Span
     ensures { result ≡ spec.with_quotes text.now span }
 {
@@ -65,7 +65,7 @@ pub fn with_quotes(text: &str, span: Span) -> Span
     }
 }
 
-/// Returns the key in a mention, if there is one.
+/// Returns the key in a mention, or `None` if the mention has no key.
 fn key_of<'t>(text: &str, mention: Mention<'t>) -> Option<KeyPlace<'t>>
     ensures { option_map key_mention result ≡ spec.mentioned_key text.now (mentioned mention.entry) }
 {

@@ -40,8 +40,8 @@ fn extent_of(assignment: &Assignment<'_>) -> Span
     assignment.extent
 }
 
-/// Returns the span of an assignment's lines: with the spaces and tabs before it, a comment after it, and the line end.
-/// To remove the assignment, remove this span.
+/// Returns the span of an assignment's lines, including the spaces and tabs before it, a comment after it, and the line
+/// end. To remove the assignment, remove this span.
 ///
 /// `assignment` must be from a section that `read_sections` returned for the text, and must not be a pair of an inline
 /// table.
@@ -56,7 +56,7 @@ pub fn assignment_lines(text: &str, assignment: &Assignment<'_>) -> Span
 }
 
 /// Returns the end of the line of a section's last assignment or, without assignments, of its header. `header` is the
-/// span of the header's line, and `extent` that of the section.
+/// span of the header's line, and `extent` the span of the section.
 pub(crate) fn body_end(text: &str, header: Span, extent: Span) -> usize
     ensures { result ≡ spec.body_end text.now header extent }
 {
@@ -68,7 +68,7 @@ pub(crate) fn body_end(text: &str, header: Span, extent: Span) -> usize
 }
 
 /// Returns the span of a section's lines: from the line of its header or, without a header, of its first assignment, to
-/// the end of the line of its last assignment.
+/// the end of the line of its last assignment or, without assignments, of its header.
 ///
 /// `section` must be one that `read_sections` returned for the text.
 pub fn section_lines(text: &str, section: &Section<'_>) -> Span

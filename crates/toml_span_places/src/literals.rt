@@ -46,7 +46,7 @@ fn quotes_before(text: &str, at: usize) -> usize
 }
 
 /// Returns the span of a string with its quotes, given the span of its content. `is_empty` says whether the value is
-/// empty; the given span may then be that of the opening quote.
+/// empty; `span` may then be the span of the opening quote.
 fn string_literal(text: &str, span: Span, is_empty: bool) -> Span
     ensures { result ≡ spec.string_literal text.now span is_empty }
 {

@@ -21,30 +21,31 @@ use toml_span_tree::nodes::Step;
 /// A mention, without its path.
 #[derive(Clone, Copy)]
 pub(crate) struct Details {
-    /// If the mention names an element of an array of tables, the position of that element; `path` leads to the array.
+    /// If the mention names an element of an array of tables, the position of that element. The path of the mention
+    /// then leads to the array.
     pub element: Option<usize>,
     /// Where the key occurs. `None` for the root and for the braces of an inline table, which have no key.
     pub role: Option<Role>,
     /// How the mention names a table. `None` for the root, and for a key to which a value is assigned.
     pub form: Option<TableForm>,
-    /// The bytes of the key without its quotes. Without a key, it is `span`.
+    /// The bytes of the key without its quotes; for an empty key, its opening quote. Without a key, it is `span`.
     pub key: Span,
     /// The line of the header; the assignment, from its key to the end of its value; or the inline table with its
     /// braces.
     pub span: Span,
-    /// The section of the header. Without a header, it is `span`.
+    /// The section of the header. For a mention without a header, it is `span`.
     pub extent: Span,
 }
 
 /// A place in the text that names a table or a value.
 #[derive(Drop)]
 pub(crate) struct Mention<'t> {
-    /// The path from the root to what the key names.
+    /// The path from the root to what the mention names or, for an element of an array of tables, to the array.
     pub path: Vec<Step<'t>>,
     pub details: Details,
 }
 
-/// Appends a mention with a copy of the path. Fails if an allocation fails.
+/// Appends a mention with these details and a copy of the path. Fails if an allocation fails.
 fn push<'t>(
     alloc: Global,
     path: &[Step<'t>],
@@ -79,7 +80,8 @@ fn by_header(
     }
 }
 
-/// Returns the details of a mention in an assignment or by braces.
+/// Returns the details of a mention by a key of an assignment, or by the braces of an inline table. `span` is the span
+/// of the assignment or of the braces.
 fn by_value(role: Option<Role>, form: Option<TableForm>, key: Span, span: Span) -> Details
     ensures { result ≡ spec.by_value role form key span }
 {
@@ -93,8 +95,8 @@ fn by_value(role: Option<Role>, form: Option<TableForm>, key: Span, span: Span) 
     }
 }
 
-/// Appends the mention by `key`, the last part of a section's header. `path` is the path that the header names. Fails
-/// if an allocation fails.
+/// Appends the mention by `key`, the last part of a section's header. `path` is the path that the header names, and
+/// `opened` counts the elements that earlier headers added to arrays of tables. Fails if an allocation fails.
 fn push_last<'t, 'de>(
     alloc: Global,
     section: &Section<'_>,
@@ -126,7 +128,8 @@ fn push_last<'t, 'de>(
 }
 
 /// Appends a mention for each of `parts`, the parts of a section's header that come after those in `path`. Without a
-/// header, appends the mention of the root. Returns the path that the header names. Fails if an allocation fails.
+/// header, appends the mention of the root. `opened` counts the elements that earlier headers added to arrays of
+/// tables. Returns the path that the header names. Fails if an allocation fails.
 fn push_header<'t, 'de>(
     alloc: Global,
     section: &Section<'_>,
@@ -271,8 +274,8 @@ fn push_items<'t, 'de>(
     Ok(())
 }
 
-/// Appends the mentions in a section: in its header and, if `with_assignments`, in its assignments. Counts in `opened`
-/// the element that a header with double brackets adds. Fails if an allocation fails.
+/// Appends the mentions in a section's header and, if `with_assignments`, in its assignments. Counts in `opened` the
+/// element that a header with double brackets adds. Fails if an allocation fails.
 fn push_section<'t, 'de>(
     alloc: Global,
     section: &'t Section<'de>,
@@ -299,8 +302,8 @@ fn push_section<'t, 'de>(
     )
 }
 
-/// Lists the mentions in these sections, in the order of the text: in their headers and, if `with_assignments`, in
-/// their assignments.
+/// Lists the mentions in the headers of these sections and, if `with_assignments`, in their assignments, in the order
+/// of the text.
 ///
 /// Fails if an allocation fails, for the list, for a path, or for the count of the elements of an array of tables.
 pub(crate) fn mentions<'t, 'de>(

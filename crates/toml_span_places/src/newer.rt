@@ -1,4 +1,4 @@
-//! Lists what a text uses that TOML 1.0 lacks.
+//! Lists the uses of syntax that TOML 1.0 lacks.
 ghost use Rattle.std.specs.Prelude.{◌≡◌, ◌<◌, ◌+◌, ◌++◌, IfOk, OnOk, map, length};
 ghost use Rattle.toml_span_read.specs.Data.{parsed_section, parsed_value, parsed_assignment, parts, onto, no_items};
 ghost use Rattle.toml_span_read.specs.Data.{pairs_onto, no_pairs, simple_key};
@@ -94,7 +94,7 @@ fn push_escape(
     }
 }
 
-/// Returns whether the byte after `at` is the letter of an escape. `is_letter` says the same of the byte at `at`.
+/// Returns whether the byte after `at` is the letter of an escape. `is_letter` says whether the byte at `at` is one.
 fn begins_escape(text: &str, is_letter: bool, at: usize) -> bool
     ensures { result ≡ spec.begins_escape text.now is_letter at }
 {
@@ -141,16 +141,16 @@ fn push_parts<'de>(
 
 // ---- dates and times
 
-/// Returns the offset at which the time begins: 0 in a time, otherwise 11, which is after the end of a date without a
-/// time.
+/// Returns the offset at which the time begins: 0 for a time alone, otherwise 11, which is after the end of a date
+/// alone.
 fn time_start(date: &str) -> usize
     ensures { result ≡ spec.time_start date.now }
 {
     if byte_at(date, 2) == b':' { 0 } else { 11 }
 }
 
-/// Appends the hours and minutes of a date or time, if seconds do not follow them. `span` is the span of the value.
-/// Fails if an allocation fails.
+/// Appends the form `NoSeconds` if the date or time has hours and minutes, and no seconds follow them. `span` is the
+/// span of the value. Fails if an allocation fails.
 fn push_date<'de>(
     date: &DateText<'de>,
     span: Span,
@@ -202,8 +202,8 @@ fn line_end_kind(gap: Gap) -> NewerKind
     }
 }
 
-/// Appends the line end whose line feed is at the offset `at` and, before it, the comment that it ends. `comment` is
-/// the offset at which this comment begins, if there is one. Fails if an allocation fails.
+/// Appends the line end in this gap whose line feed is at the offset `at` and, before it, the comment that it ends.
+/// `comment` is the offset at which this comment begins, if there is one. Fails if an allocation fails.
 fn push_line_end(
     text: &str,
     gap: Gap,
@@ -221,9 +221,9 @@ fn push_line_end(
     push(line_end_kind(gap), end, at + 1, out)
 }
 
-/// Appends the newer forms that end with the byte at the offset `at`: for a line feed, the comment before the line end
-/// and the line end; for a comma outside comments, after the last pair, the trailing comma. `comment` is the offset at
-/// which the comment around the byte begins, if there is one. Fails if an allocation fails.
+/// Appends the newer forms in this gap that end with the byte at the offset `at`: for a line feed, the comment before
+/// the line end and the line end; for a comma outside comments, after the last pair, the trailing comma. `comment` is
+/// the offset at which the comment around the byte begins, if there is one. Fails if an allocation fails.
 fn push_byte(
     text: &str,
     gap: Gap,
@@ -250,16 +250,16 @@ fn is_between(byte: u8) -> bool
     is_blank(byte) || matches!(byte, b'\n' | b'\r' | b'#' | b',' | b'=')
 }
 
-/// Returns whether the gap ends at the offset `at`: outside comments, at a key, a value or a brace. `comment` is as in
-/// `push_byte`.
+/// Returns whether the gap ends at the offset `at`: outside comments, at a key, a value or a brace. `comment` is the
+/// offset at which the comment around the byte at `at` begins, if there is one.
 fn ends_gap(text: &str, comment: Option<usize>, at: usize) -> bool
     ensures { result ≡ spec.ends_gap text.now comment at }
 {
     comment.is_none() && !is_between(byte_at(text, at))
 }
 
-/// Returns the offset at which the comment around the byte after `at` begins, if there is one. `comment` is the same
-/// for the byte at `at`.
+/// Returns the offset at which the comment around the byte after `at` begins, or `None` if that byte is not in a
+/// comment. `comment` is the same for the byte at `at`.
 fn next_comment(text: &str, comment: Option<usize>, at: usize) -> Option<usize>
     ensures { result ≡ spec.next_comment text.now comment at }
 {
@@ -406,8 +406,8 @@ fn push_assignments<'de>(
     Ok(())
 }
 
-/// Lists what these sections use that TOML 1.0 lacks, in the order of the text: forms that TOML 1.1 added, and forms
-/// that only this parser accepts.
+/// Lists each use of syntax that TOML 1.0 lacks in these sections, in the order of the text: forms that TOML 1.1 added,
+/// and forms that only this parser accepts.
 ///
 /// `sections` must be what `read_sections` returned for the text. Takes time linear in the length of the text. Fails
 /// only if an allocation fails.

@@ -23,7 +23,7 @@ pub(crate) struct Opened<'t> {
     elements: BTreeMap<Vec<SortedStep<'t>>, usize>,
 }
 
-/// Converts a step to one with an order.
+/// Converts a step to a step with an order.
 fn sorted_step<'t>(step: Step<'t>) -> SortedStep<'t>
     ensures { spec.sorted_step result ≡ step_of step.entry }
 {
@@ -33,7 +33,7 @@ fn sorted_step<'t>(step: Step<'t>) -> SortedStep<'t>
     }
 }
 
-/// Converts a path, to look it up in the map. Fails if an allocation fails.
+/// Converts a path to steps that have an order, as the keys of the map need. Fails if an allocation fails.
 fn sorted_path<'t>(alloc: Global, path: &[Step<'t>]) -> Result<Vec<SortedStep<'t>>, AllocError>
     ensures { IfOk result (λ sorted. map spec.sorted_step sorted.items ≡ map step_of path.now) }
 {
@@ -90,7 +90,8 @@ pub(crate) fn add<'t>(
 }
 
 /// Returns the path of the table that a section fills, given the path of its header. If the header has double brackets
-/// (`array`), counts the element that it adds, and appends its position. Fails if an allocation fails.
+/// (`array`), counts the element that the header adds, and appends the position of this element to the path. Fails if
+/// an allocation fails.
 pub(crate) fn section_path<'t>(
     alloc: Global,
     array: bool,

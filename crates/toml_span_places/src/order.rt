@@ -20,11 +20,11 @@ fn first_start(node: &Visited<'_, '_>) -> usize
     }
 }
 
-/// Lists all values of a tree, as `nodes` does, but in the order in which they begin in the text. A value begins with
-/// its key or its span, whichever comes first, and a table with the first header that names it.
+/// Lists `value` and all values inside it, with their paths and keys, in the order in which they begin in the text. A
+/// value begins with its key or its span, whichever comes first, and a table with the first header that names it.
 ///
-/// Values that begin at the same byte are in the order of `nodes`, a value before the values inside it: for `[[a]]`,
-/// the array before its first element. Fails if an allocation fails, for the list or for a path.
+/// Values that begin at the same byte are in the order of `toml_span_tree::nodes`, a value before the values inside it:
+/// for `[[a]]`, the array before its first element. Fails if an allocation fails, for the list or for a path.
 pub fn nodes_in_text_order<'t, 'de>(
     alloc: Global,
     value: &'t Value<'de>,

@@ -19,8 +19,8 @@ use toml_span_tree::nodes::Step;
 pub struct InsertionPoint {
     /// The byte offset.
     pub offset: usize,
-    /// Whether the line before the offset has no line end, so that one must be written first. That happens only at the
-    /// end of the text.
+    /// Whether the line before the offset has no line end, so that a line end must be written first. That happens only
+    /// at the end of the text.
     pub needs_line_end: bool,
 }
 
@@ -85,8 +85,8 @@ fn last_point(
 /// header of its own, because only longer headers or dotted keys name it, because it is an inline table or an array, or
 /// because it does not exist.
 ///
-/// Write the line with a line end after it and, if `needs_line_end`, with one before it. `sections` must be what
-/// `read_sections` returned for the text. Fails if an allocation fails.
+/// Write the line with a line end after it and, if `needs_line_end`, another line end before it. `sections` must be
+/// what `read_sections` returned for the text. Fails if an allocation fails.
 pub fn insertion_point<'t, 'de>(
     alloc: Global,
     text: &str,

@@ -171,8 +171,8 @@ fn spelled_key(alloc: Global, name: &str) -> Result<String, AllocError>
     }
 }
 
-/// Returns the shortest key that spells the name: the name itself if it consists of ASCII letters, digits, `-` and `_`,
-/// otherwise a string.
+/// Returns the shortest key that spells the name: the name itself if it is not empty and consists of ASCII letters,
+/// digits, `-` and `_`, otherwise a string.
 ///
 /// Wherever a document contains the result, it is read as one simple key with this name, unless the bytes after the
 /// result continue it (see `parts_off` in `toml_span_read`). Fails only if an allocation fails.

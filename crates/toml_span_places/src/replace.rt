@@ -17,7 +17,7 @@ pub struct Replacement<'r> {
     pub text: &'r str,
 }
 
-/// What is wrong with the span of a replacement: see `replace_all`.
+/// What is wrong with the span of a replacement.
 #[derive(Clone, Copy, Debug, PartialEq, Eq, Error)]
 pub enum SpanFault {
     #[error("the span ends before it starts")]
@@ -47,7 +47,7 @@ fn is_boundary(text: &str, at: usize) -> bool
     byte < 0x80 || byte >= 0xC0
 }
 
-/// Returns what is wrong with a span, if anything. `from` is the end of the span before it.
+/// Returns what is wrong with a span, or `None` if the span is valid. `from` is the end of the span before it.
 fn fault_of(text: &str, from: usize, span: Span) -> Option<SpanFault>
     ensures { result ≡ spec.fault_of text.now from span }
 {
@@ -83,8 +83,9 @@ fn push_part(
 
 /// Returns the text with all replacements made. The other bytes are unchanged.
 ///
-/// The spans must be in the order of the text, and must not overlap. Fails with the first span that is invalid
-/// (`Stop::Fault`), or if an allocation fails.
+/// The spans must be in the order of the text, and must not overlap. Fails with `Stop::Fault`, which names the first
+/// replacement whose span is invalid, overlaps an earlier one or precedes it, and with `Stop::Memory` if an allocation
+/// fails.
 pub fn replace_all(
     alloc: Global,
     text: &str,
@@ -121,8 +122,8 @@ fn with_each<'r>(
     Ok(list)
 }
 
-/// Returns the text with each of the spans replaced with the text `with`, or `None` if `replace_all` would refuse a
-/// span. Fails if an allocation fails.
+/// Returns the text with each of the spans replaced with the text `with`. Returns `None` if a span is invalid, or
+/// starts before the end of the span before it. Fails if an allocation fails.
 pub fn replaced(
     alloc: Global,
     text: &str,

@@ -51,7 +51,8 @@ fn form_of(named: Option<TableForm>) -> Option<SectionForm>
     }
 }
 
-/// Returns the span of the lines of a section's assignments, given the mention at its start.
+/// Returns the span of the lines of a section's assignments, given the section's form and the details of the mention at
+/// its start.
 fn body_of(text: &str, form: SectionForm, details: Details) -> Span
     ensures { result ≡ spec.body_of text.now form details }
 {

@@ -48,7 +48,7 @@ fn push_separator(is_first: bool, out: &mut String) -> Result<(), AllocError>
     out.push_str(if is_first { "" } else { ", " })
 }
 
-/// Appends a value. A value that has been taken has no text. Fails if an allocation fails.
+/// Appends a value. Appends nothing for a value that has been taken. Fails if an allocation fails.
 #[cycle(push_value)]
 fn push_value(alloc: Global, value: &Value<'_>, out: &mut String) -> Result<(), AllocError>
     ensures text { OnOk result (string_bytes out.new ≡ string_bytes out.old ++ spec.value_text (view value.now)) }
@@ -125,8 +125,8 @@ fn spelled_value(alloc: Global, value: &Value<'_>) -> Result<String, AllocError>
 ///
 /// Wherever a document contains the result, it is read as this value, unless the bytes after the result continue it
 /// (see `parts_off` in `toml_span_read`). That holds if nothing has been taken from the value (`is_whole`), the value
-/// is not nested deeper than the limit, and the texts of its floats are valid, as in every tree that `parse` returns.
-/// Otherwise it may be read as another value, or not at all. Fails only if an allocation fails.
+/// is not nested deeper than the limit of the read, and the texts of its floats are valid, as in every tree that
+/// `parse` returns. Otherwise it may be read as another value, or not at all. Fails only if an allocation fails.
 pub fn to_toml(alloc: Global, value: &Value<'_>) -> Result<String, AllocError>
     ensures spelling { IfOk result (λ text. string_bytes text ≡ spec.value_text (view value.now)) }
     ensures reads { IfOk result (λ text. ReadsAsValue (view value.now) (string_bytes text)) }

@@ -40,7 +40,7 @@ fn holds(span: Span, offset: usize) -> bool
 
 /// Returns the part, key or value, that contains the offset, with the span of the part. `literal` is the span of the
 /// value, and `quoted` the span of its key, if it has one, both with quotes. If both contain the offset, returns the
-/// one that starts last; if neither does, the value.
+/// one that starts later, or the value if they start together. If neither does, returns the value.
 fn chosen(offset: usize, literal: Span, quoted: Option<Span>) -> (Part, Span)
     ensures { result ≡ spec.chosen offset literal quoted }
 {
@@ -55,7 +55,7 @@ fn chosen(offset: usize, literal: Span, quoted: Option<Span>) -> (Part, Span)
     }
 }
 
-/// Returns the value or its key, whichever contains the offset, or `None` if neither does.
+/// Returns the value of `node` or its key, as `chosen` chooses, or `None` if neither contains the offset.
 fn spot_of<'t, 'de>(text: &str, offset: usize, node: Visited<'t, 'de>) -> Option<NodePlace<'t, 'de>>
     ensures { option_map spot result ≡ spec.spot_of text.now offset (seen node.entry) }
 {
@@ -86,10 +86,10 @@ fn later<'t, 'de>(best: Option<NodePlace<'t, 'de>>, place: NodePlace<'t, 'de>) -
 /// Returns the innermost key or value that contains the byte at `offset`, with its path, or `None` if `offset` is not
 /// below the length of the text.
 ///
-/// Of the keys and values whose spans contain the byte, quotes included, this is the one that starts last, and the
-/// deepest in the tree if several start there. In a header that names a table again, the result is the table, since the
-/// tree keeps only one key of each table. `root` must be the tree that `parse` returned for the text. Fails if an
-/// allocation fails, for the path of a value.
+/// The innermost is the one that starts last among the keys and values whose spans, quotes included, contain the byte.
+/// If several start there, it is the deepest in the tree. In a header that names a table again, the result is the
+/// table, since the tree keeps only one key of each table. `root` must be the tree that `parse` returned for the text.
+/// Fails if an allocation fails, for the path of a value.
 pub fn node_at<'t, 'de>(
     alloc: Global,
     root: &'t Value<'de>,

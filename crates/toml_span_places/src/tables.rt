@@ -39,7 +39,7 @@ pub struct TablePlace<'t> {
     pub span: Span,
 }
 
-/// Returns the table that a mention names, if it names one. Fails if an allocation fails.
+/// Returns the table that a mention names, or `None` if it does not name a table. Fails if an allocation fails.
 fn table_of<'t>(mention: Mention<'t>) -> Result<Option<TablePlace<'t>>, AllocError>
     ensures { IfOk result (λ place. option_map table_mention place ≡ spec.table_of (mentioned mention.entry)) }
 {
@@ -92,7 +92,7 @@ fn forms_of(
     Ok(forms)
 }
 
-/// Returns how the text names the table at `path`: one form for each place that does, in the order of the text. The
+/// Returns how the text names the table at `path`: one form for each place that names it, in the order of the text. The
 /// list is empty for the root, and if there is no such table.
 ///
 /// `sections` must be what `read_sections` returned for the text. Fails if an allocation fails.

@@ -19,14 +19,16 @@ abbrev pub parts_off : List ℕ → Bool
 parts_off after =
     not (is_date_byte (slice_index after 0) || (opens_string (slice_index after 0) || continues_date after 0))
 
--- Wherever this part occurs in a text, it is a single-line string with this content, from its first byte to its last.
+-- Wherever this part occurs in a text before bytes that do not continue it (`parts_off`), it is a single-line string
+-- with this content, from its first byte to its last.
 abbrev pub ReadsAsString : List ℕ → List ℕ → Type 0
 ReadsAsString content part =
     (before after : List ℕ) → parts_off after ≡ true
     → (span : Span)
     × IsString (before ++ (part ++ after)) (length before) (length before + length part) span part content false
 
--- Wherever this part occurs in a text, it is a simple key with this name, from its first byte to its last.
+-- Wherever this part occurs in a text before bytes that do not continue it (`parts_off`), it is a simple key with this
+-- name, from its first byte to its last.
 abbrev pub ReadsAsKey : List ℕ → List ℕ → Type 0
 ReadsAsKey name part =
     (before after : List ℕ) → parts_off after ≡ true
@@ -108,8 +110,9 @@ abbrev mutual
   MembersAreWithin limit d no_members = Unit {0}
   MembersAreWithin limit d (member name key n ms) = IsWithin limit (d + 1) n × MembersAreWithin limit d ms
 
--- Wherever this part occurs in a text, it is a value that equals this value of the tree, from its first byte to its
--- last.
+-- Wherever this part occurs in a text before bytes that do not continue it (`parts_off`), it is a value that equals
+-- this value of the tree, from its first byte to its last. The value of the tree must be whole and within the limit,
+-- and its floats must be literals.
 abbrev pub ReadsAsValue : Node → List ℕ → Type 0
 ReadsAsValue n part =
     (limit depth : ℕ) → is_whole n ≡ true → IsWithin limit depth n → HasFloatTexts n

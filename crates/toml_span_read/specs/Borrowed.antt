@@ -19,7 +19,7 @@ pub data Written : Type 0 where
   string : CowStr Global → Span → Written
   name : CowStr Global → Span → Written
 
--- It is borrowed if and only if it equals the text at its span.
+-- It is borrowed if and only if it equals the text at its span, or is empty and its span is one quote.
 abbrev pub IsWrittenRight : List ℕ → Written → Type 0
 IsWrittenRight text (string s span) = BorrowsWhereSame text span s
 IsWrittenRight text (name s span) = BorrowsWhereSame text span s
@@ -69,7 +69,7 @@ assignment_written =
 abbrev pub assignments_written : List Assignment → List Written
 assignments_written found = joined (map assignment_written found)
 
--- those in a section, beginning with the parts of its header, and those in all sections
+-- the strings and keys in a section, beginning with the parts of its header, and those in all sections
 abbrev pub section_written : Section → List Written
 section_written s = keys_written s.header.items ++ assignments_written s.assignments.items
 

@@ -48,9 +48,9 @@ pub record ParsedAssignment : Type 0 where
 abbrev pub parsed_span : ParsedValue → Span
 parsed_span (parsed inner span) = span
 
--- A section: the parts of its header, of which there are none before the first header; whether the header has double
--- brackets; the span of the header's line; the extent, from the header or the first assignment to the end of the last
--- assignment; and the assignments.
+-- A section: the parts of its header (an empty list for the section before the first header); whether the header has
+-- double brackets; the span of the header's line; the extent, from the header or the first assignment to the end of the
+-- last assignment; and the assignments.
 pub record ParsedSection : Type 0 where
   pub header : List SimpleKey
   pub array : Bool

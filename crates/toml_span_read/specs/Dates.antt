@@ -12,8 +12,8 @@ begins_date text i =
     || ((is_ascii_digit (slice_index text (i + 2)) && is_ascii_digit (slice_index text (i + 3)))
     && slice_index text (i + 4) == dash))
 
--- The bytes that a date or time consists of, none of which may follow one directly: letters, digits, dashes,
--- underscores, colons, dots and plus signs.
+-- The bytes that are read as part of a date or time: letters, digits, dashes, underscores, colons, dots and plus signs.
+-- So none of them can follow a date or time directly.
 abbrev pub is_date_byte : ℕ → Bool
 is_date_byte c = ((is_keylike c || c == colon) || c == period) || c == plus
 
@@ -21,9 +21,9 @@ is_date_byte c = ((is_keylike c || c == colon) || c == period) || c == plus
 abbrev pub continues_date : List ℕ → ℕ → Bool
 continues_date text i = slice_index text i == space && is_ascii_digit (slice_index text (i + 1))
 
--- What is read as a date or time is from i to j: all these bytes from i on and, if there are exactly ten of them before
--- a space and a digit, also those from that digit on. `IsDateText` of toml_span_tree says which of these texts are
--- valid.
+-- The text from i to j is read as a date or time: all bytes of `is_date_byte` from i on and, if there are exactly ten
+-- of them before a space and a digit, also the space and those from that digit on. `IsDateText` of toml_span_tree says
+-- which of these texts are valid.
 abbrev pub IsCandidate : List ℕ → ℕ → ℕ → Type 0
 IsCandidate text i j =
     (MaximalRun is_date_byte text i j × (((j == i + 10) && continues_date text j) ≡ false))

@@ -21,7 +21,8 @@ unfoldable pub value_at : List ParsedAssignment → List (List ℕ) → Option S
 value_at es names =
     option_map (λ e. last_span e.parts) (find (λ e. pointwise bytes_eq (part_names e.parts) names) es)
 
--- where the first part of a key that leads to a value starts, and that value. The last part of the key is not counted.
+-- The first part of the key, other than its last, whose path has a value: the offset at which that part starts, and the
+-- span that `value` has for its path, which consists of the names of the parts up to it.
 unfoldable pub crossed : (List (List ℕ) → Option Span) → List SimpleKey → Option (ℕ × Span)
 crossed value (p ∷ q ∷ rest) =
     option_or (option_map (λ first. (p.span.start, first)) (value (p.name ∷ [])))

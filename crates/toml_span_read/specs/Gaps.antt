@@ -48,13 +48,13 @@ abbrev pub NoTail : List ℕ → ℕ → ℕ → Type 0
 NoTail text i k = Skipped text i k × (k < length text) × NoLineEnd text k
 
 -- `expression = ws [ comment ]`: from i to j there are only lines like this, and the list has the end of each. The gap
--- before a key or header consists of such lines, and of the spaces and tabs before it.
+-- before a key or header consists of such lines, and of the spaces and tabs before the key or header on its line.
 abbrev pub BlankLines : List ℕ → ℕ → List ℕ → ℕ → Type 0
 BlankLines text i [] j = i ≡ j
 BlankLines text i (k ∷ ks) j = Tail text i k × BlankLines text k ks j
 
--- The text ends at i, or a character that may occur in a comment is there, so a comment before it does not end at a
--- control character.
+-- The text ends at i, or the character there may occur in a comment. So if a comment ends at i, it does not end because
+-- of a control character.
 abbrev pub AfterLines : List ℕ → ℕ → Type 0
 AfterLines text i = (i ≡ length text) ⊎ (is_printed (slice_index text i) ≡ true)
 

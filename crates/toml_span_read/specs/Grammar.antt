@@ -185,8 +185,8 @@ abbrev pub SectionsWith : Scalars → List ParsedSection → List ℕ → ℕ �
 SectionsWith S [] text limit i = i ≡ length text
 SectionsWith S (b ∷ bs) text limit i = (j : ℕ) × SectionWith S b text limit i j × SectionsWith S bs text limit j
 
--- The text spells these sections, after a byte order mark, which has no production: `toml = expression *( newline
--- expression )`.
+-- The text spells these sections: `toml = expression *( newline expression )`. A byte order mark, for which the grammar
+-- has no production, may come before them.
 pub record DocumentWith (S : Scalars) (bs : List ParsedSection) (text : List ℕ) (limit : ℕ) : Type 0 where
   pub start : ℕ
   pub end : ℕ

@@ -43,11 +43,11 @@ Reading A = Result A Fault → Type 0
 abbrev pub gives : {A : Type 0} → Result A Fault → Reading A
 gives x r = r ≡ x
 
--- Reads m, and then what f says for its result. A fault of m is the result.
+-- Reads m and then f a, where a is the value that m has read. If m has a fault, that fault is the result.
 abbrev pub after : {A B : Type 0} → Reading A → (A → Reading B) → Reading B
 after {A = A} m f r = ((a : A) × m (Ok a) × f a r) ⊎ ((e : Fault) × m (Err e) × (r ≡ Err e))
 
--- From i to some k there is something that `skipped` accepts, and `next` is read from k on.
+-- `skipped` holds from i to some k, and `next` is read at k.
 abbrev pub skipping : {A : Type 0} → (ℕ → ℕ → Type 0) → ℕ → (ℕ → Reading A) → Reading A
 skipping skipped i next r = (k : ℕ) × skipped i k × next k r
 
@@ -160,7 +160,7 @@ number_or_word text i =
     if begins_number (slice_index text i) || is_some (special false (run_at text i)) then number text i
     else word text i
 
--- the values without brackets and quotes, of
+-- a value without brackets, braces or quotes, of
 -- `val = string / boolean / array / inline-table / date-time / float / integer`
 abbrev pub bare : List ℕ → ℕ → Reading (Scalar × ℕ)
 bare text i = choice (begins_date text i) (date text i) (λ r. r ≡ number_or_word text i)
@@ -169,8 +169,8 @@ bare text i = choice (begins_date text i) (date text i) (λ r. r ≡ number_or_w
 abbrev pub ValueEnd : Type 0
 ValueEnd = ParsedValue × ℕ
 
--- `string = ml-basic-string / basic-string / ml-literal-string / literal-string`. The fault of another token spans that
--- token: unlike in `wanted`, it is not as long as its name.
+-- `string = ml-basic-string / basic-string / ml-literal-string / literal-string`. If there is another token, the fault
+-- spans that token, whereas a fault of `wanted` is as long as the token's name.
 abbrev pub string_of : ℕ → NextToken → Result ValueEnd Fault
 string_of i (token span (string source value multi) j) = Ok (parsed (scalar (text_scalar value)) span, j)
 string_of i (token span l j) =
@@ -199,8 +199,9 @@ nested text i inner =
     skipping (MaximalGap text) (i + 1) (λ k. after (inner k) (λ (v, j). gives (Ok (parsed v (from_to i j), j))))
 
 -- `array-sep = %x2C`, `inline-table-sep = %x2C`, `array-close = %x5D`, `inline-table-close = %x7D`: an element or pair
--- ends at m, and a gap may follow. After a comma and another gap, the loop continues with `next`. After `close`, its
--- result is `end` of the offset there. Otherwise the expected token is missing.
+-- ends at m, and a gap may follow. After a comma and another gap, which ends at p, the loop continues with the state
+-- `next p`. After the byte `close`, the result of the loop is `end` of the offset there. Otherwise the fault is that
+-- the expected token is missing.
 abbrev pub separator : {S A : Type 0} → ℕ → ExpectedToken → List ℕ → ℕ → (ℕ → S) → (ℕ → A) → Reading (LoopStep S A)
 separator close expected text m next end =
     skipping (MaximalGap text) m (λ k.
@@ -259,9 +260,9 @@ next_pair text limit value (es, i) =
     after (added es e) (λ fs. separator right_brace expected_tokens.Comma text m (λ p. (fs, p)) (table_end fs))))
 
 -- `val = string / boolean / array / inline-table / date-time / float / integer`: the value at i, whose key has n parts.
--- Each part of the key takes one of the levels that are left; if there are not enough, the value is beyond the limit. A
--- line begins with limit + 1 levels. Each bracket and brace around the value, and each part of the keys around it, has
--- taken one.
+-- The fourth argument `left` is the number of levels of nesting that are left. A line begins with limit + 1 levels.
+-- Each bracket and brace around the value, and each part of its own key and of the keys around it, takes one. If none
+-- is left for the value itself, the value is beyond the limit.
 unfoldable pub value : List ℕ → ℕ → ℕ → ℕ → ℕ → Reading ValueEnd
 value text limit zero n i = too_deep text i
 value text limit (suc left) (suc n) i = value text limit left n i
@@ -358,7 +359,8 @@ next_section text limit (bs, i) =
     choice (i == length text) (gives (Ok (done bs)))
     (after (section text limit i) (λ (b, j). gives (Ok (on (bs ++ (b ∷ []), j)))))
 
--- The assignments before the first header, after a byte order mark, which has no production.
+-- The assignments before the first header. A byte order mark, for which the grammar has no production, may come before
+-- them.
 abbrev pub before_headers : List ℕ → ℕ → Reading ParsedSections
 before_headers text limit r =
     (i : ℕ) × FirstPlace text i

@@ -47,8 +47,8 @@ fn is_date_byte(byte: u8) -> bool
     is_keylike(byte) || byte == b':' || byte == b'.' || byte == b'+'
 }
 
-/// Returns the offset after the run of bytes that begins at the byte offset `from`, and whose bytes can be part of a
-/// date or time (`is_date_byte`); `from` itself if the run is empty.
+/// Returns the offset after the run of bytes, beginning at the byte offset `from`, that can be part of a date or time
+/// (`is_date_byte`); `from` itself if the run is empty.
 fn date_run_end(text: &str, from: usize) -> usize
     requires { IsCharBoundary text.now from }
     ensures run { MaximalRun spec.is_date_byte text.now from result }
@@ -63,9 +63,9 @@ fn date_run_end(text: &str, from: usize) -> usize
     bytes.len()
 }
 
-/// Returns the offset after the bytes that are read as the date or time at `at`: the run of bytes that can be part of
-/// one (`is_date_byte`). If this run has ten bytes, and a space and a digit follow, the run after the space is read
-/// too.
+/// Returns the offset after the bytes that are read as the date or time at `at`: the run of bytes that can be part of a
+/// date or time (`is_date_byte`). If this run has ten bytes, and a space and a digit follow, the run after the space is
+/// read too.
 fn date_end(text: &str, at: usize) -> usize
     requires { IsCharBoundary text.now at }
     ensures candidate { IsCandidate text.now at result }
@@ -80,7 +80,7 @@ fn date_end(text: &str, at: usize) -> usize
     }
 }
 
-/// Reads the date or time at the byte offset `at`. Returns it with the offset after it.
+/// Reads the date or time at the byte offset `at`, where `begins_date` must hold. Returns it with the offset after it.
 ///
 /// Fails with `InvalidDatetime` if it is not valid. The fault spans all bytes that are read as part of it.
 ///

@@ -1,4 +1,4 @@
-//! Finds keys that go through earlier values of their section or inline table.
+//! Finds keys that go through earlier values of their section or inline table, such as `a.b = 2` after `a = 1`.
 ghost use Rattle.std.specs.Prelude.{◌≡◌, ◌≤◌, ◌+◌, ◌++◌, ◌∷◌, [], map, length, OnOk, Some, unwrap_or};
 ghost use Rattle.std.specs.Cow.{cow_str_bytes};
 ghost use Rattle.toml_span_read.specs.Data.{SimpleKey, parsed_span, parsed_assignment, simple_key, parts};
@@ -14,7 +14,8 @@ use toml_span_lex::key::Key;
 use toml_span_lex::span::Span;
 use toml_span_lex::stop::Stop;
 
-/// A path: whether a value is assigned to it, and the paths below it.
+/// A node of the tree of paths, for one path: whether a value is assigned to that path, and the nodes of the paths that
+/// are one part longer.
 #[derive(Drop)]
 struct Node<'de> {
     /// If values are assigned to this path, the span of the last part of the key that assigned the first of them.
@@ -22,7 +23,7 @@ struct Node<'de> {
     below: BTreeMap<Key<'de>, Node<'de>>,
 }
 
-/// Returns a node without a value and without paths below it.
+/// Returns a node without a value and without longer paths.
 fn empty<'de>(alloc: Global) -> Node<'de>
     ensures { code.holds result ≡ code.no_spans }
 {
@@ -32,8 +33,8 @@ fn empty<'de>(alloc: Global) -> Node<'de>
     }
 }
 
-/// Records that a value is assigned to the path of the parts `inner` and `last` below `node`, unless that is recorded
-/// already. Fails if an allocation fails.
+/// Records that a value is assigned to the path that leads from `node` through the parts `inner` to `last`. Changes
+/// nothing if that is recorded already. Fails if an allocation fails.
 fn put<'de>(
     alloc: Global,
     node: &mut Node<'de>,
@@ -56,8 +57,8 @@ fn put<'de>(
     }
 }
 
-/// Records that a value is assigned to the path of the part `last` below `node`, unless that is recorded already. Fails
-/// if an allocation fails.
+/// Records that a value is assigned to the path that leads from `node` to `last`. Changes nothing if that is recorded
+/// already. Fails if an allocation fails.
 fn put_last<'de>(alloc: Global, node: &mut Node<'de>, last: &Key<'de>) -> Result<(), AllocError>
     ensures { OnOk result (code.Puts (cow_str_bytes last.now.name ∷ []) last.now.span (code.holds node.old)
         (code.holds node.new)) }
@@ -77,7 +78,7 @@ fn put_last<'de>(alloc: Global, node: &mut Node<'de>, last: &Key<'de>) -> Result
     }
 }
 
-/// Adds `child` under a key that has no child yet. Fails if an allocation fails.
+/// Adds `child` to `node` under `key`, where `node` has no child yet. Fails if an allocation fails.
 fn put_child<'de>(
     alloc: Global,
     node: &mut Node<'de>,
@@ -92,9 +93,9 @@ fn put_child<'de>(
     Ok(())
 }
 
-/// Follows the parts `inner` below `node`, up to the first part to whose path a value is assigned. Returns the byte
-/// offset at which that part starts, and the span of the last part of the key that assigned the value. Returns `None`
-/// if there is no such part.
+/// Follows the parts `inner` below `node`, up to the first part that ends the path of an assigned value. Returns the
+/// byte offset at which that part starts, and the span of the last part of the key that assigned the value. Returns
+/// `None` if there is no such part.
 fn crossing<'de>(node: &Node<'de>, inner: &[Key<'de>]) -> Option<(usize, Span)>
     ensures { (last : SimpleKey)
         → result ≡ spec.crossed (code.holds node.now) (map simple_key inner.now ++ (last ∷ [])) }
@@ -127,9 +128,9 @@ fn value_end<'de>(next: &Assignment<'de>) -> usize
     next.value.span.end
 }
 
-/// The values that have been assigned in a section or an inline table, by path. A key can only go through an earlier
-/// value if it has more inner parts, those before the last, than an earlier key. So values are added to the tree only
-/// when such a key comes.
+/// The values that have been assigned in a section or an inline table so far, by path. A key can go through an earlier
+/// value only if it has more inner parts (parts before the last) than the key of that value. So the tree is brought up
+/// to date only for a key that has more inner parts than some earlier key.
 #[derive(Drop)]
 pub(crate) struct Earlier<'de> {
     /// The lowest number of inner parts of any key so far.
@@ -151,8 +152,8 @@ impl<'de> Earlier<'de> {
         }
     }
 
-    /// Adds to the tree those of `values`, all assignments so far, that it does not have yet. Fails if an allocation
-    /// fails.
+    /// Adds to the tree the assignments that are not in it yet. `values` are all assignments so far. Fails if an
+    /// allocation fails.
     #[inline(never)]
     fn catch_up(&mut self, alloc: Global, values: &[Assignment<'de>]) -> Result<(), AllocError>
         requires { code.Knows self.now (map parsed_assignment values.now) }
@@ -168,8 +169,8 @@ impl<'de> Earlier<'de> {
         Ok(())
     }
 
-    /// Returns the fault of the assignment `next` if its key goes through one of `values`, all earlier assignments,
-    /// otherwise `None`. Fails if an allocation fails.
+    /// Returns the fault of the assignment `next` if its key goes through the value of an earlier assignment, otherwise
+    /// `None`. `values` are all earlier assignments. Fails if an allocation fails.
     fn fault(
         &mut self,
         alloc: Global,
@@ -199,7 +200,8 @@ impl<'de> Earlier<'de> {
     }
 }
 
-/// Appends an assignment to the values. Fails if its key goes through one of them, or if an allocation fails.
+/// Appends the assignment `next` to `values`, which are all assignments so far. Fails if its key goes through the value
+/// of one of them, or if an allocation fails.
 #[inline(always)]
 pub(crate) fn add_clear<'de>(
     alloc: Global,

@@ -11,7 +11,7 @@ use toml_span_lex::span::Span;
 use toml_span_lex::tokens::Error as TokenError;
 use toml_span_tree::{Error, ErrorKind};
 
-/// A token that was expected where there is another one, or the end of the text.
+/// A token that was expected where another token, or the end of the text, was found.
 #[derive(Clone, Copy, Debug)]
 pub enum ExpectedToken {
     Value,
@@ -27,7 +27,7 @@ pub enum ExpectedToken {
 impl ExpectedToken {
     ghost use Rattle.toml_span_read.specs.Faults.{expected_words};
 
-    /// Returns the name of the token as the error `Wanted` has it.
+    /// Returns the name of the token, as `ErrorKind::Wanted` contains it.
     pub fn words(self) -> &'static str
         ensures { result.now ≡ expected_words self }
     {
@@ -66,7 +66,7 @@ pub enum FoundToken {
 impl FoundToken {
     ghost use Rattle.toml_span_read.specs.Faults.{found_words};
 
-    /// Returns the name of what was found, as the error `Wanted` has it.
+    /// Returns the name of the token, or `eof` for the end of the text, as `ErrorKind::Wanted` contains it.
     pub fn words(self) -> &'static str
         ensures text { result.now ≡ found_words self }
         ensures short { length result.now ≤ 18 }
@@ -92,7 +92,7 @@ impl FoundToken {
     }
 }
 
-/// What is wrong: see the kinds of errors with the same names.
+/// What is wrong. `ErrorKind` describes the variants, which have the same names there.
 #[derive(Clone, Copy, Debug)]
 pub enum FaultKind {
     UnexpectedEof,
@@ -116,7 +116,7 @@ pub enum FaultKind {
     },
 }
 
-/// What can't be read, and its span in bytes.
+/// Why a text can't be read, and the span of the bytes at fault.
 #[derive(Clone, Copy, Debug)]
 pub struct Fault {
     pub kind: FaultKind,
@@ -135,7 +135,7 @@ pub(crate) fn fault_at(kind: FaultKind, at: usize) -> Fault
     Fault { kind, span }
 }
 
-/// Returns the fault that the bytes `start..end` are not a valid number.
+/// Returns the fault `InvalidNumber`, which says that the bytes `start..end` are not a valid number.
 pub(crate) fn invalid_number(start: usize, end: usize) -> Fault
     ensures { result ≡ numerals.invalid_number start end }
 {
@@ -146,7 +146,8 @@ pub(crate) fn invalid_number(start: usize, end: usize) -> Fault
     }
 }
 
-/// Converts an error of the tokenizer into a fault.
+/// Returns the fault for an error that the tokenizer reports when it reads a token. `Wanted` and `MultilineStringKey`
+/// are errors of other methods of the tokenizer, and do not occur here.
 pub(crate) fn token_fault(error: TokenError) -> Fault
     requires { Bounded usize.MAX error }
     ensures { result ≡ spec.token_fault error }
@@ -173,7 +174,7 @@ pub(crate) fn token_fault(error: TokenError) -> Fault
     }
 }
 
-/// Returns the kind of the error that reports this kind of fault.
+/// Returns the kind of error that reports this kind of fault.
 fn error_kind<'s>(kind: FaultKind) -> ErrorKind<'s>
     ensures { kind_of result ≡ spec.error_kind kind }
 {
@@ -199,7 +200,7 @@ fn error_kind<'s>(kind: FaultKind) -> ErrorKind<'s>
 }
 
 /// Returns the error that reports a fault, with the line and column in `text` at which its span starts, both counted
-/// from 0, the column in bytes.
+/// from 0, the column in bytes. The span must not start after the end of the text.
 pub fn error_of<'s>(text: &str, fault: Fault) -> Error<'s>
     requires { fault.span.start ≤ length text.now }
     ensures { content_of result ≡ fault_content text.now fault }

@@ -1,4 +1,5 @@
-//! Skips white space, comments and line ends between tokens.
+//! Skips gaps, which are the white space, comments and line ends between tokens. Offsets must be character boundaries,
+//! except for `byte_at`.
 ghost use Rattle.std.specs.Prelude.{◌≡◌, ◌+◌, ◌<◌, slice_index};
 ghost use Rattle.std.specs.Str.{IsCharBoundary};
 ghost use Rattle.toml_span_read.specs.code.Gaps.{GapPieceGives, TailGives, DotGives, AfterElementGives, SeparatorGives};
@@ -50,8 +51,8 @@ pub fn gap_end(text: &str, from: usize) -> usize
     at
 }
 
-/// Skips spaces, tabs and a comment up to the end of the line, and returns the offset after the line end, or the end of
-/// the text. Fails with the offset of the first byte that belongs to something else.
+/// Skips the rest of a line, which may have spaces, tabs and a comment, from the byte offset `from`. Returns the offset
+/// after the line end, or the end of the text. Fails at anything else, with the offset of its first byte.
 ///
 /// `ws [ comment ] ( newline / end of text )` (TOML 1.1, Overall Structure)
 pub fn line_rest(text: &str, from: usize) -> Result<usize, usize>
@@ -102,7 +103,7 @@ pub(crate) fn after_byte(text: &str, at: usize) -> usize
     at + 1
 }
 
-/// Returns the offset after the bracket or brace at `at`, and after the gap that follows it.
+/// Returns the offset after the ASCII byte at `at`, such as a bracket or a comma, and after the gap that follows it.
 ///
 /// `array-open = %x5B`, `inline-table-open = %x7B` (TOML 1.1, Array, Inline Table)
 pub(crate) fn opened(text: &str, at: usize) -> usize
@@ -148,8 +149,8 @@ pub(crate) fn after_element(text: &str, at: usize, close: u8) -> AfterElement
     }
 }
 
-/// Returns the offset after the equals sign of a pair, and after the gaps around it. Fails with the offset at which the
-/// sign was expected.
+/// Skips the gap at `at`, if there is one, the equals sign of a pair, and the gap after the sign. Returns the offset
+/// after all of them. If the sign is missing, fails with the offset at which it was expected.
 ///
 /// `keyval-sep = ws %x3D ws` (TOML 1.1, Inline Table). Unlike in the standard, line ends and comments are allowed too.
 pub(crate) fn pair_equals(text: &str, at: usize) -> Result<usize, usize>
@@ -164,8 +165,8 @@ pub(crate) fn pair_equals(text: &str, at: usize) -> Result<usize, usize>
     }
 }
 
-/// Returns the offset after the equals sign of an assignment, and after the spaces and tabs around it. Fails with the
-/// offset at which the sign was expected.
+/// Skips the spaces and tabs from `at`, the equals sign of an assignment, and the spaces and tabs after the sign.
+/// Returns the offset after all of them. If the sign is missing, fails with the offset at which it was expected.
 ///
 /// `keyval-sep = ws %x3D ws` (TOML 1.1, Key/Value Pair)
 pub(crate) fn line_equals(text: &str, at: usize) -> Result<usize, usize>

@@ -23,7 +23,8 @@ use toml_span_lex::key::Key;
 use toml_span_lex::span::Span;
 use toml_span_lex::stop::Stop;
 
-/// Reads the quoted key at `at`. Returns it with the offset after it. Fails like `simple_key`.
+/// Reads the quoted key at `at`. Returns it with the offset after it. Fails with `MultilineStringKey` at a multi-line
+/// string, with the fault of a string that is not valid, or if an allocation fails.
 ///
 /// `quoted-key = basic-string / literal-string` (TOML 1.1, Keys)
 #[tactic(auto, using(crate::proofs::KeyLemmas::string_stops))]
@@ -88,7 +89,7 @@ pub(crate) fn simple_key<'de>(
     }
 }
 
-/// Returns the fault that a dotted key has more parts than the limit allows. `key` is the first part beyond the limit,
+/// Returns the fault for a dotted key with more parts than the limit allows. `key` is the first part beyond the limit,
 /// at `at`. In a header, the fault spans this part, elsewhere only its first byte.
 fn one_too_many(key: &Key<'_>, at: usize, in_header: bool) -> Fault
     requires { at < usize.MAX }
@@ -103,9 +104,10 @@ fn one_too_many(key: &Key<'_>, at: usize, in_header: bool) -> Fault
     }
 }
 
-/// Reads the part of a dotted key at `at`, which comes after `others` other parts. Returns the part with the offset
-/// after it and, if a dot follows, the offset of the next part. Fails like `simple_key`, or with `ExceededDepthLimit`
-/// if `others` is not below `limit`.
+/// Reads the part of a dotted key at `at`, which comes after `others` other parts. Returns the part, the offset after
+/// it, and the offset of the next part, or `None` if no dot follows. Fails with the fault of the part, with
+/// `ExceededDepthLimit` if `others` is not below `limit`, or if an allocation fails. `in_header` says whether the key
+/// is in a header, where `ExceededDepthLimit` spans the whole part instead of its first byte.
 ///
 /// `dot-sep simple-key` (TOML 1.1, Keys)
 #[tactic(auto, using(crate::proofs::KeyLemmas::part_stops))]
@@ -131,7 +133,8 @@ fn part<'de>(
 
 /// Reads the key of an assignment or pair at `at`. Returns it with the offset after it.
 ///
-/// Fails like `simple_key`, or with `ExceededDepthLimit` if it has more than `limit` parts.
+/// Fails with the fault of a part, with `ExceededDepthLimit` if the key has more than `limit` parts, or if an
+/// allocation fails.
 ///
 /// `key = simple-key / dotted-key`, `dotted-key = simple-key 1*( dot-sep simple-key )` (TOML 1.1, Keys)
 #[tactic(auto, using(crate::proofs::KeyLemmas::part_placed, crate::proofs::KeyLemmas::none_after))]
@@ -163,7 +166,8 @@ pub(crate) fn dotted_key<'de>(
     }
 }
 
-/// Reads the key of a header at `at`. Returns its parts with the offset after them. Fails like `dotted_key`.
+/// Reads the key of a header at `at`. Returns its parts with the offset after them. Fails with the fault of a part,
+/// with `ExceededDepthLimit` if there are more than `limit` parts, or if an allocation fails.
 ///
 /// `key = simple-key / dotted-key`, in `std-table = std-table-open key std-table-close` (TOML 1.1, Table)
 #[tactic(auto, using(crate::proofs::KeyLemmas::part_placed, crate::proofs::KeyLemmas::none_after))]

@@ -60,8 +60,8 @@ fn digit(byte: u8, radix: u8) -> Option<u8>
     if value < radix { Some(value) } else { None }
 }
 
-/// Returns the offset after the digits that begin at `from` in a piece of a number. Single underscores may separate the
-/// digits.
+/// Returns the offset after the digits in this radix that begin at `from`. Single underscores may separate them.
+/// `piece` spans the run of letters, digits, dashes and underscores that contains them.
 ///
 /// Fails with `InvalidNumber` if there is no digit at `from`, or an underscore is not between two digits. The fault
 /// spans the piece or, if there is an underscore at `from`, only `from..piece.end`.
@@ -107,7 +107,8 @@ fn with_digit(number: u64, radix: u8, digit: u8) -> Option<u64>
         .checked_add(u64::from(digit))
 }
 
-/// Returns the number that the digits spell, with or without underscores, or `None` if it is 2^64 or more.
+/// Returns the number that the digits spell in this radix, with or without underscores, or `None` if it is 2^64 or
+/// more.
 fn magnitude(digits: &[u8], radix: u8) -> Option<u64>
     ensures { WithinGives (digits_value radix (filter (is_digit_in radix) digits.now)) result }
 {
@@ -120,7 +121,7 @@ fn magnitude(digits: &[u8], radix: u8) -> Option<u64>
     Some(value)
 }
 
-/// Returns the number with its sign, or `None` if it does not fit into an `i64`.
+/// Returns `magnitude`, negated if `negative`, or `None` if the result does not fit into an `i64`.
 #[tactic(auto, unfolding(crate::specs::Numerals::signed))]
 fn signed(negative: bool, magnitude: u64) -> Option<i64>
     ensures { result ≡ numerals.signed negative magnitude }
@@ -137,8 +138,8 @@ fn signed(negative: bool, magnitude: u64) -> Option<i64>
     }
 }
 
-/// Returns the integer that the digits from `from` to the end of the piece spell, with a minus sign if `negative`.
-/// Fails if it does not fit into an `i64`.
+/// Returns the integer that the digits from `from` to the end of `piece` spell in this radix, negated if `negative`.
+/// Fails if it does not fit into an `i64`; the fault spans `piece`.
 #[tactic(auto, unfolding(crate::specs::Numerals::integer))]
 fn integer(text: &str, piece: Span, from: usize, radix: u8, negative: bool) -> Result<i64, Fault>
     requires forward { from ≤ piece.end }
@@ -174,8 +175,8 @@ fn radix_of(text: &str, run: usize) -> Option<u8>
     }
 }
 
-/// Returns the integer that `run`, prefix included, spells. Fails if its digits are not valid, or if it is out of
-/// range.
+/// Returns the integer in this radix that is written, with its prefix, at the span `run`. Fails if the digits are not
+/// valid, or if the integer is out of range.
 ///
 /// `hex-int`, `oct-int`, `bin-int` (TOML 1.1, Integer)
 #[tactic(auto, unfolding(crate::specs::Numerals::radix_integer))]
@@ -197,7 +198,7 @@ fn radix_integer(text: &str, run: Span, radix: u8) -> Result<i64, Fault>
 }
 
 /// Returns the offset after the integer part of a decimal number. Its digits begin at `from` in the run `run`. Fails if
-/// they are not valid or have a leading zero.
+/// the digits are invalid or have a leading zero.
 ///
 /// `dec-int = [ minus / plus ] unsigned-dec-int` (TOML 1.1, Integer)
 #[tactic(auto, unfolding(crate::specs::Numerals::integer_part))]
@@ -228,8 +229,9 @@ fn is_exponent(byte: u8) -> bool
     byte == b'e' || byte == b'E'
 }
 
-/// Returns the offset after the exponent whose letter is at `letter`, in a run that ends at `end`. `first` is as in
-/// `unsigned`; the fault may span it. Fails if the digits of the exponent are not valid.
+/// Returns the offset after the exponent whose letter is at `letter`, in a run that ends at `end`. `first` spans the
+/// run with which the number begins, after a plus sign if there is one; the fault may span it. Fails if the digits of
+/// the exponent are not valid.
 ///
 /// `exp = "e" float-exp-part`, `float-exp-part = [ minus / plus ] zero-prefixable-int` (TOML 1.1, Float)
 #[tactic(auto, unfolding(crate::specs::Numerals::exponent))]
@@ -261,8 +263,9 @@ fn exponent_end(text: &str, first: Span, letter: usize, end: usize) -> Result<us
     exponent_digits(text, first, piece, start)
 }
 
-/// Returns the offset after the digits of an exponent, which begin at `from` in `piece`. `first` is as in `unsigned`;
-/// the fault may span it. Fails unless the digits are valid, and extend to the end of the piece.
+/// Returns the offset after the digits of an exponent, which begin at `from` in the run `piece`. `first` spans the run
+/// with which the number begins, without a leading plus sign. Fails unless the digits are valid and extend to the end of
+/// `piece`; the span of some faults is `first`.
 #[tactic(auto, unfolding(crate::specs::Numerals::exponent_digits))]
 fn exponent_digits(text: &str, first: Span, piece: Span, from: usize) -> Result<usize, Fault>
     requires within { piece.end ≤ length text.now }
@@ -276,8 +279,9 @@ fn exponent_digits(text: &str, first: Span, piece: Span, from: usize) -> Result<
     Ok(piece.end)
 }
 
-/// Returns the offset after a float that has a decimal point after `first`. `start` and `first` are as in `unsigned`.
-/// Fails if the digits after the point, or those of an exponent, are not valid.
+/// Returns the offset after the float at `start`. `first` spans the run with which it begins, after a plus sign if
+/// there is one; a decimal point follows this run. Fails if the digits after the point, or those of an exponent, are
+/// not valid.
 ///
 /// `frac = decimal-point zero-prefixable-int` (TOML 1.1, Float)
 #[tactic(auto, unfolding(crate::specs::Numerals::fraction))]
@@ -318,8 +322,8 @@ fn after_minus(text: &str, at: usize) -> usize
     }
 }
 
-/// Reads a number that has no prefix. `start` and `first` are as in `unsigned`. Returns the number with the offset
-/// after it. Fails if it is not valid or out of range.
+/// Reads the decimal number at `start` (no `0x`, `0o` or `0b`). `first` spans its first run, without a leading plus
+/// sign. Returns the number with the offset after it. Fails if the number is invalid or out of range.
 ///
 /// `float = float-int-part ( exp / frac [ exp ] )` (TOML 1.1, Float)
 #[tactic(auto, unfolding(crate::specs::Numerals::decimal))]
@@ -360,8 +364,8 @@ fn special_float(word: &[u8], negative: bool) -> Option<Numeral>
     }
 }
 
-/// Returns `numeral`, the `inf` or `nan` that was read at `first`, with the offset after it. `start` and `first` are as
-/// in `unsigned`. Fails if a dot follows, as in `inf.5`.
+/// Returns `numeral`, the `inf` or `nan` that was read in the run `first`, with the offset after it. `start` is the
+/// offset of the number, sign included. Fails if a dot follows, as in `inf.5`.
 #[tactic(auto, unfolding(crate::specs::Numerals::special_end))]
 fn special_end(
     text: &str,
@@ -383,8 +387,8 @@ fn special_end(
     }
 }
 
-/// Reads the number at `start`. `first` spans the run (see `run_end`) with which the number begins, after a plus sign
-/// if there is one. Returns the number with the offset after it. Fails if it is not valid or out of range.
+/// Reads the number at `start`. `first` spans its first run, without a leading plus sign. Returns the number with the
+/// offset after it. Fails if the number is invalid or out of range.
 #[tactic(auto, unfolding(crate::specs::Numerals::unsigned))]
 fn unsigned(text: &str, start: usize, first: Span) -> Result<(Numeral, usize), Fault>
     requires some { first.start < first.end }
@@ -405,7 +409,7 @@ fn unsigned(text: &str, start: usize, first: Span) -> Result<(Numeral, usize), F
     }
 }
 
-/// Reads the number at `at`. Returns it with the offset after it. Fails if it is not valid or out of range.
+/// Reads the number at `at`. Returns it with the offset after it. Fails if the number is invalid or out of range.
 ///
 /// `integer = dec-int / hex-int / oct-int / bin-int`, `float = float-int-part ( exp / frac [ exp ] )`,
 /// `float =/ special-float` (TOML 1.1, Integer, Float)
@@ -487,7 +491,7 @@ fn is_clean(byte: u8) -> bool
     byte != b'_' && byte != b'+' && byte != b'e'
 }
 
-/// Returns whether the stored text of a float is its literal, without a plus sign before it.
+/// Returns whether `literal`, the literal of a float without a leading plus sign, is stored as it is.
 fn is_kept(literal: &str) -> bool
     ensures { result ≡ true → numerals.cleaned literal.now ≡ literal.now }
 {
@@ -535,7 +539,7 @@ fn float_kind<'de>(text: FloatText) -> ValKind<'de>
     ValKind::Float(text)
 }
 
-/// Returns the literal of a float, which spans `at..end`, without a plus sign before it.
+/// Returns the literal of the float that spans `at..end`, without its leading plus sign if it has one.
 fn float_literal<'a>(text: &'a str, at: usize, end: usize) -> &'a str
     requires start { IsCharBoundary text.now at }
     requires end { IsCharBoundary text.now end }
@@ -550,7 +554,7 @@ fn float_literal<'a>(text: &'a str, at: usize, end: usize) -> &'a str
     }
 }
 
-/// Converts the number that was read at `at..end` into a value. Fails if an allocation fails.
+/// Converts `numeral`, the number that was read at `at..end`, into a value. Fails if an allocation fails.
 fn number_kind<'de>(
     alloc: Global,
     text: &str,
@@ -575,8 +579,8 @@ fn number_kind<'de>(
     }
 }
 
-/// Reads the number at `at`. Returns it as a value, with the offset after it. Fails if it is not valid or out of range,
-/// or if an allocation fails.
+/// Reads the number at `at`. Returns it as a value, with the offset after it. Fails if the number is invalid or out of
+/// range, or if an allocation fails.
 pub(crate) fn number<'de>(
     alloc: Global,
     text: &'de str,

@@ -77,7 +77,9 @@ fn too_deep(text: &str, at: usize) -> Stop<Fault>
     Stop::Fault(fault_at(FaultKind::ExceededDepthLimit, at))
 }
 
-/// Reads the string at `at`. Returns it with the offset after it. Fails like `value`.
+/// Reads the string at `at`, which is nested inside `depth` brackets, braces and parts of keys. Returns it with the
+/// offset after it. Fails with its fault, with `ExceededDepthLimit` if `depth` exceeds `limit`, or if an allocation
+/// fails.
 ///
 /// `string = ml-basic-string / basic-string / ml-literal-string / literal-string` (TOML 1.1, String)
 #[inline(always)]
@@ -101,8 +103,9 @@ fn string_value<'de>(
     Ok((string_of(token.content, token.span), token.end))
 }
 
-/// Reads the value at `at`, which begins with neither a quote nor a bracket. Returns it with the offset after it. Fails
-/// like `value`.
+/// Reads the value at `at`, which begins with neither a quote, a bracket nor a brace, and is nested inside `depth`
+/// brackets, braces and parts of keys. Returns it with the offset after it. Fails with its fault, with
+/// `ExceededDepthLimit` if `depth` exceeds `limit`, or if an allocation fails.
 fn scalar<'de>(
     alloc: Global,
     text: &'de str,
@@ -178,7 +181,7 @@ fn run_of(bytes: &[u8]) -> Run
 }
 
 /// Reads the boolean, or `inf` or `nan`, at `at`. Returns it with the offset after it. Fails with `UnquotedString` at
-/// any other word.
+/// any other word, and with `InvalidNumber` if a dot follows `inf` or `nan`.
 ///
 /// `boolean = true / false` (TOML 1.1, Boolean)
 fn word<'de>(alloc: Global, text: &'de str, at: usize) -> Result<(ValKind<'de>, usize), Stop<Fault>>
@@ -201,7 +204,9 @@ fn word<'de>(alloc: Global, text: &'de str, at: usize) -> Result<(ValKind<'de>, 
     }
 }
 
-/// Reads the array at `at`. Returns it with the offset after it. Fails like `value`.
+/// Reads the array at `at`, which is nested inside `depth` brackets, braces and parts of keys. Returns it with the
+/// offset after it. Fails with its first fault, or if an allocation fails. `limit` is the limit on the depth of values
+/// and on the number of parts of a key.
 ///
 /// `array = array-open [ array-values ] ws-comment-newline array-close` (TOML 1.1, Array)
 #[cycle(read)]
@@ -247,7 +252,9 @@ fn array<'de>(
     }
 }
 
-/// Reads the inline table at `at`. Returns it with the offset after it. Fails like `value`.
+/// Reads the inline table at `at`, which is nested inside `depth` brackets, braces and parts of keys. Returns it with
+/// the offset after it. Fails with its first fault, or if an allocation fails. `limit` is the limit on the depth of
+/// values and on the number of parts of a key.
 ///
 /// `inline-table = inline-table-open [ inline-table-keyvals ] ws-comment-newline inline-table-close`
 /// (TOML 1.1, Inline Table)
@@ -295,8 +302,9 @@ fn inline_table<'de>(
     }
 }
 
-/// Reads the pair of an inline table at `at`. Returns it with the offset after it. Fails like `value`, or with the
-/// fault of its key.
+/// Reads the pair of an inline table at `at`, which is nested inside `depth` brackets, braces and parts of keys.
+/// Returns it with the offset after it. Fails with its first fault, or if an allocation fails. `limit` is the limit on
+/// the depth of values and on the number of parts of a key.
 ///
 /// `keyval = key keyval-sep val` (TOML 1.1, Inline Table)
 #[cycle(read)]

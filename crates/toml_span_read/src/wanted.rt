@@ -70,7 +70,7 @@ fn found_at(alloc: Global, text: &str, at: usize) -> Result<(FoundToken, usize),
     }
 }
 
-/// Returns the fault `Wanted` at `at`, where there is another token than the expected one, or the end of the text. Its
+/// Returns the fault `Wanted` at `at`, where there is a token other than the expected one, or the end of the text. Its
 /// span is as long as the name of what was found, so it may end after the text. If no token can be read at `at`,
 /// returns the fault of the tokenizer instead, and if an allocation fails, `Stop::Memory`.
 #[cold]

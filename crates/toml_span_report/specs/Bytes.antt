@@ -54,7 +54,7 @@ is_in class.Straight b = is_line b && not (b == 0xE2)
 abbrev pub begins : List ℕ → ℕ → List ℕ → Bool
 begins text at front = starts_with nat_eq (drop at text) front
 
--- the first offset from a given one on whose byte is not of the class
+-- `end_of` is the first offset at or after a given one whose byte is not of the class.
 abbrev pub is_out : Class → ℕ → Bool
 is_out kind b = not (is_in kind b)
 
@@ -70,7 +70,7 @@ start_of kind text (suc i) = if is_in kind (slice_index text i) then start_of ki
 abbrev pub ahead : List ℕ → ℕ → ℕ → ℕ
 ahead text at count = min (at + count) (length text)
 
--- the nearest byte before or after an offset that is not a blank, or 0 if there is none
+-- the nearest byte that is not a blank, before an offset, and then at or after it; 0 if all bytes are blanks
 abbrev pub byte_before : List ℕ → ℕ → ℕ
 byte_before text at =
     let end = start_of class.Blank text at in if end == 0 then 0 else slice_index text (end - 1)

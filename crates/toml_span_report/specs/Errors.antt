@@ -24,8 +24,8 @@ use Rattle.toml_span_report.specs.declared.colours.Style.{Style}
 use Rattle.toml_span_report.specs.declared.report.Severity.{Severity}
 use Rattle.toml_span_report.specs.declared.report.Severity.TheVariants as severities
 
--- Unknown keys are named in backticks, and each is marked. Any other error has its message, and the labels of its
--- diagnostic.
+-- The message, the labels, the notes and the help of an error without a recognized mistake. Most errors have the
+-- message that `Display` writes for them, and the labels of their diagnostics.
 abbrev pub message : Kind → List ℕ
 message (unexpected_keys keys expected) = unknown_keys (map (λ key. key.0) keys)
 message (unexpected_value expected value) = one_of expected
@@ -48,7 +48,7 @@ abbrev pub notes : Kind → List (List ℕ)
 notes (unexpected_keys keys expected) = what_is_expected expected ∷ []
 notes kind = []
 
--- the name nearest to an unknown key or value, and the range of a number type
+-- the expected name nearest to each unknown key or to an unexpected value; or the range of a number type
 abbrev pub help : Kind → List (List ℕ)
 help (unexpected_keys keys expected) = suggestions (map (λ key. key.0) keys) expected
 help (unexpected_value expected (Some value)) = suggestions (value ∷ []) expected

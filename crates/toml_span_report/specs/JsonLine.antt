@@ -19,13 +19,13 @@ role_json false = codes "{\"primary\":false"
 unfoldable pub span_json : Span → List ℕ
 span_json span = codes ",\"start\":" ++ decimal span.start ++ codes ",\"end\":" ++ decimal span.end
 
--- the line and the column of its start, both from 1
+-- the line and the column of a label's start, both counted from 1
 unfoldable pub place_json : List ℕ → ℕ → List ℕ
 place_json text at =
     codes ",\"line\":" ++ decimal (line_number text (place text at))
     ++ codes ",\"column\":" ++ decimal (column text (place text at))
 
--- its bytes, line and column
+-- the bytes, the line and the column of a label
 unfoldable pub spot_json : List ℕ → Span → List ℕ
 spot_json text span = span_json span ++ place_json text span.start
 

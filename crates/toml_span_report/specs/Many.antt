@@ -25,7 +25,7 @@ drawn style name text r =
 abbrev pub drawn_content : Drawn → ℕ × List ℕ
 drawn_content d = (d.at, string_bytes d.text)
 
--- The reports are sorted by their places. Those at one place keep their order.
+-- The reports are sorted by their offsets. Reports with the same offset keep their order.
 pub record AreInOrder (given ordered : List (ℕ × List ℕ)) : Type 0 where
   pub places : IsNonDecreasingBy (λ d. d.0) ordered
   pub same : IsStableByKey (λ d. d.0) nat_cmp given ordered

@@ -91,7 +91,7 @@ source p = dots p.is_cut_before ++ shown p.before ++ shown p.marked ++ shown p.a
 abbrev pub source_line : Style → ℕ → MarkedLine → List ℕ
 source_line style width p = gutter style width (decimal p.number) ++ after (codes " ") (source p) ++ codes "\n"
 
--- the marks under it, one for each column of the marked part and at least one, and the message
+-- the marks under a source line, one for each column of the marked part and at least one, and the message
 abbrev pub sign : Bool → ℕ
 sign true = 94
 sign false = 45
@@ -149,7 +149,7 @@ front style r name parts =
     ++ painted style Blue (replicate (width_of parts) 32 ++ codes "--> ") ++ shortened name
     ++ line_and_column (main_part parts) ++ codes "\n"
 
--- The whole text: these, the source lines with marks and messages, and notes and help, if there are any.
+-- The whole text: these two lines, the source lines with marks and messages, and notes and help, if there are any.
 abbrev pub drawn_report : Style → ReportContent → List ℕ → List MarkedLine → List ℕ
 drawn_report style r name parts =
     front style r name parts ++ drawn style r.severity (width_of parts) None parts ++ remarks style (width_of parts) r

@@ -81,7 +81,7 @@ all_marked_lines text marks = fold (λ parts mark. fold placed parts (marked_lin
 abbrev pub is_near : Window → MarkedLine → Bool
 is_near window p = p.number == window.number && nat_le (p.at - window.first) 240
 
--- the start of the last of these
+-- the start of the last strip that a window can show
 abbrev pub last_near : Window → List MarkedLine → ℕ
 last_near window [] = window.last
 last_near window (p ∷ ps) =

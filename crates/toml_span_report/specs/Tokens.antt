@@ -1,4 +1,4 @@
--- What to mark for an error whose span is only a place.
+-- What to mark for an error whose span says only where a token begins.
 use Rattle.std.specs.Prelude.{◌≡◌, ℕ, ◌-◌, ◌⊎◌, min, Bool, true, false, ◌==◌, ◌&&◌, ◌||◌, nat_eq, List, codes, length}
 use Rattle.std.specs.Prelude.{Option, Some, None, if◌then◌else◌, slice_index}
 use Rattle.std.specs.List.{starts_with}

@@ -17,12 +17,12 @@ listed names = join_by named (codes ", ") names
 abbrev pub unknown_keys : List (List ℕ) → List ℕ
 unknown_keys names = (if length names == 1 then codes "unknown key " else codes "unknown keys ") ++ listed names
 
--- the note
+-- the note that lists the expected keys
 abbrev pub what_is_expected : List (List ℕ) → List ℕ
 what_is_expected [] = codes "no key is expected"
 what_is_expected (name ∷ names) = codes "expected " ++ listed (name ∷ names)
 
--- the note for a value that is not among these
+-- the message for a value that is not among these
 abbrev pub one_of : List (List ℕ) → List ℕ
 one_of names = (if length names == 1 then codes "expected " else codes "expected one of ") ++ listed names
 

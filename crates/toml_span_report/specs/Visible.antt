@@ -14,14 +14,14 @@ is_escaped c = nat_lt c 0x20 || (nat_le 0x7F c && nat_lt c 0xA0) || c == 0x61C |
 abbrev pub digit : ℕ → List ℕ
 digit n = encode_utf8 (digit_char n)
 
--- `\u202e`, as JSON has it
+-- the escape of a character by its number, as in JSON: `\u202e`
 unfoldable pub escape : ℕ → List ℕ
 escape c = codes "\\u" ++ digit (c / 4096) ++ digit (c / 256 % 16) ++ digit (c / 16 % 16) ++ digit (c % 16)
 
 abbrev pub visible_char : ℕ → List ℕ
 visible_char c = if is_escaped c then escape c else encode_utf8 c
 
--- a text in which hidden characters are written by number
+-- a text in which the characters of `is_escaped` are written by number
 unfoldable pub visible : List ℕ → List ℕ
 visible text = flat_map visible_char (chars text)
 

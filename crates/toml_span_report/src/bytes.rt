@@ -216,7 +216,8 @@ pub(crate) fn byte_after(text: &str, at: usize) -> u8
     byte_at(text, end_of(Class::Blank, text, at))
 }
 
-/// Returns the offset of the first byte that is not a blank on the line that contains the offset `at`.
+/// Returns the offset of the first byte that is not a blank on the line that contains the offset `at`, or the end of
+/// the line if it has only blanks.
 pub(crate) fn first_of_line(text: &str, at: usize) -> usize
     ensures { result ≡ spec.first_of_line text.now at }
 {
@@ -238,7 +239,7 @@ pub(crate) fn is_last(text: &str, at: usize) -> bool
 }
 
 /// Returns the part of the text between two offsets. An offset inside a character, or beyond the text, is moved back to
-/// the nearest character boundary.
+/// the nearest character boundary. If `to` is before `from`, the part is empty.
 #[tactic(auto, unfolding(crate::specs::Bytes::part))]
 pub(crate) fn part<'a>(text: &'a str, from: usize, to: usize) -> &'a str
     ensures { result.now ≡ spec.part text.now from to }

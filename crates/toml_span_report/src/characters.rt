@@ -22,9 +22,9 @@ fn is_hidden(c: char) -> bool
     )
 }
 
-/// Appends a character in its printed form: a tab as four spaces, any other control character below U+0080 as its
-/// control picture (U+2400 to U+2421), a character for which `is_hidden` returns true as U+FFFD, and any other
-/// character as itself. Fails if an allocation fails.
+/// Appends a character as a report prints it: a tab as four spaces, any other control character below U+0080 as its
+/// control picture (U+2400 to U+2421), a hidden character (`is_hidden`), such as a line separator, as U+FFFD, and any
+/// other character as itself. Fails if an allocation fails.
 fn push_char(out: &mut String, c: char) -> Result<(), AllocError>
     ensures { OnOk result (string_bytes out.new ≡ string_bytes out.old ++ spec.shown_char c) }
 {
@@ -44,7 +44,8 @@ fn push_char(out: &mut String, c: char) -> Result<(), AllocError>
     }
 }
 
-/// Appends a text in its printed form, character by character. Fails if an allocation fails.
+/// Appends a text as a report prints it, with control characters and hidden characters replaced (`push_char`). Fails if
+/// an allocation fails.
 pub(crate) fn push_shown(out: &mut String, text: &str) -> Result<(), AllocError>
     ensures { OnOk result (string_bytes out.new ≡ string_bytes out.old ++ spec.shown text.now) }
 {
@@ -54,7 +55,8 @@ pub(crate) fn push_shown(out: &mut String, text: &str) -> Result<(), AllocError>
     Ok(())
 }
 
-/// Returns a text in its printed form. Fails if an allocation fails.
+/// Returns a text as a report prints it, with control characters and hidden characters replaced (`push_char`). Fails if
+/// an allocation fails.
 pub(crate) fn shown(alloc: Global, text: &str) -> Result<String, AllocError>
     ensures { IfOk result (λ out. string_bytes out ≡ spec.shown text.now) }
 {
@@ -63,7 +65,7 @@ pub(crate) fn shown(alloc: Global, text: &str) -> Result<String, AllocError>
     Ok(out)
 }
 
-/// Returns the number of columns that a text has in its printed form.
+/// Returns the number of columns of a text in which control and hidden characters have been replaced (`push_shown`).
 #[tactic(auto, unfolding(crate::specs::Characters::columns))]
 pub(crate) fn columns(text: &str) -> usize
     ensures { result ≡ spec.columns text.now }

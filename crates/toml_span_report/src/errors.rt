@@ -97,8 +97,9 @@ fn notes(alloc: Global, kind: &ErrorKind<'_>) -> Result<Vec<String>, AllocError>
     Ok(notes)
 }
 
-/// Returns a list with one line of help, the range of the number type with this name. The list is empty for any other
-/// name. Fails if an allocation fails.
+/// Returns a list with one line of help, which states the range of the number type with this name. Returns an empty
+/// list for `i64` and `isize`, which represent every integer of TOML, and for any other name. Fails if an allocation
+/// fails.
 fn range(alloc: Global, name: &str) -> Result<Vec<String>, AllocError>
     ensures { IfOk result (λ help. map string_bytes help.items ≡ option_to_list (range_help name.now)) }
 {
@@ -209,6 +210,8 @@ impl Report {
     ///   marked at the start of the source.
     /// - Each unknown key is marked. A note lists the expected keys, and a line of help names the nearest one
     ///   (`nearest`). For an unexpected value, a line of help names the nearest expected value in the same way.
+    /// - Most errors of typed reads have other messages, such as "missing key" with the name of the key. For a number
+    ///   that is out of range, a line of help states the range of its type.
     ///
     /// Fails only if an allocation fails.
     pub fn from_error(alloc: Global, error: &Error<'_>, text: &str) -> Result<Report, AllocError>
@@ -260,7 +263,7 @@ pub(crate) fn push_errors(
     Ok(())
 }
 
-/// Returns the report of each error of a read of the source `text`, in order. Fails if an allocation fails.
+/// Returns the reports of all errors of a read, in order. `text` is the source. Fails if an allocation fails.
 pub(crate) fn error_reports(
     alloc: Global,
     errors: &DeserError<'_>,
@@ -289,9 +292,9 @@ pub fn render_errors(
     render_all(alloc, style, reports.as_slice(), name, text)
 }
 
-/// Formats the errors with which `from_str` failed: the one error of `parse`, or all errors of the read. Returns them
-/// as text, as `render_errors` does. `name` is the name of the file, `text` the source. Fails if `stop` is
-/// `Stop::Memory`, or if an allocation fails.
+/// Returns the text of the reports for a failed `from_str`: the report of the one error of `parse`, or the reports of
+/// all errors of the read. `name` is the name of the file, `text` the source. Fails if `stop` is `Stop::Memory`, or if
+/// an allocation fails.
 pub fn render_stop(
     alloc: Global,
     style: Style,

@@ -135,15 +135,15 @@ pub(crate) fn replaced<'a>(mistake: Mistake, from: usize, to: usize, code: Code<
     mended(mistake, span_of(from, to), span_of(from, to), code)
 }
 
-/// Returns a finding that marks the bytes from `from` to `to`, and removes them.
+/// Returns a finding that marks the bytes from `from` to `to`, with a replacement that removes them.
 pub(crate) fn removed<'a>(mistake: Mistake, from: usize, to: usize) -> Finding<'a>
     ensures { finding_content result ≡ spec.removed (texts mistake.entry) from to }
 {
     replaced(mistake, from, to, pieces("", "", ""))
 }
 
-/// Returns the quote to put around a part of the text: `'` if it contains a backslash, which then keeps its meaning,
-/// otherwise `"`.
+/// Returns the quote to put around the bytes `from..to` of the text: `'` if they contain a backslash, which `'` leaves
+/// as it is, otherwise `"`.
 pub(crate) fn quote_for<'a>(text: &'a str, from: usize, to: usize) -> &'a str
     ensures { result.now ≡ spec.quote_for text.now from to }
 {
@@ -154,7 +154,7 @@ pub(crate) fn quote_for<'a>(text: &'a str, from: usize, to: usize) -> &'a str
     }
 }
 
-/// Returns a finding that marks a part of the text, and puts it in quotes.
+/// Returns a finding that marks the bytes `from..to` of the text, with a replacement that puts them in quotes.
 pub(crate) fn quoted<'a>(mistake: Mistake, text: &'a str, from: usize, to: usize) -> Finding<'a>
     ensures { finding_content result ≡ spec.quoted (texts mistake.entry) text.now from to }
 {

@@ -16,7 +16,8 @@ fn float_help(name: &str) -> Option<&'static str>
     }
 }
 
-/// Returns the help line with the range of the number type of this name, or `None` if there is no such type.
+/// Returns the help line with the range of the number type of this name. Returns `None` for any other name, and for
+/// `i64` and `isize`, which can represent every integer of TOML.
 #[tactic(auto, unfolding(crate::specs::Help::range_help))]
 pub(crate) fn range_help(name: &str) -> Option<&'static str>
     ensures { option_map (λ help. help.now) result ≡ spec.range_help name.now }

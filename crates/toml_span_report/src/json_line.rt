@@ -16,7 +16,8 @@ use std::fmt::Write;
 use toml_span_lex::span::Span;
 use toml_span_tree::Label;
 
-/// Appends a member whose value is a number. `title` is what precedes the number. Fails if an allocation fails.
+/// Appends a member whose value is a number. `title` is the text before the number, with the name of the member. Fails
+/// if an allocation fails.
 fn push_number(out: &mut String, title: &str, number: usize) -> Result<(), AllocError>
     ensures { OnOk result (string_bytes out.new ≡ string_bytes out.old ++ title.now ++ decimal number) }
 {
@@ -24,7 +25,8 @@ fn push_number(out: &mut String, title: &str, number: usize) -> Result<(), Alloc
     write!(out, "{number}")
 }
 
-/// Appends a member whose value is a string. `title` is what precedes the string. Fails if an allocation fails.
+/// Appends a member whose value is a string. `title` is the text before the string, with the name of the member. Fails
+/// if an allocation fails.
 fn push_member(alloc: Global, out: &mut String, title: &str, text: &str) -> Result<(), AllocError>
     ensures { OnOk result (string_bytes out.new ≡ string_bytes out.old ++ spec.member_json title.now text.now) }
 {
@@ -71,7 +73,7 @@ fn push_spot(out: &mut String, text: &str, span: Span) -> Result<(), AllocError>
     push_place(out, text, span.start)
 }
 
-/// Appends a label of these parts as a JSON object. Fails if an allocation fails.
+/// Appends the label with these parts as a JSON object. Fails if an allocation fails.
 #[tactic(auto, unfolding(crate::specs::JsonLine::parts_json))]
 fn push_parts(
     alloc: Global,
@@ -167,8 +169,8 @@ fn push_texts(alloc: Global, out: &mut String, texts: &[String]) -> Result<(), A
     }
 }
 
-/// Appends a member whose value is an array of strings. `title` is what precedes the array. Fails if an allocation
-/// fails.
+/// Appends a member whose value is an array of strings. `title` is the text before the array, with the name of the
+/// member. Fails if an allocation fails.
 fn push_array(
     alloc: Global,
     out: &mut String,
@@ -195,7 +197,7 @@ fn push_safety(out: &mut String, is_safe: bool) -> Result<(), AllocError>
     }
 }
 
-/// Appends a replacement of these parts as a JSON object. Fails if an allocation fails.
+/// Appends the replacement with these parts as a JSON object. Fails if an allocation fails.
 #[tactic(auto, unfolding(crate::specs::JsonLine::fix_parts_json))]
 fn push_fix_parts(
     alloc: Global,

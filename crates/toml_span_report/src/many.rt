@@ -30,9 +30,9 @@ fn place_of(strip: Option<Strip<'_>>) -> usize
     }
 }
 
-/// Formats a report. Returns its text with the offset by which it is sorted: that of its first primary mark or, if no
-/// mark is primary, of its first mark, or 0 if it has no marks. `name` is the name of the file, `text` the source.
-/// Fails if an allocation fails.
+/// Formats a report. Returns its text with the offset by which it is sorted: the offset of its first primary mark or,
+/// if no mark is primary, of its first mark, or 0 if it has no marks. `name` is the name of the file, `text` the
+/// source. Fails if an allocation fails.
 fn draw(
     alloc: Global,
     style: Style,
@@ -49,7 +49,8 @@ fn draw(
     Ok(Drawn { at, text })
 }
 
-/// Formats each report as `draw` does. Returns their texts with their offsets. Fails if an allocation fails.
+/// Formats each report. Returns the texts, each with the offset by which it is sorted. `name` is the name of the file,
+/// `text` the source. Fails if an allocation fails.
 fn draw_all(
     alloc: Global,
     style: Style,
@@ -103,8 +104,8 @@ fn count_of(severity: Severity, reports: &[Report]) -> usize
     count
 }
 
-/// Appends a count with its word, such as `3 errors`, after a comma unless `line` is empty. `word` is the singular.
-/// Appends nothing if the count is 0. Fails if an allocation fails.
+/// Appends a count with its word, such as `3 errors`, with a comma before it unless `line` is empty. `word` is the
+/// singular. Appends nothing if the count is 0. Fails if an allocation fails.
 fn push_count(line: &mut String, count: usize, word: &str) -> Result<(), AllocError>
     ensures { OnOk result (string_bytes line.new ≡ spec.with_count (string_bytes line.old) count word.now) }
 {

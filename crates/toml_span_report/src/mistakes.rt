@@ -20,8 +20,10 @@ use toml_span_lex::span::Span;
 use toml_span_tree::ErrorKind;
 
 /// Recognizes the typical mistake that probably caused an error, given the kind of the error, its span, and the source
-/// `text`. Returns `None` if no typical mistake is recognized. The functions of these modules take byte offsets in
-/// `text`; `at` is the start of the error's span unless they say otherwise.
+/// `text`. Returns `None` if no typical mistake is recognized.
+///
+/// The functions of the submodules take byte offsets in `text`. Unless they say otherwise, `at` is the start of the
+/// error's span, and a function that returns an `Option` returns `None` if it does not recognize a mistake.
 pub(crate) fn mistake_of<'a>(kind: &ErrorKind<'_>, text: &'a str, span: Span) -> Option<Finding<'a>>
     ensures { option_map finding_content result ≡ spec.mistake_of (kind_of kind.now) text.now span }
 {

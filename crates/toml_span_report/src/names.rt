@@ -16,7 +16,7 @@ fn reach(word: &str) -> usize
     (characters(word) + 1) / 3
 }
 
-/// Returns the distance between a word and a name. Fails if an allocation fails.
+/// Returns the distance between a word and a name (`strsim::osa_distance`). Fails if an allocation fails.
 #[tactic(auto, unfolding(crate::specs::Names::distance))]
 fn distance(alloc: Global, word: &str, name: &str) -> Result<usize, AllocError>
     ensures { IfOk result (λ d. d ≡ spec.distance word.now name.now) }
@@ -27,9 +27,10 @@ fn distance(alloc: Global, word: &str, name: &str) -> Result<usize, AllocError>
 /// Returns the name that a misspelled word probably means: the nearest name, or the first of several that are equally
 /// near. Returns `None` if none is near enough.
 ///
-/// The distance between a word and a name is the number of characters to insert, remove or replace, and of pairs of
-/// neighbors to swap (`strsim::osa_distance`). It may be at most a third of the number of characters in `word`, rounded
-/// to the nearest integer, so a word of one character matches only itself. Fails only if an allocation fails.
+/// The distance between a word and a name is the number of edits that turn the word into the name, where an edit
+/// inserts, removes or replaces a character, or swaps two neighbors (`strsim::osa_distance`). A name is near enough if
+/// its distance is at most a third of the number of characters in `word`, rounded to the nearest integer. So a word of
+/// one character matches only itself. Fails only if an allocation fails.
 pub fn nearest<'a>(
     alloc: Global,
     word: &str,

@@ -115,8 +115,8 @@ pub(crate) fn span_start(text: &str, span: Span) -> usize
 }
 
 /// Returns the end of a span, moved back to the nearest character boundary, and before the line feed if the span ends
-/// with one. For a reversed span, this is its start. An end in the byte order mark of the text is moved to the end of
-/// the mark.
+/// with a line feed. For a reversed span, this is its start. An end in the byte order mark of the text is moved to the
+/// end of the mark.
 #[tactic(auto, unfolding(crate::specs::Places::span_start, crate::specs::Places::span_end))]
 pub(crate) fn span_end(text: &str, span: Span) -> usize
     ensures value { result ≡ spec.span_end text.now span }

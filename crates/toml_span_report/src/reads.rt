@@ -29,8 +29,8 @@ fn push_warnings(
     Ok(())
 }
 
-/// Returns the reports of the warnings of a read and, if it failed, of its errors, for `render_all`. `text` is the
-/// source. Fails if the read failed with `Stop::Memory`, or if an allocation fails.
+/// Returns the reports of a read, for `render_all`: those of its warnings and, if it failed, those of its errors.
+/// `text` is the source. Fails if the read failed with `Stop::Memory`, or if an allocation fails.
 pub fn reports_of<T>(
     alloc: Global,
     read: &Result<T, Stop<DeserError<'_>>>,

@@ -34,7 +34,7 @@ fn push_dots(out: &mut String, is_cut: bool) -> Result<(), AllocError>
     Ok(())
 }
 
-/// Appends the printed form of a text, cut after 1,000 bytes. Fails if an allocation fails.
+/// Appends a text as a report prints it, cut after 1,000 bytes. Fails if an allocation fails.
 #[tactic(auto, unfolding(crate::specs::Rendering::shortened))]
 fn push_shortened(out: &mut String, text: &str) -> Result<(), AllocError>
     ensures { OnOk result (string_bytes out.new ≡ string_bytes out.old ++ spec.shortened text.now) }
@@ -44,7 +44,7 @@ fn push_shortened(out: &mut String, text: &str) -> Result<(), AllocError>
     push_dots(out, end < text.len())
 }
 
-/// Returns the printed form of a text, cut after 1,000 bytes. Fails if an allocation fails.
+/// Returns a text as a report prints it, cut after 1,000 bytes. Fails if an allocation fails.
 fn shortened(alloc: Global, text: &str) -> Result<String, AllocError>
     ensures { IfOk result (λ out. string_bytes out ≡ spec.shortened text.now) }
 {
@@ -64,7 +64,7 @@ pub(crate) fn word(severity: Severity) -> &'static str
     }
 }
 
-/// Returns the color of the word for a severity, and of the marks of primary labels.
+/// Returns the color in which the word for a severity and the marks of primary labels are printed.
 fn ink_of(severity: Severity) -> Ink
     ensures { result ≡ spec.ink_of severity }
 {
@@ -373,8 +373,8 @@ fn push_remarks(frame: Frame, out: &mut String, report: &Report) -> Result<(), A
     push_each(frame, out, "help: ", help)
 }
 
-/// Returns a report as text. `name` is the name of the file, and `strips` are those of the report's labels. Fails if an
-/// allocation fails.
+/// Returns a report as text. `name` is the name of the file, and `strips` are the strips of the report's labels. Fails
+/// if an allocation fails.
 pub(crate) fn drawn(
     alloc: Global,
     style: Style,
@@ -402,18 +402,19 @@ pub(crate) fn drawn(
 ///
 /// The text has a first line with the message; the place of the first primary label as `name:line:column`, both counted
 /// from 1, the column in characters; the source lines on which labels begin and end, with marks under them: `^` for a
-/// primary label, `-` for a secondary one; and the notes and help. Labels are in the order of the source. They may have
-/// any spans: an offset inside a character, or beyond the source, is moved back to the nearest character boundary, and
-/// a reversed span counts as empty. An empty span has one mark.
+/// primary label, `-` for a secondary label; and the notes and help. Labels are in the order of the source. They may
+/// have any spans: an offset inside a character, or beyond the source, is moved back to the nearest character boundary,
+/// and a reversed span counts as empty. An empty span has one mark.
 ///
 /// A tab is printed as four spaces, any other control character below U+0080 as its control picture (U+2400 to U+2421).
 /// Control characters above U+007F, characters that end a line or change the direction of the text, and characters
 /// without width (U+200B, U+200D, U+FEFF) are printed as U+FFFD. Marks count a wide character as two columns
 /// (`unicode_width`). A byte order mark at the start of the source is not printed.
 ///
-/// Long lines are cut: 80 bytes before the first label are shown, and 160 from the start of the last label that begins
-/// within 240 bytes of the first one. For labels further on, the line is printed again. Codes, messages, notes and
-/// names are cut after 1,000 bytes. Colors change nothing else. Fails only if an allocation fails.
+/// Long lines are cut: 80 bytes before the first label are shown, and 160 bytes from the start of the last label that
+/// begins within 240 bytes of the first label. For labels further on, the line is printed again. Codes, messages,
+/// notes, help and names are cut after 1,000 bytes. With colors, the text differs only by their escape sequences. Fails
+/// only if an allocation fails.
 pub fn render(
     alloc: Global,
     style: Style,
@@ -439,7 +440,7 @@ pub(crate) fn push_before(out: &mut String, sign: &str, text: &str) -> Result<()
     out.push_str(sign)
 }
 
-/// Returns the prefix of a one-line report for this severity, which is empty for an error.
+/// Returns what precedes the code in a one-line report of this severity: an empty string for an error.
 fn grade(severity: Severity) -> &'static str
     ensures { result.now ≡ spec.grade severity }
 {
@@ -462,8 +463,8 @@ fn unlike_command(name: &str) -> &'static str
     }
 }
 
-/// Returns a report as one line. `name` is the name of the file, and `strips` are those of the report's labels. Fails
-/// if an allocation fails.
+/// Returns a report as one line. `name` is the name of the file, and `strips` are the strips of the report's labels.
+/// Fails if an allocation fails.
 fn brief(
     alloc: Global,
     report: &Report,
@@ -488,9 +489,10 @@ fn brief(
 /// Returns a report as one line in the form that editors read, `name:line:column: code: message`, which ends with a
 /// line feed. `name` is the name of the file, `text` the source.
 ///
-/// A warning or note has `warning: ` or `note: ` before the code. The place is the same as in `render`, and is left out
-/// if the report has no labels. An empty code is left out. A name that begins with `::`, as workflow commands of GitHub
-/// do, gets the prefix `./`. Fails only if an allocation fails.
+/// A warning or note has `warning: ` or `note: ` before the code. The place is the start of the first primary label or,
+/// if no label is primary, of the first label. It is left out if the report has no labels. An empty code is left out. A
+/// name that begins with `::`, as workflow commands of GitHub do, or with white space and `::`, gets the prefix `./`.
+/// Fails only if an allocation fails.
 pub fn render_line(
     alloc: Global,
     report: &Report,

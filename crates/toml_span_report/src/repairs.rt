@@ -42,7 +42,8 @@ fn push_code(out: &mut String, joint: &str, code: &str) -> Result<(), AllocError
     out.push_str("`")
 }
 
-/// Returns the lines of help of a finding. Fails if an allocation fails.
+/// Returns a list with the line of help of a finding. The list is empty if the finding has no help. Fails if an
+/// allocation fails.
 pub(crate) fn finding_help(alloc: Global, finding: Finding<'_>) -> Result<Vec<String>, AllocError>
     ensures { IfOk result (λ help. map string_bytes help.items ≡ spec.help (finding_content finding.entry)) }
 {

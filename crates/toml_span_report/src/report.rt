@@ -30,8 +30,8 @@ pub struct Replacement {
     pub is_safe: bool,
 }
 
-/// A message about a text, with places in it. A report is made from an error (`from_error`) or built up:
-/// `Report::warning(alloc, "name-twice", "the name appears twice")?.primary(span, "here")?`.
+/// A message about a text, with labels at places in the text. A report is made from an error (`from_error`), or built
+/// step by step: `Report::warning(alloc, "name-twice", "the name appears twice")?.primary(span, "here")?`.
 ///
 /// Methods that add something consume the report, and drop it if an allocation fails.
 #[derive(Debug, Drop)]
@@ -52,8 +52,8 @@ pub struct Report {
 }
 
 impl Report {
-    /// Returns a report without labels, notes and help. Copies the code, which may be empty, and the message. Fails
-    /// only if an allocation fails.
+    /// Returns a report without labels, notes, help and replacements. Copies the code, which may be empty, and the
+    /// message. Fails only if an allocation fails.
     pub fn new(
         alloc: Global,
         severity: Severity,
@@ -73,14 +73,16 @@ impl Report {
         })
     }
 
-    /// Returns a report of the severity `Error`, as `new` does. Fails only if an allocation fails.
+    /// Returns a report of the severity `Error`, without labels, notes, help and replacements. Copies the code, which
+    /// may be empty, and the message. Fails only if an allocation fails.
     pub fn error(alloc: Global, code: &str, message: &str) -> Result<Report, AllocError>
         ensures { IfOk result (λ made. report_content made ≡ spec.bare Error code.now message.now) }
     {
         Report::new(alloc, Severity::Error, code, message)
     }
 
-    /// Returns a report of the severity `Warning`, as `new` does. Fails only if an allocation fails.
+    /// Returns a report of the severity `Warning`, without labels, notes, help and replacements. Copies the code, which
+    /// may be empty, and the message. Fails only if an allocation fails.
     pub fn warning(alloc: Global, code: &str, message: &str) -> Result<Report, AllocError>
         ensures { IfOk result (λ made. report_content made ≡ spec.bare Warning code.now message.now) }
     {
@@ -138,8 +140,8 @@ impl Report {
         Ok(self)
     }
 
-    /// Adds a replacement that a program may apply without asking: `text` instead of the bytes of `span`. Say the same
-    /// with `help`, for those who read the report. Fails only if an allocation fails.
+    /// Adds a replacement that a program may apply without asking: `text` replaces the bytes of `span`. The text of a
+    /// report does not show replacements, so describe the repair with `help` too. Fails only if an allocation fails.
     pub fn replace(self, span: Span, text: &str) -> Result<Report, AllocError>
         ensures { IfOk result (λ made. report_content made
             ≡ spec.with_replacement (report_content self) span text.now true) }
@@ -147,8 +149,8 @@ impl Report {
         self.repair(span, text, true)
     }
 
-    /// Adds a replacement as `replace` does, but one that a person should review first. Fails only if an allocation
-    /// fails.
+    /// Adds a replacement that a person should review first: `text` replaces the bytes of `span`. The text of a report
+    /// does not show replacements, so describe the repair with `help` too. Fails only if an allocation fails.
     pub fn suggest(self, span: Span, text: &str) -> Result<Report, AllocError>
         ensures { IfOk result (λ made. report_content made
             ≡ spec.with_replacement (report_content self) span text.now false) }

@@ -17,7 +17,7 @@ pub(crate) struct Open {
     pub(crate) string: usize,
     /// Whether the latest string has three quotes on each side.
     pub(crate) is_long: bool,
-    /// The number of bytes from this offset that belong to quotes or an escape that began before it.
+    /// The number of bytes from the current offset that belong to quotes or an escape that began before it.
     pub(crate) skip: usize,
 }
 
@@ -28,7 +28,7 @@ pub(crate) fn is_long(text: &str, at: usize) -> bool
     begins(text, at, b"\"\"\"") || begins(text, at, b"'''")
 }
 
-/// Returns what is open after the byte at `at`, which is not in a string or comment.
+/// Returns what is open after the byte at `at`, which is not in a string or comment. `state` is what is open before it.
 fn outside(text: &str, state: Open, at: usize) -> Open
     ensures { result ≡ spec.outside text.now state at }
 {
@@ -51,7 +51,7 @@ fn outside(text: &str, state: Open, at: usize) -> Open
     next
 }
 
-/// Returns what is open after the byte at `at`, which is in a string or comment.
+/// Returns what is open after the byte at `at`, which is in a string. `state` is what is open before it.
 fn inside(text: &str, state: Open, at: usize) -> Open
     ensures { result ≡ spec.inside text.now state at }
 {
@@ -70,7 +70,7 @@ fn inside(text: &str, state: Open, at: usize) -> Open
     next
 }
 
-/// Returns what is open after the byte at `at`, given what is open before it.
+/// Returns what is open after the byte at `at`. `state` is what is open before it.
 #[tactic(auto, unfolding(crate::specs::Scan::step))]
 fn step(text: &str, state: Open, at: usize) -> Open
     ensures { result ≡ spec.step text.now state at }
@@ -108,7 +108,8 @@ pub(crate) fn open_before(text: &str, at: usize) -> Open
     state
 }
 
-/// Returns whether the outermost open bracket is that of a table header: it begins a line.
+/// Returns whether the outermost open bracket of `state` begins a table header, that is, is the first byte of a line
+/// except for blanks. Returns `false` if no bracket is open.
 pub(crate) fn is_in_header(text: &str, state: Open) -> bool
     ensures { result ≡ spec.is_in_header text.now state }
 {

@@ -15,9 +15,9 @@ use toml_span_tree::Label;
 pub(crate) struct Window {
     /// The number of the line, counted from 1.
     pub(crate) number: usize,
-    /// The offset at which the first strip in it begins.
+    /// The offset at which the first strip in the window begins.
     pub(crate) first: usize,
-    /// The offset at which the last strip in it begins.
+    /// The offset at which the last strip in the window begins.
     pub(crate) last: usize,
 }
 
@@ -40,8 +40,8 @@ pub(crate) struct Strip<'a> {
     pub(crate) message: &'a str,
 }
 
-/// Returns the strip from one offset to another, or to the end of its line if that comes first. `message` is the
-/// message of its label.
+/// Returns the strip from the offset `from` to the offset `to`, or to the end of its line if that comes first.
+/// `message` is the message of its label.
 fn strip_at<'a>(
     text: &'a str,
     from: usize,
@@ -139,7 +139,8 @@ pub(crate) fn all_strips<'a, F>(
     Ok(strips)
 }
 
-/// Returns whether a window shows a strip: it begins on the same line, within 240 bytes of the first strip.
+/// Returns whether a window shows a strip: the strip begins on the line of the window, within 240 bytes of the first
+/// strip in the window.
 pub(crate) fn is_near(window: Window, strip: &Strip<'_>) -> bool
     ensures { result ≡ spec.is_near window (marked_line_of strip.now) }
 {

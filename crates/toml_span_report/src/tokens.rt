@@ -48,7 +48,7 @@ fn marks_end(alloc: Global, text: &str, at: usize) -> Result<usize, AllocError>
     }
 }
 
-/// Returns whether the `found` of an error is a token or the end of the text, rather than a kind of value.
+/// Returns whether the `found` of an error names a token or the end of the text, rather than a kind of value.
 fn names_token(found: &str) -> bool
     ensures { result ≡ spec.names_token found.now }
 {
@@ -93,7 +93,7 @@ fn table_mark(text: &str, span: Span) -> Span
     }
 }
 
-/// Returns the span to mark for an error: the token at its place, the header or braces of a table, or the span of the
+/// Returns the span to mark for an error: the token at its start, the header or braces of a table, or the span of the
 /// error. Fails if an allocation fails.
 pub(crate) fn marked_span(
     alloc: Global,

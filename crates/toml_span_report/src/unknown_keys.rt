@@ -97,7 +97,7 @@ pub(crate) fn what_is_expected(alloc: Global, names: &[&str]) -> Result<String, 
     Ok(out)
 }
 
-/// Returns the note that lists the expected names of a value. Fails if an allocation fails.
+/// Returns the message for an unexpected value, which lists the expected ones. Fails if an allocation fails.
 pub(crate) fn one_of(alloc: Global, names: &[&str]) -> Result<String, AllocError>
     ensures { IfOk result (λ out. string_bytes out ≡ spec.one_of (map (λ name. name.now) names.now)) }
 {
@@ -111,7 +111,7 @@ pub(crate) fn one_of(alloc: Global, names: &[&str]) -> Result<String, AllocError
     Ok(out)
 }
 
-/// Returns the message that the name of a key has been replaced by another one. Fails if an allocation fails.
+/// Returns the message that the key `old` is deprecated, and that `new` replaces it. Fails if an allocation fails.
 pub(crate) fn deprecated(alloc: Global, old: &str, new: &str) -> Result<String, AllocError>
     ensures { IfOk result (λ out. string_bytes out ≡ spec.deprecated old.now new.now) }
 {

@@ -36,7 +36,8 @@ fn push_code(out: &mut String, code: u32) -> Result<(), AllocError>
     push_digit(out, code % 16)
 }
 
-/// Appends a character, escaped as in `push_visible`. Fails only if an allocation fails.
+/// Appends a character. A control character, or a character that ends a line or changes the direction of the text, is
+/// written by number, as in `\u202e`. Fails only if an allocation fails.
 pub fn push_char(out: &mut String, c: char) -> Result<(), AllocError>
     ensures { OnOk result (string_bytes out.new ≡ string_bytes out.old ++ spec.visible_char c) }
 {
@@ -47,9 +48,9 @@ pub fn push_char(out: &mut String, c: char) -> Result<(), AllocError>
     }
 }
 
-/// Appends a text, with escapes for the characters that terminals act on: a control character, a character that ends a
-/// line (U+2028, U+2029), or one that changes the direction of the text. These are written by number, as in `\u202e`.
-/// Fails only if an allocation fails.
+/// Appends a text, with escapes for the characters that terminals act on: control characters, characters that end a
+/// line (U+2028, U+2029), and characters that change the direction of the text. These are written by number, as in
+/// `\u202e`. Fails only if an allocation fails.
 pub fn push_visible(out: &mut String, text: &str) -> Result<(), AllocError>
     ensures { OnOk result (string_bytes out.new ≡ string_bytes out.old ++ spec.visible text.now) }
 {
@@ -59,7 +60,8 @@ pub fn push_visible(out: &mut String, text: &str) -> Result<(), AllocError>
     Ok(())
 }
 
-/// Returns a text, escaped as in `push_visible`. Fails only if an allocation fails.
+/// Returns a text, with escapes such as `\u202e` for control characters and for characters that end a line or change
+/// the direction of the text (`push_visible`). Fails only if an allocation fails.
 pub fn visible(alloc: Global, text: &str) -> Result<String, AllocError>
     ensures { IfOk result (λ out. string_bytes out ≡ spec.visible text.now) }
 {
@@ -68,7 +70,8 @@ pub fn visible(alloc: Global, text: &str) -> Result<String, AllocError>
     Ok(out)
 }
 
-/// Appends a character, escaped as in `push_visible` unless it is a line feed. Fails if an allocation fails.
+/// Appends a character, with an escape if terminals act on it (`push_visible`) and it is not a line feed. Fails if an
+/// allocation fails.
 fn push_line_char(out: &mut String, c: char) -> Result<(), AllocError>
     ensures { OnOk result (string_bytes out.new ≡ string_bytes out.old ++ spec.line_char c) }
 {
@@ -79,7 +82,8 @@ fn push_line_char(out: &mut String, c: char) -> Result<(), AllocError>
     }
 }
 
-/// Returns a text, escaped as in `push_visible` except for its line feeds. Fails only if an allocation fails.
+/// Returns a text with escapes for the characters that terminals act on (`push_visible`), except for its line feeds.
+/// Fails only if an allocation fails.
 pub fn visible_lines(alloc: Global, text: &str) -> Result<String, AllocError>
     ensures { IfOk result (λ out. string_bytes out ≡ spec.visible_lines text.now) }
 {
@@ -90,8 +94,8 @@ pub fn visible_lines(alloc: Global, text: &str) -> Result<String, AllocError>
     Ok(out)
 }
 
-/// Appends a text as a JSON string, in quotes. Characters that terminals act on are escaped as in `push_visible`. Fails
-/// only if an allocation fails.
+/// Appends a text as a JSON string, in quotes. Characters that JSON leaves unescaped but terminals act on, such as
+/// U+202E, are escaped too, as in `push_visible`. Fails only if an allocation fails.
 pub fn push_quoted(alloc: Global, out: &mut String, text: &str) -> Result<(), AllocError>
     ensures { OnOk result (string_bytes out.new ≡ string_bytes out.old ++ spec.quoted text.now) }
 {

@@ -3,8 +3,8 @@ use crate::told::Out;
 use std::alloc::Global;
 use toml_span::{line_and_byte, parse};
 
-/// Returns whether a text has a tree from which nothing has been taken, or an error whose span begins in the text and
-/// is not reversed, and which has the line and column of its start.
+/// Returns whether a text has a tree from which nothing has been taken, or an error with a right place: its span begins
+/// in the text and does not end before it begins, and its line and column are those of the start of the span.
 fn is_right(alloc: Global, text: &str, out: &mut Out) -> bool {
     match parse(alloc, text) {
         Ok(root) => {
@@ -25,7 +25,7 @@ fn is_right(alloc: Global, text: &str, out: &mut Out) -> bool {
     }
 }
 
-/// Prints the number of cuts, or the first that is wrong.
+/// Prints the number of cuts or, if the result for one of them is wrong, the text up to the first such cut.
 pub fn push_cuts(alloc: Global, text: &str, out: &mut Out) {
     let mut count: usize = 0;
     for end in 0..text.len() {

@@ -4,8 +4,8 @@
 //! PART, which may contain the other escapes.
 use std::alloc::{AllocError, Global};
 
-/// Reads an escape. `piece` begins after its backslash. Returns its character and the rest of the piece, or `None` if
-/// the escape is not valid.
+/// Reads the escape whose backslash precedes `piece`. Returns the character that the escape spells and the rest of the
+/// piece, or `None` if the escape is not valid.
 fn escaped(piece: &str) -> Option<(char, &str)> {
     let mut chars = piece.chars();
     let Some(first) = chars.next() else {
@@ -25,8 +25,8 @@ fn escaped(piece: &str) -> Option<(char, &str)> {
     }
 }
 
-/// Repeats the part of a text from the offset `start` to the end, so that the text has it `times` times instead of
-/// once.
+/// Repeats the end of a text, from the offset `start` on, so that it occurs `times` times instead of once. Fails if an
+/// allocation fails.
 fn repeat(alloc: Global, times: usize, start: usize, text: &mut String) -> Result<(), AllocError> {
     let part = String::from_str(alloc, text.as_str().get(start..).unwrap_or(""))?;
     if times == 0 {
@@ -38,9 +38,10 @@ fn repeat(alloc: Global, times: usize, start: usize, text: &mut String) -> Resul
     Ok(())
 }
 
-/// Appends the text that a row spells with escapes. Returns whether all escapes are valid.
+/// Appends the text that `source`, a row's text with escapes, spells. Returns whether all escapes are valid. Fails if
+/// an allocation fails.
 ///
-/// The row is split at its backslashes. An empty piece, except the first, is between two adjacent backslashes. These
+/// The row is split at its backslashes. An empty piece between two others comes from two adjacent backslashes. These
 /// spell one backslash, so the piece after them does not begin with an escape.
 pub fn push_text(alloc: Global, source: &str, text: &mut String) -> Result<bool, AllocError> {
     // The number of copies of the part to repeat, and the offset in `text` where that part starts.
@@ -72,8 +73,8 @@ pub fn push_text(alloc: Global, source: &str, text: &mut String) -> Result<bool,
     Ok(after)
 }
 
-/// Appends the words of a row, which are separated by spaces, without their escapes. `""` is the empty word. Returns
-/// whether all escapes are valid.
+/// Appends the words of a row, which are separated by spaces, with their escapes decoded. `""` is the empty word.
+/// Returns whether all escapes are valid. Fails if an allocation fails.
 pub fn push_words(alloc: Global, words: &str, found: &mut Vec<String>) -> Result<bool, AllocError> {
     if words.is_empty() {
         return Ok(true);

@@ -23,7 +23,7 @@ fn push_error(alloc: Global, error: &Error<'_>, out: &mut Out) {
     out.told(error.to_diagnostic(alloc, FILE));
 }
 
-/// Prints the code, the span and the texts of an error, and one more line if those of a clone are different.
+/// Prints the code, the span and the texts of an error, and one more line if those of its clone differ.
 pub fn push_twice(alloc: Global, error: &Error<'_>, out: &mut Out) {
     push_error(alloc, error, out);
     let Some(copy) = out.kept(error.clone(alloc)) else {
@@ -67,7 +67,7 @@ fn kind_of<'s>(word: &str, text: &'s str) -> Option<ErrorKind<'s>> {
     })
 }
 
-/// Prints the answer to a row. Returns whether there is such a call.
+/// Prints the answer to a row. Returns false if this module has no such call, or if a word of the row is wrong.
 pub fn answer(alloc: Global, row: Row<'_>, out: &mut Out) -> bool {
     if row.call != "diagnostic" {
         return false;

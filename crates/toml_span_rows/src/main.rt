@@ -7,7 +7,7 @@
 //! - `cuts`: see `cuts`. `span_at POINTER`, `port_of`, `describe_port`: the results of these functions in `uses`.
 //! - `holders`: the document, read as the `Holders` of `typed::structs`. `warned TYPE`: see `typed::warned`.
 //! - `span START END`: whether a span is empty, its conversions, and where it starts in a text.
-//! - `copies START END`: clones of a key with that name and of the text at the span, each made twice.
+//! - `copies START END`: clones of a key whose name is the text, and of the text, both with this span, each made twice.
 //! - `load_file NAME`: the value read from that file in `data`. This is the only row that needs files.
 #![tactic(auto)]
 
@@ -50,7 +50,7 @@ pub(crate) struct Row<'r> {
 }
 
 impl<'r> Row<'r> {
-    /// Returns the word at an index, or an empty one if there are not that many.
+    /// Returns the word at an index, or an empty text if there are fewer words.
     pub(crate) fn word(self, index: usize) -> &'r str {
         match self.words.get(index) {
             Some(word) => word.as_str(),
@@ -70,7 +70,8 @@ fn parts_of(line: &str) -> Option<(&str, &str, &str)> {
     Some((call, words, text))
 }
 
-/// Prints the result of a function in `uses`. Returns whether there is such a function.
+/// Prints the answer to `cuts`, `span_at`, `port_of`, `describe_port`, `holders` or `warned`. Returns false for any
+/// other call.
 fn push_caller(alloc: Global, row: Row<'_>, out: &mut Out) -> bool {
     let text = row.text;
     match row.call {
@@ -85,7 +86,7 @@ fn push_caller(alloc: Global, row: Row<'_>, out: &mut Out) -> bool {
     true
 }
 
-/// Prints the answer of the module that knows the row's call. Returns whether one does.
+/// Prints the answer of the module that knows the row's call. Returns false if no module knows it.
 fn push_answer(alloc: Global, row: Row<'_>, out: &mut Out) -> bool {
     push_caller(alloc, row, out)
         || tokens::answer(alloc, row, out)
@@ -98,7 +99,7 @@ fn push_answer(alloc: Global, row: Row<'_>, out: &mut Out) -> bool {
         || trees::answer(alloc, row, out)
 }
 
-/// Prints the answer to a row. Returns whether it could be read.
+/// Prints the answer to a row. Returns whether the row could be read. Fails if an allocation fails.
 fn push_answered(
     rt: &HostRuntime,
     alloc: Global,
@@ -122,7 +123,7 @@ fn push_answered(
     Ok(push_answer(alloc, row, out))
 }
 
-/// Prints the answer to a row, indented by four spaces. Returns whether it could be read.
+/// Prints the answer to a row, indented by four spaces. Returns whether the row could be read.
 fn push_row(rt: &HostRuntime, alloc: Global, line: &str, out: &mut Out) -> bool {
     let mut answer = Out::new(alloc);
     let answered = push_answered(rt, alloc, line, &mut answer);
@@ -153,6 +154,8 @@ fn push_lines(rt: &HostRuntime, alloc: Global, input: &str, out: &mut Out) -> bo
     readable
 }
 
+/// Prints the answers to the rows on standard input. Exits with status 1 if a row can't be read. Fails if a read, a
+/// write or an allocation fails.
 fn main(rt: HostRuntime) -> io::Result<ExitCode> {
     let alloc = rt.alloc();
     let input = io::read_to_string(alloc, rt.stdin())?;

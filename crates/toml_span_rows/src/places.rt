@@ -15,7 +15,7 @@ use toml_span::value::{Step, Value};
 use toml_span_places::{insertion_point, key_places, node_at, replaced, table_forms};
 use toml_span_read::Section;
 
-/// Converts words to the steps of a path.
+/// Converts words to the steps of a path. Fails if an allocation fails.
 fn steps_of<'r>(alloc: Global, words: &'r [String]) -> Result<Vec<Step<'r>>, AllocError> {
     let mut steps = Vec::new(alloc);
     for word in words {
@@ -38,7 +38,7 @@ fn push_steps(steps: &[Step<'_>], out: &mut Out) {
     }
 }
 
-/// Answers `key_places`.
+/// Prints the answer to `key_places`.
 pub fn push_keys(alloc: Global, text: &str, sections: &[Section<'_>], out: &mut Out) {
     if let Some(places) = out.kept(key_places(alloc, text, sections)) {
         for place in &places {
@@ -48,7 +48,7 @@ pub fn push_keys(alloc: Global, text: &str, sections: &[Section<'_>], out: &mut 
     }
 }
 
-/// Answers `table_forms`.
+/// Prints the answer to `table_forms`.
 pub fn push_forms(alloc: Global, row: Row<'_>, sections: &[Section<'_>], out: &mut Out) {
     let Some(steps) = out.kept(steps_of(alloc, row.words)) else {
         return;
@@ -64,7 +64,7 @@ pub fn push_forms(alloc: Global, row: Row<'_>, sections: &[Section<'_>], out: &m
     }
 }
 
-/// Answers `insertion_point`.
+/// Prints the answer to `insertion_point`.
 pub fn push_point(alloc: Global, row: Row<'_>, sections: &[Section<'_>], out: &mut Out) {
     let Some(steps) = out.kept(steps_of(alloc, row.words)) else {
         return;
@@ -85,7 +85,7 @@ pub fn push_point(alloc: Global, row: Row<'_>, sections: &[Section<'_>], out: &m
     }
 }
 
-/// Answers `node_at`. Returns whether the word is an offset.
+/// Prints the answer to `node_at`. Returns false if the word is not an offset.
 pub fn push_node_at(alloc: Global, row: Row<'_>, root: &Value<'_>, out: &mut Out) -> bool {
     let Ok(offset) = row.word(0).parse::<usize>() else {
         return false;

@@ -15,7 +15,7 @@ use toml_span_report::{Report, Severity, Style, nearest, render_all, render_json
 /// The name of the file.
 const FILE: &str = "a.toml";
 
-/// Prints the answer to a row. Returns whether there is such a call.
+/// Prints the answer to a row. Returns false if this module has no such call.
 pub fn answer(alloc: Global, row: Row<'_>, out: &mut Out) -> bool {
     match row.call {
         "nearest" => {
@@ -36,7 +36,7 @@ pub fn answer(alloc: Global, row: Row<'_>, out: &mut Out) -> bool {
     true
 }
 
-/// Returns the reports of `without_labels`.
+/// Returns the reports that `without_labels` prints, all with this message. Fails if an allocation fails.
 fn reports_of(alloc: Global, message: &str) -> Result<Vec<Report>, AllocError> {
     let warning = Report::warning(alloc, "", message)?
         .secondary(Span::new(4, 5), "second")?
@@ -53,7 +53,7 @@ fn reports_of(alloc: Global, message: &str) -> Result<Vec<Report>, AllocError> {
     Ok(reports)
 }
 
-/// Answers `without_labels`.
+/// Prints the answer to `without_labels`.
 fn push_without_labels(alloc: Global, row: Row<'_>, out: &mut Out) {
     let Some(reports) = out.kept(reports_of(alloc, row.word(0))) else {
         return;

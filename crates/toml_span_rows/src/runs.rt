@@ -1,8 +1,9 @@
 //! Runs `toml_span_show` on a reader and a writer in memory.
 //!
 //! `run LIMIT WORD ..` calls `run` if the limit is 128, otherwise `run_with_limit`, and prints the status and the
-//! output. If the last word ends in `each`, it runs once for each call that can fail, and once for a call that is never
-//! made. A line for each run has the status, and the numbers of bytes and calls for reads and for writes.
+//! output. If the last word ends in `=each`, it then runs again with 1, 2 and so on in place of `each`, until the
+//! status of a run is not 3. For each of these runs, it prints a line with the status, and the numbers of bytes and
+//! calls for reads and for writes.
 //!
 //! | Word | Meaning |
 //! |---|---|
@@ -98,7 +99,7 @@ impl Read for Given<'_> {
     }
 }
 
-/// A writer that keeps what it accepts.
+/// A writer that keeps the bytes that it accepts.
 #[derive(Drop)]
 struct Taken {
     bytes: Vec<u8>,
@@ -132,7 +133,7 @@ struct Ended<'b> {
     writer: Taken,
 }
 
-/// Runs the program on these bytes.
+/// Runs the program on these bytes, with the depth limit `limit`.
 fn run_on(alloc: Global, limit: usize, bytes: &[u8], ends: Ends) -> Ended<'_>
     requires some { 1 ≤ limit }
     requires small { limit ≤ 128 }
@@ -161,7 +162,8 @@ fn run_on(alloc: Global, limit: usize, bytes: &[u8], ends: Ends) -> Ended<'_>
     }
 }
 
-/// Prints the status of a run and its numbers of calls and bytes. If the output is not a prefix of `whole`, prints it.
+/// Prints the status of a run and its numbers of calls and bytes. If the output is not a prefix of `whole`, prints only
+/// the output.
 fn push_front(ended: &Ended<'_>, whole: &[u8], out: &mut Out) {
     let bytes = ended.writer.bytes.as_slice();
     if !whole.starts_with(bytes) {
@@ -181,7 +183,8 @@ fn push_front(ended: &Ended<'_>, whole: &[u8], out: &mut Out) {
     }
 }
 
-/// Prints a line for each call that can fail, and one for a call that is never made.
+/// Runs the program with 1, 2 and so on in place of `each`, and prints a line for each run. Ends after the first run
+/// whose status is not 3.
 fn push_each(alloc: Global, limit: usize, words: &[String], whole: &Ended<'_>, out: &mut Out)
     requires some { 1 ≤ limit }
     requires small { limit ≤ 128 }
@@ -198,7 +201,7 @@ fn push_each(alloc: Global, limit: usize, words: &[String], whole: &Ended<'_>, o
     }
 }
 
-/// Prints the answer to a row. Returns whether there is such a call.
+/// Prints the answer to a row. Returns false if the row's call is not `run`, or if a word of the row is wrong.
 pub fn answer(alloc: Global, row: Row<'_>, out: &mut Out) -> bool {
     if row.call != "run" {
         return false;

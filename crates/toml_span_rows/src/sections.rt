@@ -25,7 +25,7 @@ fn push_key(key: &Key<'_>, after: &str, out: &mut Out) {
     out.push_str(after);
 }
 
-/// Prints an assignment after a space.
+/// Prints a space and an assignment.
 fn push_assignment(assignment: &Assignment<'_>, out: &mut Out) {
     out.push_str(" ");
     for key in &assignment.parts.inner {
@@ -67,7 +67,7 @@ fn push_call(alloc: Global, row: Row<'_>, sections: &[Section<'_>], out: &mut Ou
     }
 }
 
-/// Prints the answer to a row. Returns whether there is such a call.
+/// Prints the answer to a row. Returns false if this module has no such call, or if a word of the row is wrong.
 pub fn answer(alloc: Global, row: Row<'_>, out: &mut Out) -> bool {
     if !matches!(
         row.call,

@@ -15,8 +15,8 @@ use toml_span::tokens::{Error, Token, Tokenizer};
 use toml_span::value::Key;
 use toml_span::{Span, Stop};
 
-/// Returns the token that a word names, or `None` if there is none. A string is written as its text with the quotes,
-/// `=`, and its value.
+/// Returns the token that a word names, or `None` if it names no token. A string is written as its text with the
+/// quotes, `=`, and its value.
 fn token_of(named: &str) -> Option<Token<'_>> {
     let (kind, content) = match named.split_once('(') {
         Some((kind, content)) => (kind, content.strip_suffix(')')?),
@@ -63,7 +63,8 @@ fn push_holder(out: &mut Out, text: &CowStr<'_>) {
     });
 }
 
-/// Prints a token or, if `in_words`, its name.
+/// Prints the token in `answer` or, if `in_words`, only its name. Prints `end` for `None`, and the error if the call
+/// failed.
 fn push_step(
     out: &mut Out,
     answer: Result<Option<(Span, Token<'_>)>, Stop<Error>>,
@@ -84,7 +85,7 @@ fn push_step(
     }
 }
 
-/// Prints a key.
+/// Prints the key in `answer`, or the error if the call failed.
 fn push_key(out: &mut Out, answer: Result<Key<'_>, Stop<Error>>) {
     match &answer {
         Ok(key) => {
@@ -158,8 +159,8 @@ impl<'t> Tokenizers<'t> {
     }
 }
 
-/// Calls methods of one tokenizer, in the order in which the words name them, and prints a line for each. Returns
-/// whether there are such methods.
+/// Calls methods of one tokenizer, in the order in which the words name them, and prints a line for each. Returns false
+/// at a word that names no method.
 fn push_calls(alloc: Global, row: Row<'_>, out: &mut Out) -> bool {
     let mut tokenizers = Tokenizers {
         used: Tokenizer::new(row.text),
@@ -199,7 +200,7 @@ fn push_tokens(alloc: Global, text: &str, out: &mut Out) {
     }
 }
 
-/// Prints the answer to a row. Returns whether there is such a call.
+/// Prints the answer to a row. Returns false if this module has no such call, or if a word of the row is wrong.
 pub fn answer(alloc: Global, row: Row<'_>, out: &mut Out) -> bool {
     match row.call {
         "tokens" => {

@@ -5,7 +5,7 @@
 //! - `json`: the JSON value.
 //! - `again`: each value that is written in one piece, parsed again.
 //! - `node_at OFFSET`: see `places`. `write OPERATION ..`: see `writes`. Typed reads: see `typed`.
-//! - `diagnostics`: the message of the error, and its diagnostic. `copied`: copies of it.
+//! - `diagnostics`: the message of the error, and its diagnostic. `copied`: copies of the error.
 ghost use Rattle.std.specs.Prelude.{◌≤◌, IfSome};
 
 use crate::faults::{push_copies, push_twice};
@@ -22,8 +22,8 @@ mod pieces;
 pub mod shown;
 mod writes;
 
-/// Returns the limit that a row gives to `parse`, `read` or `run`, or the default for any other call. Returns `None` if
-/// the word is not a limit.
+/// Returns the depth limit that a row gives to `parse`, `read` or `run`, or 128 for any other call. Returns `None` if
+/// the row's first word is not a number from 1 to 128.
 pub(crate) fn limit_of(row: Row<'_>) -> Option<usize>
     ensures some { IfSome result (λ limit. 1 ≤ limit) }
     ensures small { IfSome result (λ limit. limit ≤ 128) }
@@ -54,7 +54,7 @@ fn push_json(alloc: Global, root: &Value<'_>, out: &mut Out) {
     }
 }
 
-/// Prints the answer of a call on a tree. Returns whether there is such a call.
+/// Prints the answer of a call on a tree. Returns false for an unknown call, or if the call can't be made on this tree.
 fn push_call<'t>(alloc: Global, row: Row<'t>, root: &mut Value<'t>, out: &mut Out) -> bool {
     match row.call {
         "parse" | "twice" => push_lines(alloc, root, out),
@@ -67,7 +67,7 @@ fn push_call<'t>(alloc: Global, row: Row<'t>, root: &mut Value<'t>, out: &mut Ou
     true
 }
 
-/// Prints the error of a text.
+/// Prints the error of a text, in the form that the call prints.
 fn push_refused(alloc: Global, call: &str, fault: &Error<'_>, out: &mut Out) {
     match call {
         "diagnostics" => push_twice(alloc, fault, out),
@@ -76,7 +76,7 @@ fn push_refused(alloc: Global, call: &str, fault: &Error<'_>, out: &mut Out) {
     }
 }
 
-/// Prints the answer to a row. Returns whether there is such a call.
+/// Prints the answer to a row. Returns false if this module has no such call, or if a word of the row is wrong.
 pub fn answer(alloc: Global, row: Row<'_>, out: &mut Out) -> bool {
     let Some(limit) = limit_of(row) else {
         return false;

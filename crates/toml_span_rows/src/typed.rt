@@ -4,7 +4,7 @@
 //! - `errors TYPE` reads the value at `/a`, and prints the result of each method of the `DeserError`. `diagnostics
 //!   TYPE` and `copied TYPE`: see `faults`, for the last error.
 //! - `merge TYPE TYPE` reads `/a` and `/b`, and appends the errors of the second to those of the first.
-//! - `parse_string TYPE` parses the string at `/a`. `open` makes a helper for the value there.
+//! - `parse_string TYPE` parses the string at `/a`. `open` makes a helper for the value at `/a`.
 //! - `fields CALL ..` makes a helper for the root, and makes each call on it.
 mod fields;
 mod odd;
@@ -24,7 +24,8 @@ use toml_span::DeserError;
 use toml_span::de_helpers::{TableHelper, parse};
 use toml_span::value::Value;
 
-/// Prints the answer to a row for a tree. Returns whether there is such a call.
+/// Prints the answer to a row for a tree. Returns false if this module has no such call, or if the call can't be made
+/// on this tree.
 pub fn answer<'de>(alloc: Global, row: Row<'de>, root: &mut Value<'de>, out: &mut Out) -> bool {
     let known = match row.call {
         "typed_root" => push_read(alloc, row.word(0), root, out),
@@ -37,7 +38,8 @@ pub fn answer<'de>(alloc: Global, row: Row<'de>, root: &mut Value<'de>, out: &mu
     known
 }
 
-/// Prints the result of the row's call on the value at `/a`. Returns whether both exist.
+/// Prints the result of the row's call on the value at `/a`. Returns false for an unknown call, or if the value is
+/// missing.
 fn push_at<'de>(alloc: Global, row: Row<'de>, root: &mut Value<'de>, out: &mut Out) -> bool {
     match root.pointer_mut("/a") {
         Some(value) if row.call == "typed" => push_read(alloc, row.word(0), value, out),
@@ -46,7 +48,8 @@ fn push_at<'de>(alloc: Global, row: Row<'de>, root: &mut Value<'de>, out: &mut O
     }
 }
 
-/// Prints the result of a call that takes the value. Returns whether there is such a call.
+/// Prints the result of `parse_string` or `open`, which take the value. Returns false for an unknown call, or if the
+/// value has been taken.
 fn push_call<'de>(alloc: Global, row: Row<'_>, value: &mut Value<'de>, out: &mut Out) -> bool {
     if value.is_taken() {
         return false;
@@ -66,7 +69,8 @@ fn push_call<'de>(alloc: Global, row: Row<'_>, value: &mut Value<'de>, out: &mut
     true
 }
 
-/// Prints the errors of a read. Returns whether there are any.
+/// Prints the errors of one read or, for `merge`, of two, as the row's call says. Returns false if a read has no
+/// errors.
 fn push_errors<'de>(alloc: Global, row: Row<'de>, root: &mut Value<'de>, out: &mut Out) -> bool {
     let Some(mut errors) = errors_at(alloc, row.word(0), root, "/a", out) else {
         return false;
@@ -85,8 +89,8 @@ fn push_errors<'de>(alloc: Global, row: Row<'de>, root: &mut Value<'de>, out: &m
     true
 }
 
-/// Appends errors to others, and prints the result. If an allocation fails, tries again with the errors that are
-/// returned.
+/// Appends the errors `more` to `errors`, and prints the result. If an allocation fails, tries again with the errors
+/// that `merge` returns.
 fn push_merge<'de>(
     alloc: Global,
     errors: &mut DeserError<'de>,

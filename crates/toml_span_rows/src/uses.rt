@@ -14,7 +14,8 @@ use std::alloc::Global;
 use toml_span::de_helpers::TableHelper;
 use toml_span::{Error, Span, Stop, parse};
 
-/// Returns the span of the value that the pointer names, if there is one.
+/// Returns the span of the value that the pointer names, or `None` if it names nothing. Fails with `Stop::Fault` if the
+/// text is not valid TOML, and with `Stop::Memory` if an allocation fails.
 pub(crate) fn span_at<'de>(
     alloc: Global,
     text: &'de str,
@@ -31,7 +32,8 @@ pub(crate) fn span_at<'de>(
     }
 }
 
-/// Returns the port in the document, or why there is none.
+/// Returns the integer `port` of a document. Fails with `Stop::Fault` if the text is not valid TOML, or if `port` is
+/// missing or not a `u16`, and with `Stop::Memory` if an allocation fails.
 #[tactic(auto, using(toml_span_typed::proofs::Whole::found_whole))]
 pub(crate) fn port_of<'de>(alloc: Global, text: &'de str) -> Result<u16, Stop<Error<'de>>>
     ensures port { IfOk result (λ port. IsDocument text.now (λ places. (place : Place)

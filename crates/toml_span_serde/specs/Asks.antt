@@ -13,7 +13,8 @@ AsksStart names = (n : Name) × (names ≡ n ∷ []) × (n.name.now ≡ codes "$
 abbrev pub AsksEnd : List Name → Type 0
 AsksEnd names = (n : Name) × (names ≡ n ∷ []) × (n.name.now ≡ codes "$toml_span::end")
 
--- the results for the start and for the end of the next value
+-- The start and the end of the span are the positions of variants that the format returns: the first when asked for the
+-- start of the next value, the second when asked for its end.
 abbrev pub HasSpan : {F E M : Type 0} → (F → List ℕ → Bool → List Name → ℕ → F → Type 0)
     → Deserializer F E M → Span → Type 0
 HasSpan {F} {E} {M} picks from span =

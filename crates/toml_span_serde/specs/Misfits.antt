@@ -28,7 +28,7 @@ use Rattle.toml_span_serde.specs.declared.misfit.Error.TheVariants as error
 use Rattle.toml_span_serde.specs.declared.path.Step.{Step}
 use Rattle.toml_span_serde.specs.declared.path.Step.TheVariants as step
 
--- the name of what a type expects
+-- the name of an expected kind, with its article
 abbrev pub words_of : Expected → List ℕ
 words_of expected.Boolean = codes "a boolean"
 words_of expected.Integer = codes "an integer"
@@ -146,7 +146,7 @@ HasLine text m = m.span.start ≤ length text → m.line_info ≡ Some (line_inf
 abbrev pub HasTree : List ℕ → (Node → Type 0) → Type 0
 HasTree text P = (root : Value) × IsTree text depth_limit root × P (view root)
 
--- The text has no tree, or has one, and the misfit is at a place in it.
+-- Either the text has no tree, or it has one and the misfit is at a place in that tree.
 abbrev pub IsRefused : List ℕ → Stop Error → Type 0
 IsRefused text (stop.Memory e) = ⊤
 IsRefused text (stop.Fault (error.Refused e)) = IsRefusal text depth_limit (stop.Fault e)

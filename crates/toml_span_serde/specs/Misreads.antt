@@ -64,7 +64,7 @@ kind_ahead table_begins = kind.Map
 kind_ahead table_ends = kind.Map
 kind_ahead (key s) = kind.Str
 
--- the text of a string or key, and nothing for any other piece
+-- the text of a string or key, and an empty text for any other piece
 abbrev pub piece_text : Content → List ℕ
 piece_text (value (tree.text s)) = s
 piece_text (key s) = s
@@ -74,7 +74,7 @@ abbrev pub piece_text_in : Option Piece → List ℕ
 piece_text_in None = []
 piece_text_in (Some p) = piece_text p.content
 
--- an array or a table begins
+-- The piece begins an array or a table.
 abbrev pub IsOpening : Content → Type 0
 IsOpening c = (c ≡ array_begins) ⊎ (c ≡ table_begins)
 
@@ -88,11 +88,11 @@ abbrev pub UnlessMemory : Stop Misread → Type 0 → Type 0
 UnlessMemory (stop.Memory e) P = ⊤
 UnlessMemory (stop.Fault m) P = P
 
--- There is no next piece.
+-- There is no next piece, and the error says so.
 abbrev pub RunsOut : Reader → Stop Misread → Type 0
 RunsOut r stopped = (ahead r ≡ []) × IsMisread (λ why. why ≡ is.Invalid) r.next stopped
 
--- an allocation failed
+-- The error is a failed allocation.
 abbrev pub IsMemory : Stop Misread → Type 0
 IsMemory stopped = (e : AllocError) × (stopped ≡ stop.Memory e)
 
@@ -106,12 +106,12 @@ Lists reason text names why =
 abbrev pub Says : (String Global → Reason) → List ℕ → Reason → Type 0
 Says reason text why = (s : String Global) × (why ≡ reason s) × (string_bytes s ≡ text)
 
--- There is no next piece, or it is not the expected one.
+-- The reason is that there is no next piece, or that it is not of the expected kind.
 abbrev pub Misses : (Content → Type 0) → Expected → List Piece → Reason → Type 0
 Misses Fits expected [] why = why ≡ is.Invalid
 Misses Fits expected (p ∷ ps) why = ¬ Fits p.content × (why ≡ is.Wanted expected (found_of p.content))
 
--- The same, or the next piece has the defect that is this reason.
+-- Like `Misses`. Or the next piece has the given defect, and the reason is the given one.
 abbrev pub MissesOr : (Content → Type 0) → Expected → (Piece → Type 0) → Reason → List Piece → Reason → Type 0
 MissesOr Fits expected HasDefect reason ps why = Misses Fits expected ps why
     ⊎ ((why ≡ reason) × ((p : Piece) × (rest : List Piece) × (ps ≡ p ∷ rest) × HasDefect p))
@@ -145,16 +145,16 @@ abbrev pub IsUnreadable : Format → Piece → Type 0
 IsUnreadable format p = (d : tree.FloatValue) × (p.content ≡ value (tree.float d))
     × (parse_float format (float_text d) ≡ None)
 
--- a text that does not have exactly one character
+-- a string or key that does not consist of exactly one character
 abbrev pub IsNotOneCharacter : Piece → Type 0
 IsNotOneCharacter p = (s : List ℕ) × IsText s p.content × ((c : ℕ) → IsScalar c → s ≢ encode_utf8 c)
 
--- a text that the input does not have at the span
+-- a string or key that does not equal the input at its span
 abbrev pub IsNotAtItsSpan : List ℕ → Piece → Type 0
 IsNotAtItsSpan input p = (s : List ℕ) × IsText s p.content × (p.span.start ≤ p.span.end
     → p.span.end ≤ length input → slice_range input p.span.start p.span.end ≢ s)
 
--- why a type does not accept a value
+-- the reason for which a type that has read a piece does not accept it
 abbrev pub refusal : Content → Reason
 refusal (value (tree.integer z)) = is.OutOfRange
 refusal c = is.Invalid
@@ -163,7 +163,8 @@ abbrev pub refusal_in : Option Piece → Reason
 refusal_in None = is.Invalid
 refusal_in (Some p) = refusal p.content
 
--- what is reported for this kind, if it is not one of the expected ones, or if these are not known
+-- The reason is that a piece has this kind although one of the listed kinds was expected, or that it is unexpected if
+-- none is listed.
 abbrev pub IsOther : List Expected → Found → Reason → Type 0
 IsOther [] f why = why ≡ is.Unexpected f
 IsOther (e ∷ []) f why = why ≡ is.Wanted e f
@@ -173,11 +174,12 @@ abbrev pub IsOtherIn : List Expected → Option Piece → Reason → Type 0
 IsOtherIn kinds None why = why ≡ is.Invalid
 IsOtherIn kinds (Some p) why = IsOther kinds (found_of p.content) why
 
--- after a return to this piece: if anything was read since then, an attempt has read the piece
+-- the attempts after the reader goes back to the piece at `mark`: if it has read any piece since then, an attempt has
+-- read that piece
 abbrev pub tries_back_at : ℕ → Reader → Tries
 tries_back_at mark r = if r.next == mark then tries r.tried else taken mark
 
--- why an array has not as many elements as the type expects: it ended too early, or it continues
+-- the reason for an array of the wrong length: it has ended, or it has more elements than the type expects
 abbrev pub length_reason : Reader → Reason
 length_reason r =
     if nat_lt r.at r.next then is.Length (elements_in (take r.at (laid r)))
@@ -205,11 +207,12 @@ variants r = map string_bytes r.variants.items
 abbrev pub variant_names : Reader → List (List ℕ)
 variant_names r = if r.is_unknown then fields r else variants r
 
--- what is kept after a step that found the name with this index: all forms of the names, if it found none
+-- the names to remember after a step that found the name with this index: all forms of the names if it found none,
+-- otherwise those remembered before
 abbrev pub held : List Name → ℕ → List (List ℕ) → List (List ℕ)
 held names at before = if nat_lt at (length names) then before else all_forms names
 
--- the same for a step that may have read the end of a table
+-- like `held`, for a step that may have read the end of a table instead of a key (`None`)
 abbrev pub held_by : List Name → Option ℕ → List (List ℕ) → List (List ℕ)
 held_by names None before = before
 held_by names (Some at) before = held names at before
@@ -223,26 +226,26 @@ Twin = (ℕ × Span) × List (List ℕ)
 abbrev pub twin : Reader → Twin
 twin r = (key_place r.key, map string_bytes r.forms.items)
 
--- the twin after a key at this place, if it is a form of this name
+-- the twin after the reader has read a key at this place, which is a form of this name, if there is a name
 abbrev pub twin_after : Option Name → ℕ × Span → Twin → Twin
 twin_after None place before = before
 twin_after (Some n) place before = if length n.aliases.now == 0 then before else (place, forms_of n)
 
--- of two keys, the one that is later in the text, and the span of the other
+-- the position of the key that is later in the text, and the span of the other key
 abbrev pub later_of : ℕ × Span → ℕ × Span → ℕ × Option Span
 later_of own other = if nat_lt own.1.start other.1.start then (other.0, Some own.1) else (own.0, Some other.1)
 
--- the same if there may be no other key
+-- like `later_of` if there is another key, otherwise the given position and no span
 abbrev pub twice_of : ℕ → ℕ × Span → Option (ℕ × Span) → ℕ × Option Span
 twice_of at own None = (at, None)
 twice_of at own (Some other) = later_of own other
 
--- The later of two keys of the same field, and the span of the other one. If the last key with aliases is the only one
--- of its field, the piece that was looked at last, and no span.
+-- The position of the later of two keys of the same field, and the span of the other key. If the last key whose name
+-- has aliases is the only key of its field, the position of the piece that was looked at last, and no span.
 abbrev pub twice : Reader → ℕ × Option Span
 twice r = twice_of r.at (key_place r.key)
     (earlier (map string_bytes r.forms.items) 0 (reverse (take r.key.at (laid r))))
 
--- what a step keeps that only looks at the next piece
+-- the names and the twin that a reader remembers, which most steps don't change
 abbrev pub kept : Reader → List (List ℕ) × (List (List ℕ) × Twin)
 kept r = (fields r, (variants r, twin r))

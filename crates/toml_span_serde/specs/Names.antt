@@ -12,10 +12,10 @@ text_of n = spelled n.case n.kind n.name.now
 abbrev pub forms_of : Name → List (List ℕ)
 forms_of n = text_of n ∷ map (λ alias. alias.now) n.aliases.now
 
--- those that are read: none for a skipped field
+-- the forms of a name that are read: none for a skipped field
 abbrev pub forms_read : Name → List (List ℕ)
 forms_read n = if n.skipped then [] else forms_of n
 
--- all forms of these names
+-- the forms of these names that are read
 abbrev pub all_forms : List Name → List (List ℕ)
 all_forms names = flat_map forms_read names

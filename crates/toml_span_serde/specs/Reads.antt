@@ -56,7 +56,8 @@ Reads old event.flattens new = ⊥
 abbrev pub Sees : (Piece → Type 0) → List Piece → List Piece → Type 0
 Sees P old new = (new ≡ old) × ((p : Piece) × (rest : List Piece) × (old ≡ p ∷ rest) × P p)
 
--- a key or string with the index of its name; or the start or end of the next piece
+-- A key (`true`) or a string is read, and the result is the index of its name. Or the name asks for the start or the
+-- end of the next piece, which is the result.
 abbrev pub Picks : List Piece → Bool → List Name → ℕ → List Piece → Type 0
 Picks old true names at new = (s : List ℕ) × TakesPiece (λ c. c ≡ key s) old new × Finds names s at
 Picks old false names at new =

@@ -31,7 +31,8 @@ abbrev mutual
   members_spots path (member name span n ms) =
       (path ++ (key name ∷ []), span) ∷ (spots (path ++ (key name ∷ [])) n ++ members_spots path ms)
 
--- the piece that is reported: if there was no next one, the first, which is the root
+-- the position of the piece that is reported: the given one or, if there is no piece at it, that of the first piece,
+-- the root
 abbrev pub reported_piece : Node → ℕ → ℕ
 reported_piece root at = if nat_lt at (length (pieces root)) then at else 0
 
@@ -40,7 +41,8 @@ abbrev pub IsOf : Node → Misread → Misfit → Type 0
 IsOf root m misfit = (misfit.reason ≡ m.reason)
     × (slice_get (spots [] root) (reported_piece root m.at) ≡ Some (path_of misfit.path.items, misfit.span))
 
--- A failed allocation is passed on. It may also occur here.
+-- The misfit is that of the reader's error. A failed allocation is passed on, and may also occur while the misfit is
+-- made.
 abbrev pub IsStopOf : Node → Stop Misread → Stop Misfit → Type 0
 IsStopOf root (stop.Memory e) stopped = stopped ≡ stop.Memory e
 IsStopOf root (stop.Fault m) (stop.Memory e) = ⊤

@@ -1,5 +1,5 @@
--- Definitions for private clauses: the pieces of the code as those of a tree, their depth, the entries of a table in
--- the order of the text, and what is left to do while a tree is converted to a row of pieces.
+-- Definitions for private clauses of `pieces.rt`: the pieces of the code as data, their depth, the entries of a table
+-- in the order of the text, and the tasks that are left while a tree is converted to a row of pieces.
 use Rattle.std.specs.Prelude.{ℕ, ◌+◌, ◌-◌, List, [], ◌∷◌, ◌++◌, map, reverse, nat_lt, ⊤}
 use Rattle.std.specs.Prelude.{if◌then◌else◌}
 use Rattle.toml_span.specs.Ordered.{IsOrdered}
@@ -62,7 +62,7 @@ depth_after spec.table_begins d = d + 1
 depth_after spec.table_ends d = d - 1
 depth_after (spec.key s) d = d
 
--- x before the first element whose number is not less than that of x
+-- the list with x inserted before the first element whose number is at least that of x
 abbrev pub put_by : {X : Type 0} → (X → ℕ) → X → List X → List X
 put_by number x [] = x ∷ []
 put_by number x (y ∷ ys) = if nat_lt (number y) (number x) then y ∷ put_by number x ys else x ∷ y ∷ ys

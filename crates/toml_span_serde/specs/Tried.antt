@@ -1,4 +1,4 @@
--- The kinds that failed attempts to read a piece have expected.
+-- The kinds that failed attempts to read a piece expected.
 use Rattle.std.specs.Prelude.{ℕ, Bool, true, false, not, ◌&&◌, ◌==◌, List, [], ◌∷◌, ◌++◌, if◌then◌else◌}
 use Rattle.std.specs.List.{list_any}
 use Rattle.std.specs.Str.{bytes_eq}
@@ -19,7 +19,7 @@ tries t = record { at = t.at; is_taken = t.is_taken; kinds = t.kinds.items }
 abbrev pub is_among : Expected → List Expected → Bool
 is_among e kinds = list_any (λ kind. bytes_eq (words_of kind) (words_of e)) kinds
 
--- each kind once
+-- the kinds with this one added, unless it is among them
 abbrev pub with_kind : Expected → List Expected → List Expected
 with_kind e kinds = if is_among e kinds then kinds else kinds ++ (e ∷ [])
 
@@ -33,7 +33,7 @@ missed at e t =
 abbrev pub taken : ℕ → Tries
 taken at = record { at = at; is_taken = true; kinds = [] }
 
--- The kinds that were expected at a piece. If an attempt has read it, its own kind was expected too, so none are
--- reported.
+-- The kinds that failed attempts expected at a piece. If an attempt has read the piece, its kind was accepted, so the
+-- list is empty.
 abbrev pub kinds_at : ℕ → Tries → List Expected
 kinds_at at t = if (t.at == at) && not t.is_taken then t.kinds else []

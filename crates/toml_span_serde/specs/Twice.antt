@@ -1,4 +1,4 @@
--- Two keys of a table that are of the same field.
+-- Two keys of a table that name the same field.
 use Rattle.std.specs.Prelude.{ℕ, ◌+◌, ◌-◌, ◌==◌, ◌&&◌, List, [], ◌∷◌, length, Option, None, Some, if◌then◌else◌}
 use Rattle.std.specs.List.{list_any}
 use Rattle.std.specs.Str.{bytes_eq}
@@ -11,8 +11,8 @@ use Rattle.toml_span_serde.specs.declared.twice.KeyPlace.{KeyPlace}
 abbrev pub key_place : KeyPlace → ℕ × Span
 key_place k = (k.at, k.span)
 
--- The result one piece further back, with `depth` arrays and tables open: `place` is that of the piece, and `further`
--- the result for the pieces before it.
+-- The result of the search at one piece, which goes backwards. `depth` is how many arrays and tables end after the
+-- piece but begin before it, `place` is the place of the piece, and `further` is the result for the pieces before it.
 abbrev pub earlier_from : List (List ℕ) → ℕ → ℕ × Span → Content → (ℕ → Option (ℕ × Span)) → Option (ℕ × Span)
 earlier_from forms depth place (value s) further = further depth
 earlier_from forms depth place nothing further = further depth

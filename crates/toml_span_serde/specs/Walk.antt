@@ -9,7 +9,7 @@ use Rattle.toml_span_serde.specs.declared.path.Down.TheVariants as down
 abbrev pub Way : Type 0
 Way = List Step
 
--- without the last step
+-- the way without its last step
 abbrev pub outer : Way → Way
 outer [] = []
 outer (s ∷ way) = way

@@ -20,7 +20,7 @@ use std::fmt::{Display, Formatter, Write};
 use toml_span_lex::span::Span;
 use toml_span_tree::{Diagnostic, ErrorKind};
 
-/// What a type expects.
+/// The kind of value that a type expects.
 #[derive(Clone, Copy, PartialEq, Eq, Debug)]
 pub enum Expected {
     Boolean,
@@ -72,7 +72,7 @@ impl Expected {
 }
 
 impl Found {
-    /// Returns the name of the kind: `integer`.
+    /// Returns the name of the kind, such as `integer`.
     pub(crate) fn name(self) -> &'static str
         ensures { result.now ≡ name_of self }
     {
@@ -90,7 +90,7 @@ impl Found {
     }
 }
 
-/// What is wrong with a value.
+/// Why a value does not fit a type.
 #[derive(Debug, Drop)]
 pub enum Reason {
     /// A value of another kind was expected.
@@ -297,8 +297,8 @@ impl Reason {
         })
     }
 
-    /// Returns the expected name that is nearest to an unknown key or variant, if one is near enough
-    /// (`toml_span_report::nearest`). Returns `None` for any other `Reason`. Fails only if an allocation fails.
+    /// Returns the expected name that is nearest to an unknown key or variant. Returns `None` if no name is near enough
+    /// (`toml_span_report::nearest`), and for any other `Reason`. Fails only if an allocation fails.
     pub fn meant(&self, alloc: Global) -> Result<Option<&str>, AllocError>
         ensures { IfOk result (λ found. option_map (λ name. name.now) found ≡ meant_by self.now) }
     {
@@ -320,7 +320,7 @@ impl Reason {
 #[derive(Debug, Drop)]
 pub struct Misfit {
     pub reason: Reason,
-    /// The span, in bytes, of the value at which the read stopped, or of its key.
+    /// The span, in bytes, of the value at which the read stopped or of that value's key.
     pub span: Span,
     /// The line and the column of `span.start`, both counted from 0, the column in bytes, if they are known.
     pub line_info: Option<(usize, usize)>,
@@ -409,15 +409,15 @@ impl Error<'_> {
         self.place().0
     }
 
-    /// Returns the line and the column of the span's start, both counted from 0, the column in bytes, if they are
-    /// known.
+    /// Returns the line and the column of the span's start, or `None` if they are not known. Both count from 0, and the
+    /// column counts bytes.
     pub fn line_info(&self) -> Option<(usize, usize)>
         ensures { result ≡ (content_of_error self.now).line_info }
     {
         self.place().1
     }
 
-    /// Returns the span, and the line and the column of its start.
+    /// Returns the span, and the line and the column of its start, or `None` if these are not known.
     fn place(&self) -> (Span, Option<(usize, usize)>)
         ensures { (result.0 ≡ (content_of_error self.now).span) × (result.1 ≡ (content_of_error self.now).line_info) }
     {

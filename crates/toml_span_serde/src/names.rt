@@ -89,7 +89,8 @@ fn lent(alloc: Global, texts: &[String]) -> Result<Vec<&str>, AllocError>
     Ok(lent)
 }
 
-/// Returns the name that is nearest to a word, if one is near enough. Fails if an allocation fails.
+/// Returns the name that is nearest to a word, or `None` if no name is near enough (`toml_span_report::nearest`). Fails
+/// if an allocation fails.
 pub(crate) fn meant<'a>(
     alloc: Global,
     word: &str,

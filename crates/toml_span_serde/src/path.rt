@@ -35,8 +35,8 @@ enum Down<'v> {
     Position(usize),
 }
 
-/// Returns the path to the value of a piece or, for a key, to the value that it names. `before` are all pieces before
-/// this one. Fails if an allocation fails.
+/// Returns the path to the value of a piece or, if the piece is a key, to the value that the key names. `before` are
+/// all pieces before this piece. Fails if an allocation fails.
 pub(crate) fn path_to<'v>(
     alloc: Global,
     before: &[Piece<'v>],
@@ -50,7 +50,8 @@ pub(crate) fn path_to<'v>(
     steps_of(alloc, downs.as_slice())
 }
 
-/// Returns how many elements of the innermost open array are among these pieces. Fails if an allocation fails.
+/// Returns how many elements of the innermost open array the pieces `before` contain. Returns 0 if no array is open, or
+/// if the value of a key inside that array has not ended yet. Fails if an allocation fails.
 pub(crate) fn elements_in(alloc: Global, before: &[Piece<'_>]) -> Result<usize, AllocError>
     ensures { IfOk result (λ count. count ≡ elements_in (map piece_of before.now)) }
 {
@@ -61,7 +62,7 @@ pub(crate) fn elements_in(alloc: Global, before: &[Piece<'_>]) -> Result<usize, 
     }
 }
 
-/// Returns the path to what follows all these pieces. Fails if an allocation fails.
+/// Returns the path to the piece that follows the pieces `before`. Fails if an allocation fails.
 fn way_after<'v>(alloc: Global, before: &[Piece<'v>]) -> Result<Vec<Down<'v>>, AllocError>
     ensures { IfOk result (λ downs. way_of downs.items ≡ walked (map piece_of before.now) []) }
 {
@@ -72,7 +73,8 @@ fn way_after<'v>(alloc: Global, before: &[Piece<'v>]) -> Result<Vec<Down<'v>>, A
     Ok(downs)
 }
 
-/// Changes a path to a piece into the path to what follows the piece. Fails if an allocation fails.
+/// Changes `downs`, the path to the piece with this content, into the path to the next piece. Fails if an allocation
+/// fails.
 fn pass<'v>(downs: &mut Vec<Down<'v>>, content: Content<'v>) -> Result<(), AllocError>
     ensures { OnOk result (way_of downs.new.items ≡ after (piece_content content.entry) (way_of downs.old.items)) }
 {
@@ -89,8 +91,8 @@ fn pass<'v>(downs: &mut Vec<Down<'v>>, content: Content<'v>) -> Result<(), Alloc
     Ok(())
 }
 
-/// Changes a path to a piece into the path to its value or, for a key, to the value that it names. Fails if an
-/// allocation fails.
+/// Changes `downs`, the path to a piece, into the path to the piece's value or, if the piece is a key, to the value
+/// that the key names. Fails if an allocation fails.
 fn turn_to<'v>(downs: &mut Vec<Down<'v>>, content: Content<'v>) -> Result<(), AllocError>
     ensures { OnOk result (way_of downs.new.items ≡ way_at (piece_content content.entry) (way_of downs.old.items)) }
 {
@@ -109,8 +111,8 @@ fn leave(downs: &mut Vec<Down<'_>>)
     downs.pop();
 }
 
-/// Changes a path to a value into the path to what follows the value. A position is less than the number of pieces, so
-/// the next position fits into a `usize`. Fails if an allocation fails.
+/// Changes the path to a value into the path to the piece that follows the value. A position is less than the number of
+/// pieces, so the next position fits into a `usize`. Fails if an allocation fails.
 fn end_value(downs: &mut Vec<Down<'_>>) -> Result<(), AllocError>
     ensures { OnOk result (way_of downs.new.items ≡ ended (way_of downs.old.items)) }
 {
@@ -134,6 +136,7 @@ fn steps_of(alloc: Global, downs: &[Down<'_>]) -> Result<Vec<Step>, AllocError>
     Ok(path)
 }
 
+/// Returns a step with an owned name. Fails if an allocation fails.
 fn own(alloc: Global, down: Down<'_>) -> Result<Step, AllocError>
     ensures { IfOk result (λ step. step_of step ≡ down_of down.entry) }
 {

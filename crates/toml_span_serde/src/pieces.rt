@@ -1,4 +1,4 @@
-//! A tree as a row of pieces in the order of the text. A reader goes through them in this order.
+//! Converts a tree to a row of pieces in the order of the text, the order in which a reader reads them.
 ghost use Rattle.std.specs.Prelude.{◌≡◌, ◌<◌, ◌≤◌, ◌-◌, ◌^◌, ◌++◌, ◌∷◌, IfOk, IfSome, List, OnOk, Some, length, map};
 ghost use Rattle.toml_span.specs.Ordered.{AreOrdered, IsOrdered, MembersOrdered};
 ghost use Rattle.toml_span.specs.code.Placing.{NamesAscend};
@@ -88,7 +88,8 @@ impl<'v> Content<'v> {
         }
     }
 
-    /// Returns why a type that has read the value does not accept it.
+    /// Returns the reason for which a type that has read the value does not accept it: `OutOfRange` for an integer,
+    /// otherwise `Invalid`.
     pub(crate) fn refusal(&self) -> Reason
         ensures { result ≡ refusal (piece_content self.now) }
     {
@@ -266,7 +267,7 @@ fn push_entries<'v, 'de>(
 }
 
 /// Lists the entries of a table in the order in which their keys start in the text. Entries whose keys start at the
-/// same offset keep the map's order. Fails if an allocation fails.
+/// same offset stay in the order of their names. Fails if an allocation fails.
 fn sorted_entries<'v, 'de>(
     alloc: Global,
     table: &'v Table<'de>,
@@ -279,7 +280,7 @@ fn sorted_entries<'v, 'de>(
     Ok(entries)
 }
 
-/// Lists the entries of a table, by name. Fails if an allocation fails.
+/// Lists the entries of a table in the order of their names. Fails if an allocation fails.
 fn listed<'v, 'de>(
     alloc: Global,
     table: &'v Table<'de>,

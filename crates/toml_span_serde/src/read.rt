@@ -16,7 +16,7 @@ use toml_span_tree::Value;
 /// Reads a document as a type that derives `Deserialize`.
 ///
 /// A type such as `&str` borrows from the text. For such a type, a string whose value does not equal the text at its
-/// span, such as one with an escape, is an error. Fails with `Error::Refused` if the text is not valid TOML, with
+/// span, such as a string with an escape, is an error. Fails with `Error::Refused` if the text is not valid TOML, with
 /// `Error::Misfit` if a value does not fit the type, and with `Stop::Memory` if an allocation fails.
 pub fn from_str<'de, T: Deserialize<'de>>(
     alloc: Global,
@@ -55,7 +55,7 @@ pub fn from_value<T: DeserializeOwned>(alloc: Global, value: &Value<'_>) -> Resu
     }
 }
 
-/// Reads the tree of the text as a type that may borrow from the text.
+/// Reads the tree of the text as a type that may borrow from the text. Fails with a misfit, or if an allocation fails.
 #[tactic(auto, using(crate::proofs::Places::stopped_in_order))]
 fn read_lent<'de, T: Deserialize<'de>>(
     alloc: Global,
@@ -74,8 +74,9 @@ fn read_lent<'de, T: Deserialize<'de>>(
     }
 }
 
-/// Reads the next value as a type that may borrow from the input. serde's trait promises nothing about the result of
-/// `deserialize`, so no contract says which value or error is returned. Rows test each reason.
+/// Reads the next value as a type that may borrow from the input. Fails if the value does not fit the type, or if an
+/// allocation fails. serde's trait promises nothing about the result of `deserialize`, so this function has no contract
+/// about its value or error. The tests of `toml_span_rows` cover each reason.
 fn read_by<'de, T: Deserialize<'de>>(
     alloc: Global,
     input: &'de [u8],
@@ -84,8 +85,8 @@ fn read_by<'de, T: Deserialize<'de>>(
     T::deserialize(alloc, &mut Deserializer::new(input, reader))
 }
 
-/// Reads the next value as a type that borrows nothing. serde's trait promises nothing about `deserialize_owned`
-/// either.
+/// Reads the next value as a type that borrows nothing. Fails if the value does not fit the type, or if an allocation
+/// fails. Like `read_by`, it has no contract about the value or error.
 fn read_owned<T: DeserializeOwned>(
     alloc: Global,
     reader: &mut Reader<'_, '_>,
@@ -93,7 +94,8 @@ fn read_owned<T: DeserializeOwned>(
     T::deserialize_owned(alloc, &mut Deserializer::new(&[], reader))
 }
 
-/// Sets the line and the column of a misfit: those where its span starts in the text.
+/// Sets the line and the column of a misfit to those at which its span starts in the text. Leaves them unset if the
+/// span starts after the end of the text.
 fn lined(text: &str, mut misfit: Misfit) -> Misfit
     ensures place { (result.span ≡ misfit.span) × (result.path ≡ misfit.path) }
     ensures line { HasLine text.now result }

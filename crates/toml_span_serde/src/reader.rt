@@ -55,7 +55,7 @@ pub struct Reader<'p, 'v> {
     at: usize,
     /// The position of the piece that was last read as the name of a variant.
     variant: usize,
-    /// Whether the last key that was read has none of the names it was compared with.
+    /// Whether the piece that was looked at last is a key that was read and has none of the names it was compared with.
     is_unknown: bool,
     /// The names, with their aliases, with which the last unknown key was compared.
     fields: Vec<String>,
@@ -176,9 +176,9 @@ impl<'p, 'v> Reader<'p, 'v> {
         self.pieces.get(..at).unwrap_or(self.pieces)
     }
 
-    /// Returns the position of the later of two keys that name the same field, and the span of the earlier key. If the
-    /// last key whose name has aliases is the only key of its field, returns the position of the piece that was looked
-    /// at last, and `None`.
+    /// Looks for an earlier-read key for the same field as `self.key`. If there is one, returns the position of
+    /// whichever key comes later in the text, and the span of the other. Otherwise, returns the position of the last
+    /// piece looked at, and `None`.
     fn twice(&self) -> (usize, Option<Span>)
         ensures { result ≡ twice self.now }
     {
@@ -222,8 +222,8 @@ impl<'p, 'v> Reader<'p, 'v> {
         Ok(())
     }
 
-    /// Prepares for going back to the position `mark`: if the reader has read the piece there, records that an attempt
-    /// has read it and failed later.
+    /// Prepares to go back to the position `mark`. If the reader has read the piece there, records that an attempt has
+    /// read it and failed later.
     fn note_back(&mut self, mark: usize)
         ensures stays { self.new ≡ record self.old { tried = self.new.tried } }
         ensures tried { tries self.new.tried ≡ tries_back_at mark self.old }
@@ -235,7 +235,7 @@ impl<'p, 'v> Reader<'p, 'v> {
     }
 
     /// Goes back to the piece that was looked at last, whose content is `found`, and records that the kind `expected`
-    /// was expected there. Returns the error.
+    /// was expected there. Returns the error, or `Stop::Memory` if an allocation fails.
     fn wanted(&mut self, expected: Expected, found: Content<'_>) -> Stop<Misread>
         ensures reported { IsMisread (λ why. why ≡ is.Wanted expected (found_of (piece_content found.entry)))
             self.old.at result }
@@ -257,7 +257,8 @@ impl<'p, 'v> Reader<'p, 'v> {
     }
 
     /// Returns the error for the piece that was looked at last, which is of the kind `found`. The error lists the kinds
-    /// that failed attempts to read the piece expected.
+    /// that earlier, failed attempts to read this piece expected. Without such attempts, it is `Unexpected`. If an
+    /// allocation fails, returns `Stop::Memory`.
     fn other(&self, found: Found) -> Stop<Misread>
         ensures { IsMisread (IsOther (kinds_at self.now.at (tries self.now.tried)) found) self.now.at result }
     {
@@ -284,7 +285,8 @@ impl<'p, 'v> Reader<'p, 'v> {
         }
     }
 
-    /// Reads a string or key, and returns its text. Fails if the next piece is of another kind.
+    /// Reads a string or key, and returns its text. Fails with `Wanted`, which expects `expected`, if the next piece is
+    /// of another kind. Also fails if no piece is left, or if an allocation fails.
     fn text(&mut self, expected: Expected) -> Result<&'v str, Stop<Misread>>
         ensures text { IfOk result (λ text. TakesPiece (IsText text.now) (ahead self.old) (ahead self.new)) }
         ensures misses { IfErr result (IsMisread (Misses IsAnyText expected (ahead self.old)) self.old.next) }
@@ -298,7 +300,8 @@ impl<'p, 'v> Reader<'p, 'v> {
         }
     }
 
-    /// Reads an integer. Fails if the next piece is of another kind.
+    /// Reads an integer. Fails with `Wanted` if the next piece is of another kind. Also fails if no piece is left, or
+    /// if an allocation fails.
     fn integer(&mut self) -> Result<i64, Stop<Misread>>
         ensures integer { IfOk result (λ z. TakesPiece (λ c. c ≡ value (integer z)) (ahead self.old) (ahead self.new)) }
         ensures misses { IfErr result (IsMisread (Misses IsAnyInteger expected.Integer (ahead self.old))
@@ -415,8 +418,9 @@ impl Format for Reader<'_, '_> {
         }
     }
 
-    /// Reads a string that is borrowed from `input`, and returns the start and the end of its text there, in bytes.
-    /// Fails if the string does not equal the text at its span.
+    /// Reads a string or key that can be borrowed from `input`. Returns the start and the end of its text in `input`,
+    /// in bytes; both are 0 if the text is empty. Fails if the next piece is neither a string nor a key, if its text
+    /// does not equal the text at its span, or if an allocation fails.
     fn plain_str(&mut self, input: &[u8]) -> Result<(usize, usize), Stop<Misread>>
         ensures gives { IfOk result (λ r. Reads (ahead self.old) (event.text (slice_range input.now r.0 r.1))
             (ahead self.new)) }
@@ -472,7 +476,7 @@ impl Format for Reader<'_, '_> {
         Ok(self.look()?.content.serde_kind())
     }
 
-    /// Returns false, since TOML has no unit.
+    /// Returns `false`, since TOML has no unit. Fails if no piece is left.
     fn take_unit(&mut self, _input: &[u8]) -> Result<bool, Stop<Misread>>
         ensures gives { IfOk result (λ b. MatchBool b (Reads (ahead self.old) event.nothing (ahead self.new))
             (ahead self.new ≡ ahead self.old)) }
@@ -482,7 +486,7 @@ impl Format for Reader<'_, '_> {
         Ok(false)
     }
 
-    /// Returns false, since TOML has no null: a field is `None` if its key is absent.
+    /// Returns `false`, since TOML has no null: a field is `None` if its key is absent. Fails if no piece is left.
     fn take_none(&mut self, input: &[u8]) -> Result<bool, Stop<Misread>>
         ensures gives { IfOk result (λ b. MatchBool b (Reads (ahead self.old) event.nothing (ahead self.new))
             (ahead self.new ≡ ahead self.old)) }
@@ -591,7 +595,7 @@ impl Format for Reader<'_, '_> {
         Ok(found)
     }
 
-    /// Skips a whole value, or a key.
+    /// Skips a whole value, or a key. Fails with `Invalid` if no piece is left, or if the value does not end.
     fn skip(&mut self, _input: &[u8]) -> Result<(), Stop<Misread>>
         ensures value { (n : Node) (rest : List Laid) → ahead self.old ≡ pieces n ++ rest
             → IsOk result × (ahead self.new ≡ rest) }
@@ -649,8 +653,8 @@ impl Format for Reader<'_, '_> {
         }
     }
 
-    /// Returns the error for two keys of a table that name the same field. This happens only if at least one of them is
-    /// an alias.
+    /// Returns the error for two keys of a table that name the same field, or `Stop::Memory` if an allocation fails.
+    /// Two keys can name one field only if at least one of them is an alias.
     fn duplicate(&self, name: &str) -> Stop<Misread>
         ensures { IsMisread (Says (λ s. is.DuplicateField s (twice self.now).1) name.now) (twice self.now).0 result }
     {
@@ -677,9 +681,9 @@ impl Format for Reader<'_, '_> {
         }
     }
 
-    /// Returns the error for the unknown name of a variant. The tag of an enum is compared with the names of its
-    /// variants before its table is read again from the start. So the reader keeps the position of the tag and these
-    /// names.
+    /// Returns the error for the unknown name of a variant, or `Stop::Memory` if an allocation fails. The tag of an
+    /// enum is compared with the names of its variants before its table is read again from the start. So the reader
+    /// keeps the position of the tag and these names.
     fn unknown_variant(&self) -> Stop<Misread>
         ensures { IsMisread (Lists is.UnknownVariant
             (piece_text_in (slice_get (laid self.now) (variant_place self.now))) (variant_names self.now))
@@ -696,7 +700,8 @@ impl Format for Reader<'_, '_> {
     }
 
     /// Returns the error for an array of the wrong length. If the end of the array was read, this is `Length`, with the
-    /// number of all elements. Otherwise the array has more elements than the type expects, and this is `TooLong`.
+    /// number of all elements. Otherwise the array has more elements than the type expects, and this is `TooLong`. If
+    /// an allocation fails, returns `Stop::Memory`.
     fn wrong_len(&self) -> Stop<Misread>
         ensures { IsMisread (λ why. why ≡ length_reason self.now) self.now.at result }
     {
@@ -708,8 +713,8 @@ impl Format for Reader<'_, '_> {
     }
 
     /// Returns the error for a value that the type does not accept. If an integer was read, it is out of the type's
-    /// range. If the piece was only looked at, the type does not accept its kind, and the error lists the kinds that
-    /// failed attempts to read the piece expected.
+    /// range. If the piece was only looked at, the type does not accept its kind. The error then lists the kinds that
+    /// earlier, failed attempts to read this piece expected. If an allocation fails, returns `Stop::Memory`.
     fn invalid(&self) -> Stop<Misread>
         ensures read { self.now.at < self.now.next → IsMisread (λ why. why
             ≡ refusal_in (slice_get (laid self.now) self.now.at)) self.now.at result }

@@ -24,8 +24,8 @@ pub struct Row<'v> {
 }
 
 impl<'v> Row<'v> {
-    /// Lists the pieces of a tree, each array and table before its parts, and the entries of a table in the order of
-    /// the text. Fails if an allocation fails.
+    /// Lists the pieces of a tree: each array and table before the values inside it, and the entries of a table in the
+    /// order of the text. Fails if an allocation fails.
     pub fn new(alloc: Global, root: &'v Value<'_>) -> Result<Row<'v>, AllocError>
         ensures pieces { IfOk result (λ row. pieces_in row ≡ pieces (in_text_order (view root.now))) }
         ensures ordered { OnOk result (IsOrdered (view root.now)) }
@@ -73,7 +73,7 @@ impl<'v> Row<'v> {
         self.misfit_at(alloc, misread.reason, 0)
     }
 
-    /// Returns a misfit at the piece with this position. Fails if an allocation fails.
+    /// Returns the misfit for this reason at the piece with this position. Fails if an allocation fails.
     fn misfit_at(&self, alloc: Global, reason: Reason, at: usize) -> Result<Misfit, AllocError>
         requires { at < length self.now.pieces.items }
         ensures place { IfOk result (λ m. (n : Node) → pieces_in self.now ≡ pieces n → HasOneEach n

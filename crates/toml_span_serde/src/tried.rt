@@ -78,7 +78,7 @@ impl Tried {
     }
 }
 
-/// Returns whether the kind is among these.
+/// Returns whether `expected` is among `kinds`.
 fn is_among(kinds: &[Expected], expected: Expected) -> bool
     ensures { result ≡ is_among expected kinds.now }
 {

@@ -16,7 +16,7 @@ pub(crate) struct KeyPlace {
     pub span: Span,
 }
 
-/// Returns whether the text is among these.
+/// Returns whether `text` is among `texts`.
 fn is_among(texts: &[String], text: &str) -> bool
     ensures { result ≡ list_any (λ one. bytes_eq one text.now) (map string_bytes texts.now) }
 {

@@ -1,6 +1,6 @@
 -- Date texts: dates and times, with or without offsets (TOML 1.1, "Offset Date-Time" to "Local Time", after RFC 3339).
--- A test "at i" or "at the front" is about that place in a text, any other about a whole text. Bytes after the end of a
--- text are 0.
+-- A rule "at i" or "at the front" is about the bytes that begin there, any other rule about the whole text. Bytes after
+-- the end of a text count as 0.
 use Rattle.std.specs.Prelude.{◌≡◌, ◌⊎◌, [], ◌∷◌, ◌++◌, ℕ, ◌+◌, ◌-◌, ◌*◌, ◌%◌, Bool, true, not, ◌&&◌, ◌||◌, ◌==◌, nat_lt}
 use Rattle.std.specs.Prelude.{nat_le, List, length, take, drop, slice_index, if◌then◌else◌}
 use Rattle.std.specs.List.{list_all}
@@ -22,7 +22,7 @@ is_two_digits low high text i =
 abbrev pub is_leap_year : ℕ → Bool
 is_leap_year year = (year % 4 == 0 && not (year % 100 == 0)) || year % 400 == 0
 
--- the last day of a month, which is from 1 to 12
+-- the last day of a month; months are numbered from 1 to 12
 abbrev pub last_day : ℕ → ℕ → ℕ
 last_day year month =
     if month == 2 then (if is_leap_year year then 29 else 28)
@@ -101,7 +101,7 @@ is_date_text text = is_full_date text || is_partial_time text || is_date_time te
 abbrev pub IsDateText : List ℕ → Type 0
 IsDateText text = is_date_text text ≡ true
 
--- The parts of a date text. It may have no offset.
+-- The text is a date, a separator, a time and an offset, which may be empty.
 pub record IsDateTime (text : List ℕ) : Type 0 where
   pub date : List ℕ
   pub delimiter : ℕ

@@ -8,7 +8,7 @@ use Rattle.toml_span_tree.specs.declared.value.Value.{Value}
 use Rattle.toml_span_tree.specs.Value.{view}
 use Rattle.toml_span_tree.specs.Pointer.{put_pointed}
 
--- the types of a tree, whose strings live as long as the second lifetime of the signature
+-- the type `Value<'de>`, where `'de` is the second lifetime of the signature
 abbrev pub value_row : RattleType
 value_row = value.the_row (record { mir = named 1; lft = [] })
 

@@ -37,7 +37,7 @@ abbrev mutual
   held_nodes path (array ns) = items_nodes path 0 ns
   held_nodes path (table ms) = members_nodes path ms
 
-  -- the same for elements, beginning at a position
+  -- the same for the elements of the array at this path, the first of which is at position i
   pub items_nodes : Path → ℕ → Items → List Listed
   items_nodes path i no_items = []
   items_nodes path i (item n ns) = nodes_from (path ++ position i ∷ []) None n ++ items_nodes path (suc i) ns

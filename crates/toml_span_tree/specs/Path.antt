@@ -89,7 +89,7 @@ put_where None s change n = n
 put_where (Some m) s change n = node (set_at_step s (change m) (inner_of n)) (span_of n)
 
 -- n with w at the path: w itself if the path is empty, otherwise the same table or array with the change inside the
--- value to which the first step leads
+-- value to which the first step leads. n is unchanged if the path leads nowhere.
 abbrev pub put : Path → Node → Node → Node
 put [] w n = w
 put (s ∷ path) w n = put_where (child s n) s (put path w) n

@@ -65,7 +65,7 @@ abbrev pub put_where_named : Option Path → Node → Node → Node
 put_where_named None w n = n
 put_where_named (Some path) w n = put path w n
 
--- n with w at the place that the pointer names
+-- n with w at the path that the pointer names; n itself if the pointer names no path
 abbrev pub put_pointed : List ℕ → Node → Node → Node
 put_pointed pointer w n = put_where_named (pointed_path pointer n) w n
 
@@ -104,7 +104,8 @@ NamesPath (segment ∷ names) [] = ⊥
 NamesPath (segment ∷ names) (key name ∷ path) = (segment ≡ name) × NamesPath names path
 NamesPath (segment ∷ names) (position i ∷ path) = (position_of segment ≡ Some i) × NamesPath names path
 
--- The pointer names m in n: its segments name a path at which m is, and m has not been taken, unless it is n itself.
+-- The pointer names m in n: its segments name a path at which m is, and the content of m has not been taken, unless the
+-- path is empty.
 abbrev pub IsPointed : List ℕ → Node → Node → Type 0
 IsPointed pointer n m =
     (names : List (List ℕ)) × (path : Path) × (pointer_segments pointer ≡ Some names) × NamesPath names path

@@ -77,7 +77,7 @@ holds_nothing _ = false
 abbrev pub is_taken : Node → Bool
 is_taken n = holds_nothing (inner_of n)
 
--- whether neither the value nor any value inside it has been taken
+-- whether the value and all values inside it, at any depth, still have their contents
 abbrev mutual
   pub is_whole : Node → Bool
   is_whole (node i span) = holds_whole i

@@ -7,7 +7,7 @@ ghost use Rattle.toml_span_tree.specs.Date.{IsDateText};
 
 /// A date, a time, or a date and a time, as the document spells it.
 ///
-/// The grammar is that of TOML 1.1, from "Offset Date-Time" to "Local Time".
+/// The grammar is that of the TOML 1.1 sections "Offset Date-Time" through "Local Time".
 #[derive(Clone, Copy, PartialEq, Eq, Debug)]
 pub struct DateText<'de> {
     text: &'de str,

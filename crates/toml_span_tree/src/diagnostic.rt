@@ -18,8 +18,9 @@ pub struct Diagnostic<F> {
     pub code: String,
     /// What is wrong, or an empty string if the labels say it.
     pub message: String,
-    /// The primary label, at the error's own span, and secondary labels. For duplicate keys and tables, the label of
-    /// the earlier one comes first. For unexpected keys, all labels are secondary: one for each key.
+    /// The primary label, at the error's own span, and then secondary labels. For duplicate keys and tables, the
+    /// secondary label, at the earlier key or table, comes first. For unexpected keys, all labels are secondary: one
+    /// for each key.
     pub labels: Vec<Label<F>>,
 }
 
@@ -116,7 +117,7 @@ fn around(alloc: Global, before: &str, c: char, after: &str) -> Result<String, A
     format!(in alloc; "{before}{c}{after}")
 }
 
-/// Returns the message for `count` unexpected keys, which lists the names in `expected`. Fails if an allocation fails.
+/// Returns the message for `count` unexpected keys. It lists the expected names. Fails if an allocation fails.
 fn unexpected_keys(alloc: Global, count: usize, expected: &[String]) -> Result<String, AllocError>
     ensures { IfOk result (λ text. string_bytes text
         ≡ unexpected_keys_message count (map string_bytes expected.now)) }
@@ -146,8 +147,8 @@ fn key_labels<F: Copy>(
     Ok(labels)
 }
 
-/// Returns a primary label without text at `span`, followed by a secondary label for each of the places, which have a
-/// text and a span. Fails if an allocation fails.
+/// Returns a primary label without text at `span`, followed by a secondary label for each of `places`, with its text
+/// and its span. Fails if an allocation fails.
 fn marked_labels<F: Copy>(
     alloc: Global,
     file: F,
@@ -194,7 +195,7 @@ impl Error<'_> {
         })
     }
 
-    /// Returns the labels of the error, in the order of `Diagnostic::labels`. Fails if an allocation fails.
+    /// Returns the labels of the error, in the order that `Diagnostic::labels` describes. Fails if an allocation fails.
     fn labels<F: Copy>(&self, alloc: Global, file: F) -> Result<Vec<Label<F>>, AllocError>
         ensures { IfOk result (λ labels. map label_content labels.items
             ≡ labels_of file self.now.span (kind_of self.now.kind)) }

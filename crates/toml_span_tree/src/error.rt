@@ -10,8 +10,8 @@ use toml_span_lex::stop::Stop;
 // Toolchain: `'static` strings in errors would make the check refuse a generic function with `T: Deserialize<'de>` ("a
 // call goes by a bound that names a lifetime of the function, whose signature names `'static`"). So they have the
 // lifetime of the text.
-/// What is wrong. Kinds marked "typed reads" come from reading a tree as a type, all others from `parse`. `Wanted` and
-/// `DuplicateKey` come from both. Spans are byte offsets, end exclusive.
+/// What is wrong. Kinds marked "typed reads" come from reading a tree as a type. The others come from `parse`, except
+/// `Wanted` and `DuplicateKey`, which come from both. Spans are byte offsets, end exclusive.
 #[derive(Debug, Drop)]
 pub enum ErrorKind<'s> {
     /// The input ends where a value is expected.
@@ -52,19 +52,18 @@ pub enum ErrorKind<'s> {
         key: String,
         first: Span,
     },
-    /// A header in double brackets for a table that an earlier header passes through.
+    /// A header in double brackets for a table that an earlier header passes through, such as `[[a]]` after `[a.b]`.
     RedefineAsArray,
     /// A multi-line string as a key.
     MultilineStringKey,
     /// An error with a message of its own (typed reads).
     Custom(CowStr<'s>),
-    /// A dotted key that goes through an earlier value which is not a table. `first` is the span of the last part of
-    /// that value's key.
+    /// A dotted key that goes through an earlier value that can't be extended: an inline table, or a value that is not
+    /// a table. `first` is the span of the last part of that value's key.
     DottedKeyInvalidType {
         first: Span,
     },
-    /// Keys of a table that are not fields of the type, with their spans, and the names of the fields of the type
-    /// (typed reads).
+    /// Unknown keys in a table, with their spans, and the names of the type's fields (typed reads).
     UnexpectedKeys {
         keys: Vec<(String, Span)>,
         expected: Vec<String>,
@@ -84,7 +83,8 @@ pub enum ErrorKind<'s> {
         value: Option<String>,
     },
     /// An error with a code and message of its own, and more places with their labels (typed reads).
-    /// `TableHelper::keep_repeated` makes it with the code `duplicate-name`; `toml_span_serde` and callers make others.
+    /// `TableHelper::keep_repeated` makes it with the code `duplicate-name`, and reads of `InRange` with
+    /// `out-of-range`; `toml_span_serde` and callers use other codes.
     Marked {
         code: &'s str,
         message: CowStr<'s>,
@@ -98,8 +98,8 @@ pub struct Error<'s> {
     pub kind: ErrorKind<'s>,
     /// The bytes of the document that the error is about.
     pub span: Span,
-    /// The line and the column of `span.start`, both from 0, the column in bytes; `None` if they are not known, as in
-    /// typed reads.
+    /// The line and the column of `span.start`, both counted from 0, the column in bytes; `None` if they are not known,
+    /// as in typed reads.
     pub line_info: Option<(usize, usize)>,
 }
 
@@ -119,7 +119,7 @@ impl<'s> From<(ErrorKind<'s>, Span)> for Error<'s> {
     }
 }
 
-/// Lets `?` convert an `Error` in a function that fails with a `Stop<E>`, where `E` is made from errors.
+/// Lets `?` convert an `Error` in a function that fails with a `Stop<E>`, if `E` implements `From<Error>`.
 impl<'s, E: From<Error<'s>>> From<Error<'s>> for Stop<E> {
     ghost use Rattle.toml_span_tree.specs.Error.{IsFaultOf};
 

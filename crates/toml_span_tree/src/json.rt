@@ -24,6 +24,7 @@ impl Value<'_> {
     }
 }
 
+/// Converts a value and all values inside it. A value that has been taken becomes `null`. Fails if an allocation fails.
 #[cycle(json)]
 fn json_of_value(alloc: Global, value: &Value<'_>) -> Result<Json, AllocError>
     ensures { IfOk result (λ json. json_view json ≡ json_of (view value.now)) }
@@ -34,6 +35,7 @@ fn json_of_value(alloc: Global, value: &Value<'_>) -> Result<Json, AllocError>
     }
 }
 
+/// Converts the content of a value. Fails if an allocation fails.
 #[cycle(json)]
 fn json_of_inner(alloc: Global, inner: &ValueInner<'_>) -> Result<Json, AllocError>
     ensures { IfOk result (λ json. json_view json ≡ json_in (inner_view inner.now)) }
@@ -49,12 +51,14 @@ fn json_of_inner(alloc: Global, inner: &ValueInner<'_>) -> Result<Json, AllocErr
     }
 }
 
+/// Returns a JSON string with a copy of the text. Fails if an allocation fails.
 fn json_of_text(alloc: Global, text: &str) -> Result<Json, AllocError>
     ensures { IfOk result (λ json. json_view json ≡ string text.now) }
 {
     Ok(Json::String(String::from_str(alloc, text)?))
 }
 
+/// Converts the elements of an array. Fails if an allocation fails.
 #[cycle(json)]
 fn json_of_elements(alloc: Global, array: &Array<'_>) -> Result<Vec<Json>, AllocError>
     ensures { IfOk result (λ made. json_items_view made.items ≡ json_items (items_view array.now.items)) }
@@ -81,6 +85,7 @@ fn push_elements(
     Ok(())
 }
 
+/// Appends a JSON value. Fails if an allocation fails.
 fn push(made: &mut Vec<Json>, json: Json) -> Result<(), AllocError>
     ensures { OnOk result (made.new.items ≡ made.old.items ++ json ∷ []) }
 {
@@ -88,6 +93,7 @@ fn push(made: &mut Vec<Json>, json: Json) -> Result<(), AllocError>
     Ok(())
 }
 
+/// Converts the entries of a table. Fails if an allocation fails.
 #[cycle(json)]
 fn json_of_entries(alloc: Global, table: &Table<'_>) -> Result<Map<String, Json>, AllocError>
     ensures { IfOk result (λ made. json_members_view made.entries ≡ json_members (members_view table.now.entries)) }
@@ -115,6 +121,7 @@ fn put_entry(
     insert(made, name, json)
 }
 
+/// Inserts a JSON value under a name, in place of an earlier value with this name. Fails if an allocation fails.
 fn insert(made: &mut Map<String, Json>, name: String, json: Json) -> Result<(), AllocError>
     ensures { OnOk result (json_members_view made.new.entries
         ≡ put (string_bytes name) (json_view json) (json_members_view made.old.entries)) }

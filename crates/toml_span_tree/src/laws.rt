@@ -11,7 +11,7 @@ ghost use Rattle.toml_span_tree.specs.Value.{inner_of, span_of, is_taken, date_b
 use crate::date::DateText;
 use crate::float::FloatText;
 
-/// Every date text is a date, a time, or a date, a separator, a time and perhaps an offset.
+/// Every date text is a date, a time, or a date, a separator, a time and perhaps a time offset.
 pub fn date_texts()
     ensures { (text : List ℕ) → IsDateText text ↔ IsDateOrTime text }
 {}
@@ -28,12 +28,13 @@ pub fn equal_floats()
         → IsTrue (⟦<FloatText as PartialEq>⟧.eq x y) ↔ (float_value x ≡ float_value y) }
 {}
 
-/// A value that is put at a path, where there was a value, is then at that path.
+/// After a value is put at a path at which there was a value, the new value is at that path.
 pub fn put_stands()
     ensures { (path : Path) (n m w : Node) → node_at path n ≡ Some m → node_at path (put path w n) ≡ Some w }
 {}
 
-/// A value that is put at a path, where there was a value, has the same key as that value, with the same key span.
+/// After a value is put at a path at which there was a value, the new value is there with its own kind and span, and
+/// with the key span of the old value.
 pub fn put_keeps_the_key()
     ensures { (path : Path) (n w : Node) (p : Place) → place_at path n ≡ Some p
         → place_at path (put path w n)
@@ -62,14 +63,14 @@ pub fn empty_pointer()
     ensures { (n : Node) → pointed [] n ≡ Some n }
 {}
 
-/// A pointer at which a value is put, and which found a value before, finds the new value, unless its content has been
-/// taken.
+/// If a pointer finds a value, and another value is put there, then the pointer finds the new value, unless its content
+/// has been taken.
 pub fn pointer_names_what_was_put()
     ensures { (pointer : List ℕ) (n m w : Node) → is_taken w ≡ false → pointed pointer n ≡ Some m
         → pointed pointer (put_pointed pointer w n) ≡ Some w }
 {}
 
-/// A pointer that diverges from the one at which a value is put finds the same value as before.
+/// After a value is put at a pointer, each pointer that diverges from it finds the same value as before.
 pub fn other_pointers_keep()
     ensures { (pointer other : List ℕ) (n m w : Node) → pointed pointer n ≡ Some m → pointers_part pointer other ≡ true
         → pointed other (put_pointed pointer w n) ≡ pointed other n }

@@ -10,7 +10,7 @@ use std::fmt;
 use std::fmt::{Display, Formatter, Write};
 use toml_span_lex::span::Span;
 
-/// Writes white space or a control character as an escape, except a space, which is written as it is.
+/// Writes white space or a control character as an escape. A space is written as it is.
 pub(crate) fn write_escaped<W: Write>(f: &mut Formatter<W>, c: char) -> fmt::Result
     ensures { WritesOnOk W.write_str_gives f.old result (escaped_char c) f.new }
 {
@@ -26,6 +26,8 @@ pub(crate) fn write_escaped<W: Write>(f: &mut Formatter<W>, c: char) -> fmt::Res
     }
 }
 
+/// Writes a character of a quoted name: a quotation mark, a backslash, white space other than a space, or a control
+/// character as an escape, any other character as it is.
 fn write_quoted_char<W: Write>(f: &mut Formatter<W>, c: char) -> fmt::Result
     ensures { WritesOnOk W.write_str_gives f.old result (quoted_char c) f.new }
 {
@@ -40,6 +42,7 @@ fn write_quoted_char<W: Write>(f: &mut Formatter<W>, c: char) -> fmt::Result
     }
 }
 
+/// Writes the characters of a quoted name, without the quotes.
 fn write_quoted_chars<W: Write>(f: &mut Formatter<W>, name: &str) -> fmt::Result
     ensures { WritesOnOk W.write_str_gives f.old result
         (flat_map quoted_char (chars name.now)) f.new }
@@ -56,6 +59,7 @@ fn write_quoted_chars<W: Write>(f: &mut Formatter<W>, name: &str) -> fmt::Result
 pub(crate) trait Item {
     ghost shown: { Self → List ℕ };
 
+    /// Writes the value as an item of a list.
     fn write<W: Write>(&self, f: &mut Formatter<W>) -> fmt::Result
         ensures { WritesOnOk W.write_str_gives f.old result (shown self.now) f.new };
 }
@@ -111,6 +115,7 @@ fn write_more<T: Item, W: Write>(f: &mut Formatter<W>, items: &[T]) -> fmt::Resu
     Ok(())
 }
 
+/// Writes items, separated by commas and spaces, without brackets.
 fn write_items<T: Item, W: Write>(f: &mut Formatter<W>, items: &[T]) -> fmt::Result
     ensures { WritesOnOk W.write_str_gives f.old result
         (join_by T.shown (codes ", ") items.now) f.new }

@@ -11,7 +11,8 @@ use crate::pointer::{array_entry, cut};
 use crate::value::{Table, Value, ValueInner};
 pub use compiled::Pointer;
 
-/// Returns the value of the entry with this name, if the table has one. Compares the name with each entry in turn.
+/// Returns the value of the entry with this name, or `None` if the table lacks it. Compares the name with each entry in
+/// turn.
 fn entry_named<'v, 'de>(table: &'v Table<'de>, name: &str) -> Option<&'v Value<'de>>
     ensures { option_map (λ v. view v.now) result ≡ get_member name.now (members_view table.now.entries) }
 {
@@ -24,7 +25,8 @@ fn entry_named<'v, 'de>(table: &'v Table<'de>, name: &str) -> Option<&'v Value<'
 }
 
 impl<'de> ValueInner<'de> {
-    /// Returns the value that a segment selects: an entry of a table, or an element of an array.
+    /// Returns the value that a segment selects: an entry of a table, or an element of an array. Returns `None` if it
+    /// selects nothing.
     fn entry_of(&self, segment: &str) -> Option<&Value<'de>>
         ensures { option_map (λ v. view v.now) result ≡ entry segment.now (inner_view self.now) }
     {
@@ -37,7 +39,8 @@ impl<'de> ValueInner<'de> {
 }
 
 impl<'de> Value<'de> {
-    /// Returns the value that a segment selects in this value, unless its content has been taken.
+    /// Returns the value that a segment selects in this value. Returns `None` if it selects nothing, or if the content
+    /// of this value or of the selected one has been taken.
     fn entry_of(&self, segment: &str) -> Option<&Self>
         ensures { option_map (λ v. view v.now) result ≡ untaken_entry segment.now (view self.now) }
     {
@@ -47,7 +50,8 @@ impl<'de> Value<'de> {
         }
     }
 
-    /// Returns the value to which the segments of `path`, a pointer without its first `/`, lead from this value.
+    /// Follows the segments of `path`, a pointer without its first `/`, from this value. Returns the value to which
+    /// they lead, or `None` if they lead nowhere, or through or to a value whose content has been taken.
     fn found_by(&self, path: &str) -> Option<&Self>
         ensures { option_map (λ v. view v.now) result ≡ value_named (segments path.now) (view self.now) }
     {
@@ -59,8 +63,8 @@ impl<'de> Value<'de> {
         }
     }
 
-    /// Returns the value that the pointer names, as `pointer` does. The string need not live as long as the document,
-    /// so it can be built at run time.
+    /// Returns the value that the pointer names, or `None` if it names no value, like the method `pointer`. Unlike with
+    /// `pointer`, the string need not live as long as the document, so it can be built at run time.
     ///
     /// In each table on the way, the name is compared with one entry after the other, whereas `pointer` searches the
     /// map. So the time is linear in the number of entries of these tables. For large tables, or for a pointer that is

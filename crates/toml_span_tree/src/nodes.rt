@@ -7,7 +7,7 @@ use crate::value::{Table, Value, ValueInner};
 use std::alloc::{AllocError, Global};
 use toml_span_lex::key::Key;
 
-/// A step of a path: to the entry of a table with this name, or to the element of an array at this position, from 0.
+/// A step of a path: the name of an entry of a table, or the position of an element of an array, from 0.
 #[derive(Clone, Copy, Debug, PartialEq, Eq)]
 pub enum Step<'t> {
     Key(&'t str),

@@ -36,7 +36,8 @@ fn position(segment: &str) -> Option<usize>
     segment.parse::<usize>().ok()
 }
 
-/// Returns the first segment of `path`, and what follows the `/` after it, if there is one.
+/// Splits `path` at its first `/`. Returns the segment before the `/`, and the path after it. Without a `/`, returns
+/// `path` and `None`.
 pub(crate) fn cut<'p>(path: &'p str) -> (&'p str, Option<&'p str>)
     ensures { SplitAtSlash path.now result.0.now (option_map (λ rest. rest.now) result.1) }
 {
@@ -46,12 +47,15 @@ pub(crate) fn cut<'p>(path: &'p str) -> (&'p str, Option<&'p str>)
     }
 }
 
+/// Returns the value of the entry with this name, or `None` if there is none.
 fn table_entry<'v, 'de>(table: &'v Table<'de>, name: &'de str) -> Option<&'v Value<'de>>
     ensures { option_map (λ v. view v.now) result ≡ get_member name.now (members_view table.now.entries) }
 {
     table.get(&Key::named(name))
 }
 
+/// Returns the element at the position that the segment spells. Returns `None` if the segment spells no position, or if
+/// there is no element at that position.
 pub(crate) fn array_entry<'v, 'de>(array: &'v Array<'de>, segment: &str) -> Option<&'v Value<'de>>
     ensures { option_map (λ v. view v.now) result
         ≡ option_and_then (λ i. get_item i (items_view array.now.items)) (position_of segment.now) }
@@ -60,7 +64,8 @@ pub(crate) fn array_entry<'v, 'de>(array: &'v Array<'de>, segment: &str) -> Opti
 }
 
 impl<'de> ValueInner<'de> {
-    /// Returns the value that a segment selects: an entry of a table, or an element of an array.
+    /// Returns the value that a segment selects: an entry of a table, or an element of an array. Returns `None` if it
+    /// selects nothing.
     fn entry(&self, segment: &'de str) -> Option<&Value<'de>>
         ensures { option_map (λ v. view v.now) result ≡ entry segment.now (inner_view self.now) }
     {
@@ -73,7 +78,8 @@ impl<'de> ValueInner<'de> {
 }
 
 impl<'de> Value<'de> {
-    /// Returns the value that a segment selects in this value, unless its content has been taken.
+    /// Returns the value that a segment selects in this value. Returns `None` if it selects nothing, or if the content
+    /// of this value or of the selected one has been taken.
     fn entry(&self, segment: &'de str) -> Option<&Self>
         ensures { option_map (λ v. view v.now) result ≡ untaken_entry segment.now (view self.now) }
     {
@@ -83,14 +89,15 @@ impl<'de> Value<'de> {
         }
     }
 
-    /// Returns this value, unless its content has been taken.
+    /// Returns this value, or `None` if its content has been taken.
     pub(crate) fn if_untaken(&self) -> Option<&Self>
         ensures { option_map (λ v. view v.now) result ≡ if_not_taken (view self.now) }
     {
         if self.is_taken() { None } else { Some(self) }
     }
 
-    /// Returns the value to which the segments of `path`, a pointer without its first `/`, lead from this value.
+    /// Follows the segments of `path`, a pointer without its first `/`, from this value. Returns the value to which
+    /// they lead, or `None` if they lead nowhere, or through or to a value whose content has been taken.
     fn found(&self, path: &'de str) -> Option<&Self>
         ensures { option_map (λ v. view v.now) result ≡ value_named (segments path.now) (view self.now) }
     {
@@ -107,7 +114,7 @@ impl<'de> Value<'de> {
     /// The empty pointer names `self`, even if its content has been taken. Any other pointer begins with `/`, and `/`
     /// separates its segments. A segment is the name of a key in a table. In an array it is a position, from 0 and in
     /// range: decimal digits without a sign, and without a leading zero unless it is `0`. A value below `self` is not
-    /// found if its content, or that of a value around it, has been taken.
+    /// found if its content, or the content of a value around it, has been taken.
     pub fn pointer(&self, pointer: &'de str) -> Option<&Self>
         ensures { option_map (λ v. view v.now) result ≡ pointed pointer.now (view self.now) }
     {
@@ -120,7 +127,7 @@ impl<'de> Value<'de> {
 
 impl<'de> ValueInner<'de> {
     /// Puts `new` in place of the value to which `segment` and, after it, the segments of `rest` lead. Returns the old
-    /// value, or `Err(new)` if there is no such value.
+    /// value, or `Err(new)` if they lead nowhere, or through or to a value whose content has been taken.
     #[cycle(replace)]
     fn replace_found(
         &mut self,
@@ -141,6 +148,8 @@ impl<'de> ValueInner<'de> {
     }
 }
 
+/// Puts `new` in place of the value to which `name`, the name of an entry, and after it the segments of `rest` lead.
+/// Returns the old value, or `Err(new)` if they lead nowhere, or through or to a value whose content has been taken.
 #[cycle(replace)]
 fn replace_entry<'de>(
     table: &mut Table<'de>,
@@ -159,6 +168,9 @@ fn replace_entry<'de>(
     }
 }
 
+/// Puts `new` in place of the value to which `segment`, the position of an element, and after it the segments of `rest`
+/// lead. Returns the old value, or `Err(new)` if they lead nowhere, or through or to a value whose content has been
+/// taken.
 #[cycle(replace)]
 fn replace_element<'de>(
     array: &mut Array<'de>,
@@ -182,7 +194,8 @@ fn replace_element<'de>(
 }
 
 impl<'de> Value<'de> {
-    /// Returns a mutable reference to the value that the pointer names, or `None` where `pointer` returns `None`.
+    /// Returns a mutable reference to the value that the pointer names, or `None` if it names no value. Pointers are
+    /// described at `pointer`.
     ///
     /// Nothing changes except what is written through the reference.
     pub fn pointer_mut(&mut self, pointer: &'de str) -> Option<&mut Self>
@@ -197,8 +210,8 @@ impl<'de> Value<'de> {
     }
 
     /// Puts `new` in place of this value or, if `rest` is given, of the value to which the segments of `rest` lead from
-    /// here. Returns the old value, or `Err(new)` if there is no such value or the content of this value has been
-    /// taken.
+    /// this value. Returns the old value, or `Err(new)` if the segments lead nowhere, or if the content of this value,
+    /// or of a value through or to which they lead, has been taken.
     #[cycle(replace)]
     fn replace_here(&mut self, rest: Option<&'de str>, new: Self) -> Result<Self, Self>
         ensures { Exchanged result new.entry (segments_after (option_map (λ r. r.now) rest.entry))
@@ -214,7 +227,8 @@ impl<'de> Value<'de> {
     }
 
     /// Puts `new` in place of the value to which the segments of `path`, a pointer without its first `/`, lead from
-    /// this value. Returns the old value, or `Err(new)` if there is no such value.
+    /// this value. Returns the old value, or `Err(new)` if they lead nowhere, or through or to a value whose content
+    /// has been taken.
     #[cycle(replace)]
     fn replace_found(&mut self, path: &'de str, new: Self) -> Result<Self, Self>
         ensures { Exchanged result new.entry (segments path.now) (Some (view self.old)) (λ w. view self.new ≡ w)
@@ -227,8 +241,8 @@ impl<'de> Value<'de> {
         }
     }
 
-    /// Puts `new`, which keeps its own span, in place of the value that the pointer names. Returns the old value. Keys,
-    /// their spans and all other values are unchanged.
+    /// Puts `new`, with its own span, in place of the value that the pointer names. Returns the old value. Keys, their
+    /// spans and all other values are unchanged.
     ///
     /// If the pointer names no value, returns `Err(new)`, and nothing changes.
     pub fn replace(&mut self, pointer: &'de str, new: Self) -> Result<Self, Self>
@@ -261,6 +275,7 @@ fn inner_of<'v, 'de>(value: &'v mut Value<'de>) -> &'v mut ValueInner<'de>
     }
 }
 
+/// Returns a mutable reference to the value of the entry with the name of `key`, which must exist.
 fn member_of<'v, 'de, 'k>(table: &'v mut Table<'de>, key: &'k Key<'de>) -> &'v mut Value<'de>
     requires { IsSome (get_member (cow_str_bytes key.now.name) (members_view table.old.entries)) }
     ensures* writes_back { sem 𝓛 (lends_member table.entry (cow_str_bytes key.now.name) result) }
@@ -272,6 +287,7 @@ fn member_of<'v, 'de, 'k>(table: &'v mut Table<'de>, key: &'k Key<'de>) -> &'v m
     }
 }
 
+/// Returns a mutable reference to the element at a position, which must be below the length of the array.
 fn item_of<'v, 'de>(array: &'v mut Array<'de>, position: usize) -> &'v mut Value<'de>
     requires { position < vec_len array.old }
     ensures* writes_back { sem 𝓛 (lends_item array.entry position result) }
@@ -280,7 +296,8 @@ fn item_of<'v, 'de>(array: &'v mut Array<'de>, position: usize) -> &'v mut Value
     &mut array[position]
 }
 
-/// Returns a mutable reference to the value that a key selects, which must exist.
+/// Returns a mutable reference to the value that the name of `key` selects, which must exist: an entry of a table, or
+/// an element of an array, whose position the name spells.
 fn entry_of<'v, 'de, 'k>(inner: &'v mut ValueInner<'de>, key: &'k Key<'de>) -> &'v mut Value<'de>
     requires { IsSome (entry (cow_str_bytes key.now.name) (inner_view inner.old)) }
     ensures* writes_back { sem 𝓛 (lends_entry inner.entry (cow_str_bytes key.now.name) result) }
@@ -300,6 +317,7 @@ fn entry_of<'v, 'de, 'k>(inner: &'v mut ValueInner<'de>, key: &'k Key<'de>) -> &
     }
 }
 
+/// Returns the position that the name of `key` spells, or 0 if it spells none.
 fn position_named<'k, 'de>(key: &'k Key<'de>) -> usize
     ensures { (n : ℕ) → position_of (cow_str_bytes key.now.name) ≡ Some n → n < 2 ^ 64 → result ≡ n }
 {
@@ -309,7 +327,9 @@ fn position_named<'k, 'de>(key: &'k Key<'de>) -> usize
     }
 }
 
-/// Returns a mutable reference to the value that a key selects in this value, which must exist.
+/// Returns a mutable reference to the value that the name of `key` selects in `value`: an entry of a table, or an
+/// element of an array, whose position the name spells. That value must exist. Its content, and the content of `value`,
+/// must not have been taken.
 fn child_of<'v, 'de, 'k>(value: &'v mut Value<'de>, key: &'k Key<'de>) -> &'v mut Value<'de>
     requires { IsSome (untaken_entry (cow_str_bytes key.now.name) (view value.old)) }
     ensures* writes_back { sem 𝓛 (lends_child value.entry (cow_str_bytes key.now.name) result) }
@@ -319,9 +339,11 @@ fn child_of<'v, 'de, 'k>(value: &'v mut Value<'de>, key: &'k Key<'de>) -> &'v mu
     entry_of(inner, key)
 }
 
+/// Drops a key.
 fn release(key: Key<'_>) {}
 
-/// Returns a mutable reference to the value that a segment selects in this value, which must exist.
+/// Returns a mutable reference to the value that `segment` selects in `value`. That value must exist. Its content, and
+/// the content of `value`, must not have been taken.
 fn step_to<'v, 'de>(value: &'v mut Value<'de>, segment: &'de str) -> &'v mut Value<'de>
     requires { IsSome (untaken_entry segment.now (view value.old)) }
     ensures* writes_back { sem 𝓛 (lends_child value.entry segment.now result) }
@@ -362,8 +384,8 @@ fn after<'p>(path: &'p str) -> &'p str
     }
 }
 
-/// Returns a mutable reference to the value to which the segments of `path`, a pointer without its first `/`, lead from
-/// `value`. It must exist.
+/// Follows the segments of `path`, a pointer without its first `/`, from `value`. Returns a mutable reference to the
+/// value to which they lead. That value must exist.
 fn at_path<'v, 'de>(value: &'v mut Value<'de>, path: &'de str) -> &'v mut Value<'de>
     requires { IsSome (value_named (segments path.now) (view value.old)) }
     ensures* writes_back { sem 𝓛 (lends_named value.entry path.now result) }
@@ -409,7 +431,7 @@ fn at_pointer<'v, 'de>(value: &'v mut Value<'de>, pointer: &'de str) -> &'v mut 
     at_path(value, path)
 }
 
-/// Returns whether the pointer names a value. It takes a mutable reference, like `pointer_mut`, but changes nothing.
+/// Returns whether the pointer names a value. Takes a mutable reference, like `pointer_mut`, but changes nothing.
 fn is_pointed<'x, 'de>(value: &'x mut Value<'de>, pointer: &'de str) -> bool
     ensures some { result ≡ true → IsSome (pointed pointer.now (view value.old)) }
     ensures none { result ≡ false → pointed pointer.now (view value.old) ≡ None }

@@ -38,7 +38,9 @@ pub enum ValueInner<'de> {
 #[derive(Drop)]
 pub struct Value<'de> {
     pub(crate) value: Option<ValueInner<'de>>,
-    /// The bytes of the document that spell the value, end exclusive.
+    /// The bytes of the value in the document, end exclusive: for a string, its content without the quotes or, if it is
+    /// empty and on a single line, the opening quote; for a table or array of tables that headers open or pass through,
+    /// the section of the first such header.
     pub span: Span,
 }
 
@@ -92,7 +94,7 @@ impl<'de> Value<'de> {
         self.value.is_none()
     }
 
-    /// Returns whether neither this value nor any value inside it has been taken.
+    /// Returns whether this value and all values inside it, at any depth, still have their contents.
     #[cycle(whole)]
     pub fn is_whole(&self) -> bool
         ensures { result ≡ is_whole_node (view self.now) }
@@ -279,7 +281,7 @@ impl<'de> ValueInner<'de> {
     }
 
     #[cycle(whole)]
-    /// Returns whether no value inside has been taken.
+    /// Returns whether all values inside, at any depth, still have their contents.
     fn is_whole(&self) -> bool
         ensures { result ≡ holds_whole (inner_view self.now) }
     {
@@ -290,7 +292,7 @@ impl<'de> ValueInner<'de> {
         }
     }
 
-    /// Returns the string, if this is one.
+    /// Returns the string, or `None` if this is not one.
     pub fn as_str(&self) -> Option<&str>
         ensures { option_map (λ s. s.now) result ≡ text_in (inner_view self.now) }
     {
@@ -300,7 +302,7 @@ impl<'de> ValueInner<'de> {
         }
     }
 
-    /// Returns the entries, if this is a table.
+    /// Returns the entries, or `None` if this is not a table.
     pub fn as_table(&self) -> Option<&Table<'de>>
         ensures { option_map (λ table. members_view table.now.entries) result ≡ members_in (inner_view self.now) }
     {
@@ -310,7 +312,7 @@ impl<'de> ValueInner<'de> {
         }
     }
 
-    /// Returns the elements, if this is an array.
+    /// Returns the elements, or `None` if this is not an array.
     pub fn as_array(&self) -> Option<&Array<'de>>
         ensures { option_map (λ array. items_view array.now.items) result ≡ items_in (inner_view self.now) }
     {
@@ -320,7 +322,7 @@ impl<'de> ValueInner<'de> {
         }
     }
 
-    /// Returns the number, if this is an integer.
+    /// Returns the number, or `None` if this is not an integer.
     pub fn as_integer(&self) -> Option<i64>
         ensures { result ≡ integer_in (inner_view self.now) }
     {
@@ -330,7 +332,7 @@ impl<'de> ValueInner<'de> {
         }
     }
 
-    /// Returns the float, if this is one.
+    /// Returns the float, or `None` if this is not one.
     pub fn as_float(&self) -> Option<&FloatText>
         ensures { option_map (λ x. float_value x.now) result ≡ float_in (inner_view self.now) }
     {
@@ -340,7 +342,7 @@ impl<'de> ValueInner<'de> {
         }
     }
 
-    /// Returns the boolean, if this is one.
+    /// Returns the boolean, or `None` if this is not one.
     pub fn as_bool(&self) -> Option<bool>
         ensures { result ≡ boolean_in (inner_view self.now) }
     {
@@ -350,7 +352,7 @@ impl<'de> ValueInner<'de> {
         }
     }
 
-    /// Returns the date or time, if this is one.
+    /// Returns the date or time, or `None` if this is not one.
     pub fn as_datetime(&self) -> Option<&DateText<'de>>
         ensures { option_map (λ date. date_bytes date.now) result ≡ datetime_in (inner_view self.now) }
     {
@@ -362,7 +364,7 @@ impl<'de> ValueInner<'de> {
 }
 
 #[cycle(whole)]
-/// Returns whether `is_whole` holds for all of the values.
+/// Returns whether all of the values, and all values inside them, still have their contents.
 fn all_whole(values: &[Value<'_>]) -> bool
     ensures { result ≡ all_whole_items (items_view values.now) }
 {
@@ -375,7 +377,7 @@ fn all_whole(values: &[Value<'_>]) -> bool
 }
 
 #[cycle(whole)]
-/// Returns whether `is_whole` holds for all entries' values.
+/// Returns whether the values of all entries, and all values inside them, still have their contents.
 fn all_entries_whole(table: &Table<'_>) -> bool
     ensures { result ≡ all_members_whole (members_view table.now.entries) }
 {

@@ -29,7 +29,7 @@ abbrev pub twice_at : List ℕ → Option Span → List ℕ → Option Span → 
 twice_at name (Some span) old (Some other) s = keeping (twice name span old other ∷ []) s
 twice_at name _ old _ s = s
 
--- The state in which the error is kept if both names have an entry.
+-- The state s or, if both names have an entry, s after the error for that was kept.
 abbrev pub keeping_twice : List ℕ → Option Entry → List ℕ → Option Entry → State → State
 keeping_twice name (Some entry) old (Some other) s = twice_at name entry.0 old other.0 s
 keeping_twice name _ old _ s = s
@@ -71,7 +71,7 @@ outdated_at name old _ = []
 abbrev pub outdated : List ℕ → List ℕ → State → List ErrorContent
 outdated name old s = outdated_at name old (option_map (λ entry. entry.0) (older name old s))
 
--- the state in which the error is kept that the name is missing
+-- the state after the error for the missing name was kept
 abbrev pub lacks : List ℕ → State → State
 lacks name s = keeping (missing name s ∷ []) s
 

@@ -49,7 +49,7 @@ RequiresAll reads name before (Err (stop.Memory e)) after = Requires reads name 
 abbrev pub kept : State → ℕ
 kept s = length s.errors
 
--- how many fields are missing
+-- 1 if the field could not be read, otherwise 0
 abbrev pub lacking : {T : Type 0} → Option T → ℕ
 lacking None = 1
 lacking (Some x) = 0
@@ -95,7 +95,7 @@ abbrev pub AsParsed : {T E : Type 0} → (List ℕ → Result T E → Type 0) �
 AsParsed gives output value (Ok x) = ParsesAll gives output value (Ok x)
 AsParsed gives output value (Err faults) = ParsesAll gives output value (Err (stop.Fault faults))
 
--- An element was read, and dropped.
+-- The read returned an element, which was then dropped.
 abbrev pub AsRead : {T : Type 0} → (Node → Result T Errors → Node → Type 0) → Node → Node → Type 0
 AsRead reads before after = (x : _) × reads before (Ok x) after
 

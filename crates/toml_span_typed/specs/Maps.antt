@@ -61,7 +61,7 @@ table_reads reads value answer after = (answer ≡ refused (codes "a table") val
 abbrev pub Hashed : Type 0 → Type 0
 Hashed T = HashMap (String Global) T (BuildHasherDefault FoldHasher)
 
--- the same entries
+-- The same results as for `table_reads`, with the entries in a map that finds them by hash.
 abbrev pub hashed_reads : {T : Type 0} → (Node → Result T Errors → Node → Type 0) → Node → Result (Hashed T) Errors
     → Node → Type 0
 hashed_reads reads value (Ok m) after = (entries : List (String Global × _))

@@ -27,7 +27,7 @@ again n before = record {
 abbrev pub duplicate_errors : Name → Option Span → List ErrorContent
 duplicate_errors n before = option_to_list (option_map (again n) before)
 
--- the errors of the names in the second list, where the first list has those before them, the latest first
+-- the errors of the names in the second list; the first list has the names before them, the latest first
 abbrev pub repeated_after : List Name → List Name → List ErrorContent
 repeated_after before [] = []
 repeated_after before (n ∷ ns) =

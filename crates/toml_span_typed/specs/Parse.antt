@@ -18,7 +18,7 @@ ReportsRefusal shown span fault =
     })
     × IfSome shown (λ stated. text ≡ stated)
 
--- The string is read as `from_str_gives` says. An allocation can fail only if that is an error.
+-- The string is read as `from_str_gives` says. An allocation can fail only if `FromStr` fails.
 abbrev pub Parses : {T E : Type 0} → (List ℕ → Result T E → Type 0) → (E → Option (List ℕ)) → Node
     → Result T (Stop Error) → Type 0
 Parses gives output value (Ok parsed) =

@@ -83,7 +83,7 @@ abbrev pub read_integer : {T : Type 0} → List ℕ → (ℤ → Option T) → N
 read_integer name held (node (scalar (integer z)) span) = or_out_of name span (held z)
 read_integer name held value = refused name value
 
--- what reads of T return, where the element also has the span of the value
+-- A read of T allows this result, whose element also has the span of the value.
 abbrev pub spanned : {T S : Type 0} → (Node → Result T Errors → Node → Type 0) → (S → T) → (S → Span) → Node
     → Result S Errors → Node → Type 0
 spanned reads value_in span_in before answer after =
@@ -94,7 +94,7 @@ abbrev pub nodes_of : Items → List Node
 nodes_of no_items = []
 nodes_of (item value values) = value ∷ nodes_of values
 
--- a result for each value that the read allows
+-- For each value there is one result, which the read allows for the value.
 abbrev pub EachReads : {T : Type 0} → (Node → Result T Errors → Node → Type 0) → List Node → List (Result T Errors)
     → Type 0
 EachReads reads [] [] = ⊤

@@ -28,7 +28,7 @@ Miscounts n (node (array values) span) faults =
     (length (nodes_of values) ≢ n) × (faults ≡ one (other_length n (length (nodes_of values)) span))
 Miscounts n value faults = faults ≡ one (wrong_kind (codes "an array") value)
 
--- these, or a failed allocation
+-- the errors for a value that is not an array of n elements, or a failed allocation
 abbrev pub RefusesLength : ℕ → Node → Stop Errors → Type 0
 RefusesLength n value (stop.Fault faults) = Miscounts n value faults
 RefusesLength n value (stop.Memory error) = ⊤

@@ -50,7 +50,7 @@ TriesWithWarnings reads name before (Ok field) after warnings more =
     ReadsMoved reads (λ s. s) (found name before) (noted name before) field after warnings more
 TriesWithWarnings reads name before (Err error) after warnings more = Starved name before after
 
--- a result for each value that the read allows; the warnings are appended value by value
+-- For each value there is one result, which the read allows for the value. The warnings are appended value by value.
 abbrev pub EachWithWarnings : {T : Type 0}
     → (Node → Result T Errors → List ErrorContent → List ErrorContent → Type 0) → List Node → List (Result T Errors)
     → List ErrorContent → List ErrorContent → Type 0

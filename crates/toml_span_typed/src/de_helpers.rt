@@ -23,7 +23,7 @@ use toml_span_lex::stop::Stop;
 use toml_span_tree::{Error, ErrorKind, Value, ValueInner};
 
 /// Returns the error `Wanted` at `span`. `expected` describes the expected value, such as "a table". `found` is the
-/// value that is there instead, and the error has the name of its kind. Does not allocate.
+/// value that is there instead; the error contains the name of its kind. Does not allocate.
 pub fn expected<'s>(expected: &'s str, found: ValueInner, span: Span) -> Error<'s>
     ensures { content_of result ≡ wrong_kind expected.now (node (inner_view found.entry) span) }
 {
@@ -36,7 +36,9 @@ pub fn expected<'s>(expected: &'s str, found: ValueInner, span: Span) -> Error<'
     ))
 }
 
-/// Returns the failure of a read that expected a value of another kind: the error that `expected` returns, alone.
+/// Returns `Stop::Fault` with one error, `Wanted` at `span`, for a read that expected a value of another kind. `wanted`
+/// describes the expected value, and `found` is the value that is there instead; the error contains the name of its
+/// kind.
 pub(crate) fn refused<'s>(wanted: &'s str, found: ValueInner, span: Span) -> Stop<DeserError<'s>>
     ensures { result ≡ Fault (one (wrong_kind wanted.now (node (inner_view found.entry) span))) }
 {

@@ -176,7 +176,7 @@ impl<'s> DeserError<'s> {
         Ok(())
     }
 
-    /// Converts a list of errors. Returns `None` if it is empty. Does not allocate.
+    /// Converts a list of errors into a `DeserError`, or returns `None` if the list is empty. Does not allocate.
     pub fn from_list(mut list: Vec<Error<'s>>) -> Option<DeserError<'s>>
         ensures { all_of_option result ≡ map content_of list.entry.items }
     {

@@ -43,8 +43,8 @@ pub trait Deserialize<'de>: Sized + Drop {
         ensures { Answers reads starved (view value.old) result (view value.new) };
 }
 
-/// Reads a value. If that fails, appends its errors to a list, and returns `None`. If an allocation fails, the list is
-/// unchanged.
+/// Reads a value. If that fails, appends its errors to `faults`, and returns `None`. If an allocation fails, `faults`
+/// is unchanged.
 pub(crate) fn read_or_keep<'de, T: Deserialize<'de>>(
     alloc: Global,
     mut value: Value<'de>,

@@ -8,7 +8,8 @@
 /// ```
 ///
 /// Fails with `UnexpectedValue` if the string is not one of the names; a report lists them, and suggests the nearest
-/// one. Fails with `Wanted` if the value is not a string. No two names may be equal.
+/// one. Fails with `Wanted` if the value is not a string, and with `Stop::Memory` if an allocation fails. No two names
+/// may be equal.
 #[macro_export]
 macro_rules! read_name {
     ($alloc:expr, $value:expr, { $first:literal => $variant:expr $(, $name:literal => $other:expr)* $(,)? }) => {

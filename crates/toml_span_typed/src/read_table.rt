@@ -11,19 +11,19 @@
 ///   `tags: Vec<String>, optional;`
 /// - `port: u16, or(80);`: this value if the key is absent. It is evaluated only then;
 /// - `port: u16, range(1..=65535);`: an error for an integer outside this range (`InRange`). The type may also be an
-///   `Option`, a `Spanned` or an `Option` of a `Spanned`. If it is none of these, `or(..)` may follow;
-/// - `level: Level, parsed;`: a string that `FromStr` reads. For the type and for `or(..)`, the same holds as with
-///   `range`;
+///   `Option`, a `Spanned` or an `Option` of a `Spanned`. After any other type, `or(..)` may follow;
+/// - `level: Level, parsed;`: a string that `FromStr` reads. As with `range`, the type may also be an `Option`, a
+///   `Spanned` or an `Option` of a `Spanned`. After any other type, `or(..)` may follow;
 /// - `max_body: u64 = "max-body", alias("max_body");`: read from the key or from an old name
 ///   (`TableHelper::read_either`). Other options may follow;
-/// - `servers: Vec<Server>, unique(name);`: an error for each server whose field `name`, a `Spanned<String>`, repeats
-///   that of an earlier one (`TableHelper::keep_repeated`);
+/// - `servers: Vec<Server>, unique(name);`: an error for each server whose field `name`, a `Spanned<String>`, equals
+///   the field `name` of an earlier server (`TableHelper::keep_repeated`);
 /// - `limits: Limits, flatten;`, as the last field: a type that reads the remaining keys (`TableHelper::read_rest`).
 ///
 /// Other keys are an error. With `..` after the last field they are allowed, and are put back into the value. All
-/// errors are returned, in the order of the fields.
+/// errors are returned, in the order of the fields. If the value is not a table, the only error is `Wanted`.
 ///
-/// With a list of warnings, `read_table!(alloc, value, warnings, Server { .. })`, it is the body of a
+/// The form with a list of warnings, `read_table!(alloc, value, warnings, Server { .. })`, is the body of a
 /// `deserialize_with_warnings`. It appends the warnings to the list, unless an allocation fails. Two more options are
 /// allowed:
 ///

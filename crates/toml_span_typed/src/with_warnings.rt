@@ -25,8 +25,8 @@ pub trait DeserializeWithWarnings<'de>: Sized + Drop {
     ghost reads: { Node → Result Self Errors → List ErrorContent → List ErrorContent → Type 0 } = { λ _ _ _ _. Unit {0} };
 
     /// Reads the value, and appends the warnings to the list, even if the read fails. Earlier warnings stay, even if an
-    /// allocation fails. Callers must prove that nothing has been taken from the value (`is_whole`). Fails like
-    /// `Deserialize::deserialize`.
+    /// allocation fails. Callers must prove that nothing has been taken from the value (`is_whole`). Fails with all
+    /// errors, in the order in which they were found, or with `Stop::Memory` if an allocation fails.
     fn deserialize_with_warnings(
         alloc: Global,
         value: &mut Value<'de>,

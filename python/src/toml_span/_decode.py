@@ -44,7 +44,7 @@ class TOMLDecodeError(ValueError):
 
     @property
     def char_span(self) -> Optional[Span]:
-        """The span in characters: ``doc[start:end]`` is what is wrong."""
+        """The span of the error in characters: ``doc[start:end]`` is the wrong text. None if the span is not known."""
         if self.span is None:
             return None
         data = self.doc.encode("utf-8", "surrogatepass")[self.span[0] : self.span[1]]
@@ -55,7 +55,7 @@ class TOMLDecodeError(ValueError):
 
 
 def _is_too_large(data: bytes, start: int, end: int) -> bool:
-    """Returns whether there is an integer of more than 64 bits. The span of its digits does not include a prefix."""
+    """Returns whether an integer has more than 64 bits. start and end delimit its digits, without a prefix."""
     prefix = data[max(start - 2, 0) : start]
     try:
         number = int((prefix if prefix in (b"0x", b"0o", b"0b") else b"") + data[start:end], 0)
@@ -134,12 +134,12 @@ class Document:
         native.lib.toml_span_sort(at + nodes, count, self.address)
 
     def record(self, number: int) -> Tuple[Any, ...]:
-        """Returns all fields of a record."""
+        """Returns all fields of the record with this index."""
         fields: Tuple[Any, ...] = native.NODE.unpack_from(self.records, number * native.NODE.size)
         return fields
 
     def moment(self, start: int, end: int) -> Moment:
-        """Returns the date, time or datetime at these bytes. Raises TOMLDecodeError if Python has none such."""
+        """Returns the date, time or datetime at these bytes. Raises TOMLDecodeError if Python can't represent it."""
         try:
             return _moment(self.data[start:end].decode())
         except (ValueError, OverflowError) as error:
@@ -148,7 +148,7 @@ class Document:
             raise TOMLDecodeError(msg, self.text, pos, None, (start, end)) from None
 
     def value(self, number: int, parse_float: Callable[[str], Any] = float) -> Any:
-        """Returns the value of a record, with all values inside it."""
+        """Returns the value of the record with this index, with all values inside it."""
         arguments = self.address, number, self.sources, parse_float is not float
         room, needed = len(self.data) + 16 * self.count + 64, ctypes.c_size_t()
         if number > 0:
@@ -211,7 +211,7 @@ def _zone(offset: str) -> timezone:
 
 
 def _moment(text: str) -> Moment:
-    """Converts a date, time or datetime. Raises ValueError if Python has none such, as for the second 60."""
+    """Converts a date, time or datetime. Raises ValueError if Python can't represent it, such as a second 60."""
     if text[2] == ":" and _HAS_ISO:
         return time.fromisoformat(text)
     if len(text) == 10 and text[4] == "-":
@@ -228,7 +228,7 @@ def _moment(text: str) -> Moment:
 
 
 def loads(s: str, /, *, parse_float: Callable[[str], Any] = float) -> Dict[str, Any]:
-    """Parses a text into a dict, like ``tomllib.loads``. Raises TOMLDecodeError.
+    """Parses a text into a dict, like ``tomllib.loads``. Raises TOMLDecodeError if it is not valid TOML.
 
     ``parse_float`` is called with the text of each float.
     """
@@ -239,7 +239,7 @@ def loads(s: str, /, *, parse_float: Callable[[str], Any] = float) -> Dict[str, 
 
 
 def load(fp: BinaryIO, /, *, parse_float: Callable[[str], Any] = float) -> Dict[str, Any]:
-    """Parses a file that is open in binary mode, like ``tomllib.load``. Raises TOMLDecodeError."""
+    """Parses a file that is open in binary mode, like ``tomllib.load``. Raises TOMLDecodeError for invalid TOML."""
     data = fp.read()
     try:
         text = data.decode()

@@ -30,7 +30,10 @@ def _checked(text: AnyStr) -> AnyStr:
 
 
 def _made(text: AnyStr, room: int, call: Callable[..., int], refused: Callable[[str], Exception]) -> AnyStr:
-    """Returns the new text that a call of the library makes from a text."""
+    """Returns the new text that a call of the library makes from a text.
+
+    Raises TOMLDecodeError if the text is not valid, and the exception of ``refused`` if there is no new text.
+    """
     data = text.encode("utf-8", "surrogatepass") if isinstance(text, str) else text
     needed = ctypes.c_size_t()
     fault = ctypes.create_string_buffer(native.FAULT.size)
@@ -82,7 +85,7 @@ class Edits(Generic[AnyStr]):
         return self._add(2, path, value_text(value))
 
     def set_or_add(self, path: Path, value: Any) -> Edits[AnyStr]:
-        """Replaces a value, or adds it, with the missing tables on the way."""
+        """Replaces a value. If there is none, adds it, with the missing tables on the way."""
         return self._add(3, path, value_text(value))
 
     def rename(self, path: Path, name: str) -> Edits[AnyStr]:
@@ -94,7 +97,7 @@ class Edits(Generic[AnyStr]):
         return self._add(5, path, None)
 
     def add(self, path: Path, value: Any) -> Edits[AnyStr]:
-        """Adds a value to an existing table, under a new key, the last of the path."""
+        """Adds a value to an existing table. The last name of the path is the new key."""
         return self._add(6, path, value_text(value))
 
     def add_table(self, path: Path) -> Edits[AnyStr]:
@@ -102,7 +105,7 @@ class Edits(Generic[AnyStr]):
         return self._add(7, path, None)
 
     def append(self, path: Path, value: Any) -> Edits[AnyStr]:
-        """Adds a value at the end of an array, or adds an array with it."""
+        """Adds a value at the end of an array. If there is no value at the path, adds an array with this element."""
         return self._add(8, path, value_text(value))
 
     def insert(self, path: Path, value: Any) -> Edits[AnyStr]:
@@ -110,7 +113,7 @@ class Edits(Generic[AnyStr]):
         return self._add(9, path, value_text(value))
 
     def move(self, path: Path, target: Path) -> Edits[AnyStr]:
-        """Moves a value to another path, where there is none."""
+        """Moves a value to another path. There must be no value at that path, unless the path leads into an array."""
         return self._add(10, path, target if isinstance(target, str) else path_text(target))
 
     def finish(self) -> AnyStr:

@@ -1,4 +1,4 @@
-"""Writes a dict as a text."""
+"""Writes a dict as TOML."""
 
 from __future__ import annotations
 
@@ -49,7 +49,7 @@ def _inline(value: Any, depth: int) -> str:
 
 
 def _is_tables(value: Any) -> bool:
-    """Returns whether a value is written as tables with headers: [[name]]."""
+    """Returns whether a value is written as an array of tables, with headers: [[name]]."""
     return isinstance(value, list) and bool(value) and all(isinstance(held, dict) and held for held in value)
 
 
@@ -127,7 +127,7 @@ def value_text(value: Any) -> str:
 
 
 def path_text(path: Iterable[Union[str, int]]) -> str:
-    """A dotted key of names and positions."""
+    """Returns a path of names and positions as a dotted key, such as ``server.ports[0]``."""
     if not isinstance(path, Iterable):
         raise TypeError(f"a path must be a str or its steps, not '{type(path).__qualname__}'")
     text = ""

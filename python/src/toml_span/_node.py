@@ -1,4 +1,4 @@
-"""The values of a text, with their places."""
+"""The values of a text, with their spans, lines and columns."""
 
 from __future__ import annotations
 
@@ -24,7 +24,7 @@ class _Source(Document):
         self.held: Dict[int, Dict[Key, int]] = {}
 
     def name(self, number: int) -> Key:
-        """Returns the name or the position of a record in its parent."""
+        """Returns the name, or the position, that the record with this index has in its parent."""
         record = self.record(number)
         if self.record(record[12])[0] == ARRAY:
             position: int = record[13]
@@ -57,7 +57,7 @@ class _Source(Document):
 
 
 class Node:
-    """A value with its place.
+    """A value with its span, line and column.
 
     A table works like a dict, an array like a list. ``==``, ``in`` and truth are those of the value. Iteration follows
     the text; ``sorted(node)`` returns the names in order.
@@ -85,13 +85,13 @@ class Node:
 
     @property
     def key(self) -> Optional[str]:
-        """The name of its key; None for elements and for the root."""
+        """The name of the value's key; None for elements and for the root."""
         name = None if self._number == 0 else self._source.name(self._number)
         return name if isinstance(name, str) else None
 
     @property
     def parent(self) -> Optional[Node]:
-        """The table or array around it; None for the root."""
+        """The table or array that contains the value; None for the root."""
         number = self._record[12]
         return None if number == NONE else Node(self._source, number)
 
@@ -107,12 +107,12 @@ class Node:
 
     @property
     def span(self) -> Span:
-        """Its bytes in the text, as (start, end), the end exclusive; for a string, those between its quotes."""
+        """The bytes of the value, as (start, end), the end exclusive; for a string, those between its quotes."""
         return self._record[2], self._record[3]
 
     @property
     def key_span(self) -> Optional[Span]:
-        """The bytes of its key; None for elements and for the root."""
+        """The bytes of the value's key, as (start, end); None for elements and for the root."""
         return None if self.key is None else (self._record[4], self._record[5])
 
     def _characters(self, span: Optional[Span]) -> Optional[Span]:
@@ -120,23 +120,23 @@ class Node:
 
     @property
     def char_span(self) -> Span:
-        """Its span in characters: ``text[start:end]`` is what is there."""
+        """The span in characters: ``text[start:end]`` is the text of the value."""
         start, end = self.span
         return self._source.place(start)[2], self._source.place(end)[2]
 
     @property
     def key_char_span(self) -> Optional[Span]:
-        """The span of its key in characters."""
+        """The span of the value's key in characters; None for elements and for the root."""
         return self._characters(self.key_span)
 
     @property
     def line(self) -> int:
-        """The line where it starts, counted from 1."""
+        """The line in which the value starts, counted from 1."""
         return self._source.place(self._record[2])[0]
 
     @property
     def column(self) -> int:
-        """The column where it starts, counted from 1 in characters."""
+        """The column at which the value starts, in characters, counted from 1."""
         return self._source.place(self._record[2])[1]
 
     def find(self, path: str) -> Optional[Node]:
@@ -197,7 +197,7 @@ class Node:
     @overload
     def __getitem__(self, item: slice) -> List[Node]: ...
     def __getitem__(self, item: Union[Key, slice]) -> Union[Node, List[Node]]:
-        """The value of a name; the element at a position, which may count from the end; a list for a slice."""
+        """The value of a name, the element at a position (which may count from the end), or a list for a slice."""
         held = self._children()
         if self._record[0] == TABLE:
             return Node(self._source, held[item])  # type: ignore[index]
@@ -209,7 +209,7 @@ class Node:
             raise IndexError(f"the array at line {self.line} has {len(held)} elements, none at {item}") from None
 
     def get(self, name: str, default: Any = None) -> Any:
-        """The value of a name of a table, or else the default."""
+        """The value of a table's entry with this name, or the default if there is none."""
         number = self._children(TABLE).get(name)
         return default if number is None else Node(self._source, number)
 
@@ -231,9 +231,10 @@ class Node:
 
 
 def parse(source: Union[str, bytes], name: str = "<string>") -> Node:
-    """Parses a text, or its bytes, and returns its root, which is a table. Raises TOMLDecodeError.
+    """Parses a text, or its bytes, and returns its root, which is a table. Raises TOMLDecodeError if it is not
+    valid TOML.
 
-    ``name`` is that of the file, for the report of an error.
+    ``name`` is the name of the file, for the report of an error.
     """
     if isinstance(source, str):
         return Node(_Source(source, encoded(source), name), 0)

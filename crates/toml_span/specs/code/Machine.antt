@@ -1,4 +1,5 @@
--- What the tree under construction keeps of the claims so far, for each path, and which clash that leads to.
+-- What the tree under construction keeps of the claims so far, for each path (a cell), and the clash that is found with
+-- the cells.
 use Rattle.std.specs.Option.{option_or}
 use Rattle.std.specs.Box.{box_value}
 use Rattle.std.specs.Global.{Box}
@@ -15,15 +16,15 @@ use Rattle.toml_span.specs.Clashes.{NamedClash, with_name}
 use Rattle.toml_span.specs.declared.claims.Clash as code
 use Rattle.toml_span_lex.specs.declared.stop.Stop.TheVariants.{Memory, Fault}
 
--- What determines a path so far: whether that is a header, the place, and the span of the key in the first claim on the
--- path.
+-- The claim that determines a path so far: whether a header made it, its place, and the span of the key in the first
+-- claim on the path.
 pub record Decided : Type 0 where
   pub header : Bool
   pub place : Place
   pub key : Span
 
--- What is kept for a path: the first claim of each kind in the path's own scope, and what determines the path in any
--- scope.
+-- What is kept for a path: the first claim of each kind in the path's own scope, and the claim that determines the
+-- path, in whatever scope it is.
 pub record Cell : Type 0 where
   pub infos : List ClaimInfo
   pub shown : Option Decided
@@ -62,13 +63,13 @@ key_spans st p = option_map (λ d. d.key) (st p).shown
 unfoldable pub change : CellMap → Path → (Cell → Cell) → CellMap
 change st p f q = if same_path p q then f (st q) else st q
 
--- the state after these claims, all taken as claims in scopes inside
+-- the cells after these claims, all of which count as claims in inner scopes
 unfoldable pub show_all : CellMap → Claims → CellMap
 show_all st no_claims = st
 show_all st (claimed c cs) = show_all (change st c.path (with_inner c)) cs
 show_all st (scope inner cs) = show_all (show_all st inner) cs
 
--- the state after these claims, one after the other, and after those in the scopes inside
+-- the cells after these claims, one after the other, and after those in inner scopes
 unfoldable pub put_all : CellMap → Claims → CellMap
 put_all st no_claims = st
 put_all st (claimed c cs) = put_all (change st c.path (with_claim c)) cs
@@ -78,7 +79,7 @@ put_all st (scope inner cs) = put_all (show_all st inner) cs
 abbrev pub earliest_clash : List ClaimInfo → ClaimInfo → List ℕ → Option NamedClash
 earliest_clash infos info name = option_map (with_name name) (earliest_clash_info infos info)
 
--- The first clash that is found. A scope inside begins without claims.
+-- The first clash that is found. An inner scope begins without claims.
 unfoldable pub clash_found : CellMap → Claims → Option NamedClash
 clash_found st no_claims = None
 clash_found st (claimed c cs) =
@@ -89,13 +90,14 @@ clash_found st (scope inner cs) = option_or (clash_found no_cells inner) (clash_
 abbrev pub named_clash : Box code.Clash → NamedClash
 named_clash c = record { info = (box_value c).info; name = string_bytes (box_value c).name }
 
--- If no two claims clash, the result is `Ok` with P, otherwise it is the clash. It may also be a failed allocation.
+-- Without a clash, the result is `Ok`, and P holds for it. With a clash, the result is that clash. In both cases, it
+-- may also be a failed allocation.
 abbrev pub OkOrClash : {A : Type 0} → Result A PlaceError → Option NamedClash → (A → Type 0) → Type 0
 OkOrClash (Ok x) o P = (o ≡ None) × P x
 OkOrClash (Err (Fault c)) o P = o ≡ Some (named_clash c)
 OkOrClash (Err (Memory e)) o P = ⊤
 
--- the state, in which another state replaces what is below a step
+-- the function f on paths, except that `sub` replaces it below the step s
 unfoldable pub graft : {A : Type 0} → Step → (Path → A) → (Path → A) → Path → A
 graft s f sub [] = f []
 graft s f sub (t ∷ q) = if same_step s t then sub q else f (t ∷ q)

@@ -41,8 +41,8 @@ use Rattle.toml_span_lex.specs.declared.stop.Stop.TheVariants.{Memory, Fault}
 use Rattle.toml_span.specs.Clashes.{Resolves, first_clash}
 use Rattle.toml_span.specs.Flat.{ShowsExactly, flat}
 
--- If the branch satisfied the first predicate, the claims have been placed below it: it then satisfies the second
--- predicate, and has these numbers of entries. Or the result is their first clash.
+-- If the branch satisfied `Before`, either the claims have been placed below it, it satisfies `After`, and its arrays
+-- of tables have these numbers of entries (elements); or the result is the first clash of the claims.
 abbrev pub Reaches : (Branch → Type 0) → (Branch → Type 0) → Branch → Branch → Result (Unit {0}) PlaceError → Claims
     → (Path → ℕ) → Type 0
 Reaches Before After old new r cs entries =
@@ -80,7 +80,7 @@ abbrev pub PassesPair : Branch → Branch → Result (Unit {0}) PlaceError
 PassesPair old new r part rest d v =
     Passes old new r (through_pair (simple_key part) (map simple_key rest) (simple_key d.last) v) (counts old)
 
--- A section has been placed below a branch. `parts` is what is left of its header.
+-- A section has been placed below a branch. `parts` are the parts of its header that lead there from the branch.
 abbrev pub PlacesSection : Branch → Branch → Result (Unit {0}) PlaceError
     → HeaderInfo → List Key → List Assignment → Type 0
 PlacesSection old new r h parts pairs =

@@ -1,4 +1,5 @@
--- The claims of headers and assignments, as paths below the branch at which a function begins.
+-- The claims of headers and assignments, as paths below the branch at which a function begins. The entries of a branch
+-- are the elements of an array of tables.
 use Rattle.std.specs.Prelude.{ℕ, zero, suc, if◌then◌else◌, List, [], ◌∷◌}
 use Rattle.toml_span_tree.specs.Path.{Step, key, position, Path}
 use Rattle.toml_span_read.specs.Data.{ParsedValue, SimpleKey}
@@ -36,7 +37,8 @@ abbrev pub part_kind : HeaderInfo → List SimpleKey → ClaimKind
 part_kind h [] = if h.array then ArrayOfTables else StandardTable
 part_kind h (l ∷ more) = Passed
 
--- as paths below the latest entry of a branch or, if it has no entries, below the branch itself
+-- The claims that f returns, as paths below the latest entry of a branch or, if it has no entries, below the branch
+-- itself.
 abbrev pub entered : ℕ → (Path → ℕ) → ((Path → ℕ) → Claims) → Claims
 entered zero e f = f e
 entered (suc latest) e f = under (position latest) (f (λ q. e (position latest ∷ q)))

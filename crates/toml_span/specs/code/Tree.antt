@@ -1,4 +1,4 @@
--- What the tree under construction has at each path.
+-- What the tree under construction has at each path. The entries of a branch are the elements of an array of tables.
 use Rattle.std.specs.Prelude.{◌≡◌, ℕ, zero, suc, ◌⊎◌, Bool, true, false, List, [], ◌∷◌, length, Option, Some, None}
 use Rattle.std.specs.Prelude.{option_map}
 use Rattle.std.specs.Cow.{cow_str_bytes}
@@ -36,16 +36,18 @@ infos n = (out-Branch n).infos.items
 abbrev pub entries : Branch → List Branch
 entries n = (out-Branch n).entries.items
 
--- the branch with this name; the value with this name, with its key; the entry at a position
+-- the branch with this name
 abbrev pub child : List ℕ → Branch → Option Branch
 child name n = option_map box_value (lookup (is_named name) (out-Branch n).tables.entries)
 
+-- the assigned value with this name, with its key
 abbrev pub closed_in : List ℕ → BTreeMap Key Value → Option (Key × Value)
 closed_in name values = lookup_entry (is_named name) values.entries
 
 abbrev pub closed : List ℕ → Branch → Option (Key × Value)
 closed name n = closed_in name (out-Branch n).values
 
+-- the item at this position
 abbrev pub item : {A : Type 0} → ℕ → List A → Option A
 item i [] = None
 item zero (x ∷ xs) = Some x
@@ -135,18 +137,20 @@ abbrev pub is_entry_kind : ClaimKind → Bool
 is_entry_kind TableElement = true
 is_entry_kind _ = false
 
--- None of the claims is of an array of tables or of an entry.
+-- None of the claims is that of an array of tables.
 abbrev pub NoArray : List ClaimInfo → Type 0
 NoArray ms = AllByRecursion (λ m. is_array_kind m.kind ≡ false) ms
 
+-- None of the claims is that of an entry.
 abbrev pub NoEntry : List ClaimInfo → Type 0
 NoEntry ms = AllByRecursion (λ m. is_entry_kind m.kind ≡ false) ms
 
--- The claims on a branch that a name leads to, and the claims on an entry.
+-- The claims are those of a branch that a name leads to: at least one, but not that of an entry.
 abbrev pub IsNamed : List ClaimInfo → Type 0
 IsNamed [] = ⊥
 IsNamed (m ∷ ms) = NoEntry (m ∷ ms)
 
+-- The claims are those of an entry: the first is its own.
 abbrev pub IsEntry : List ClaimInfo → Type 0
 IsEntry [] = ⊥
 IsEntry (m ∷ ms) = m.kind ≡ TableElement
@@ -171,10 +175,11 @@ abbrev pub IsTableOrArray : Branch → List Branch → Type 0
 IsTableOrArray n [] = NoArray (infos n)
 IsTableOrArray n (x ∷ xs) = IsArray n
 
--- the branches in `tables`, and those in `entries`
+-- Each branch in `tables` has claims by name, and its name is not in `values`.
 abbrev pub AreNamed : Branch → Type 0
 AreNamed n = (name : List ℕ) (c : Branch) → child name n ≡ Some c → (closed name n ≡ None) × IsNamed (infos c)
 
+-- Each entry is a table with the claim of an entry.
 abbrev pub AreEntries : List Branch → Type 0
 AreEntries ns = (i : ℕ) (c : Branch) → item i ns ≡ Some c → (entries c ≡ []) × IsEntry (infos c)
 

@@ -10,8 +10,8 @@ ghost use Rattle.toml_span_read.specs.Grammar.{SpellsDocument};
 ghost use Rattle.toml_span_laws.specs.Clashing.{IsFirstPair, IsIn, ShareScope};
 
 /// The clash that is reported is the first by its offsets. Its later claim starts before every other claim of the
-/// document that clashes with an earlier one in its scope. Its earlier claim starts before every other one that clashes
-/// with the later one.
+/// document that clashes with an earlier one in its scope (the document, an array in brackets or an inline table). Its
+/// earlier claim starts before every other one that clashes with the later one.
 pub fn reported_is_first_by_place()
     ensures { (text : List ℕ) (limit : ℕ) (sections : List ParsedSection) (reported : NamedClash)
         → SpellsDocument sections text limit
@@ -28,7 +28,8 @@ pub fn no_header_through_an_element_decides()
         → c.info.kind ≢ Passed }
 {}
 
-/// If no two claims of a document clash, claims on the same path belong to the same scope.
+/// If no two claims of a document clash, claims on the same path belong to the same scope: the document, an array in
+/// brackets or an inline table.
 pub fn claims_on_one_path_are_of_one_scope()
     ensures { (text : List ℕ) (limit : ℕ) (sections : List ParsedSection) (c d : Claim)
         → SpellsDocument sections text limit

@@ -13,8 +13,8 @@ use Rattle.toml_span_lex.specs.declared.tokens.Token.TheVariants as tokens
 use Rattle.toml_span_lex.specs.Strings.{IsContent, IsContentCutOff, HasChange, NeedsCopy, opens_multi, IsString}
 use Rattle.toml_span_lex.specs.Strings.{IsNoString, NeedsMemory, Borrows, BorrowsWhereSame}
 
--- The value read so far is not copied as long as it equals the text. From then on it is an owned string, which is
--- shorter than the text.
+-- The value of the content from `from` to `at`. It is not copied (None) as long as it equals the text. After that it is
+-- an owned string, which is shorter than the text.
 abbrev pub Kept : {Z : Type 0} → ℕ → List ℕ → ℕ → ℕ → List ℕ → Option (String Z) → Type 0
 Kept q text from at value None = value ≡ slice_range text from at
 Kept q text from at value (Some s) = (string_bytes s ≡ value) × (length value + from < at) × HasChange q text from at

@@ -70,14 +70,16 @@ pub record Knows (earlier : Earlier) (assignments : List ParsedAssignment) : Typ
   pub within : earlier.known ≤ length assignments
   pub tree : holds earlier.tree ≡ value_at (take earlier.known assignments)
 
--- The next key goes through no earlier value, and is counted; or it goes through one, and this is the fault.
+-- Either the next key goes through no earlier value, and `new` knows its assignment too; or the key goes through one,
+-- and this is the fault.
 abbrev pub ChecksNext : Earlier → List ParsedAssignment → ParsedAssignment → Result (Option Fault) AllocError → Type 0
 ChecksNext new assignments next (Ok None) =
     (crossing assignments next ≡ None) × Knows new (assignments ++ (next ∷ []))
 ChecksNext new assignments next (Ok (Some fault)) = crossing assignments next ≡ Some fault
 ChecksNext new assignments next (Err e) = Unit {0}
 
--- The assignment is appended to the earlier ones, or its key goes through the value of one of them.
+-- Either the assignment is appended to the earlier ones, or its key goes through the value of one of them, and this is
+-- the fault.
 abbrev pub AddsClear : List Assignment → List Assignment → Assignment → Result (Unit {0}) (Stop Fault) → Type 0
 AddsClear old new next (Ok done) =
     (new ≡ old ++ (next ∷ [])) × (crossing (map parsed_assignment old) (parsed_assignment next) ≡ None)

@@ -13,7 +13,7 @@ use Rattle.toml_span_report.specs.declared.words.TheConstants.{SHORT_DATE, SLASH
 abbrev pub are_digits : List ℕ → ℕ → ℕ → Bool
 are_digits text from count = end_of class.Digit text from == ahead text from count
 
--- whether there is something of the form of a date, valid or not
+-- whether the bytes from one offset to another have the form of a date, valid or not
 abbrev pub is_date : List ℕ → ℕ → ℕ → Bool
 is_date text start end =
     slice_index text (ahead text start 4) == 45 && (slice_index text (ahead text start 7) == 45

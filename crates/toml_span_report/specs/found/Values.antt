@@ -10,8 +10,8 @@ use Rattle.toml_span_report.specs.declared.words.TheConstants.{NEAR_FALSE, NEAR_
 use Rattle.toml_span_report.specs.declared.words.TheConstants.{OTHER_FLOAT, PREFIXED, RAW_STRING}
 use Rattle.toml_span_report.specs.declared.words.TheConstants.{UNQUOTED, UNQUOTED_TEXT, UPPER_BOOLEAN}
 
--- The word and the name are the same up to an offset, and then after one byte of either or both, or of each after two
--- that are swapped.
+-- The word and the name are equal up to an offset. From there on they are equal after one byte is skipped in the word,
+-- in the name or in both, or after two swapped bytes are skipped in both.
 unfoldable pub is_near_at : List ℕ → List ℕ → ℕ → Bool
 is_near_at word name at =
     let after = ahead word at 1 in
@@ -60,7 +60,7 @@ known_word word =
     then Some (as_meant (said OTHER_FLOAT) [] (codes "inf"))
     else near_boolean word
 
--- where the words end that may be meant as one string
+-- whether the words that are meant as one string end at this byte
 abbrev pub ends_phrase : ℕ → Bool
 ends_phrase b = b == 0 || b == 10 || b == 13 || b == 35 || b == 44 || b == 93 || b == 125
 

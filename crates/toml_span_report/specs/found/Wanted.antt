@@ -20,7 +20,7 @@ use Rattle.toml_span_report.specs.declared.words.TheConstants.{FLOAT_DUE, HALF_D
 use Rattle.toml_span_report.specs.declared.words.TheConstants.{KEY_AFTER_HEADER, LAST_COMMA, SECOND_KEY, STRING_DUE}
 use Rattle.toml_span_report.specs.declared.words.TheConstants.{VALUE_OF_HEADER, ZONE_NAME}
 
--- a line feed before something
+-- a key that should be on the next line: the repair puts a line feed before it
 abbrev pub broken : WordsContent → List ℕ → ℕ → ℕ → FindingContent
 broken mistake text from at = mended mistake (span_of at (end_of class.Dotted text at)) (span_of from at)
     (pieces (10 ∷ []) [] [])

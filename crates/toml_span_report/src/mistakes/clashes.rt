@@ -14,7 +14,7 @@ use crate::words::{
 };
 use toml_span_lex::span::Span;
 
-/// Returns the end of the header that begins at `at`, without blanks and the comment after it.
+/// Returns the end of the header that begins at `at`, without the blanks and the comment after it.
 fn header_end(text: &str, at: usize) -> usize
     ensures { result ≡ spec.header_end text.now at }
 {
@@ -75,9 +75,10 @@ fn no_table(text: &str, at: usize) -> &'static str
     }
 }
 
-/// Returns the line of an inline table with one more assignment. The table begins at `table`, and its key ends at
-/// `key_end`. The assignment is that of the dotted key at `at`, without the part that names the table. Returns empty
-/// code if the table does not end at the end of its line, or the dotted key begins with another part.
+/// Returns the line of the inline table that begins at `table`, and whose key ends at `key_end`, with one more
+/// assignment: the assignment of the dotted key at `at`, without the key of the table at its beginning. Returns empty
+/// code if the dotted key does not begin with the key of the table and a dot, or if the table does not end at the end
+/// of its line.
 #[tactic(auto, unfolding(crate::specs::found::Clashes::extended))]
 fn extended<'a>(text: &'a str, key_end: usize, table: usize, at: usize) -> Code<'a>
     ensures { code_content result ≡ spec.extended text.now key_end table at }
@@ -131,7 +132,8 @@ fn body<'a>(text: &'a str, end: usize) -> &'a str
 }
 
 /// Returns the assignment to write in an inline table, instead of a header whose path goes through the table. `end` is
-/// the end of the header's part that names the inline table. Returns empty code if that is the last part.
+/// the end of the header's part that names the inline table. Returns an empty text if this part is the last one, or if
+/// its line does not end with `]`.
 #[tactic(auto, unfolding(crate::specs::found::Clashes::subtable))]
 fn subtable<'a>(text: &'a str, end: usize) -> Code<'a>
     ensures { code_content result ≡ spec.subtable text.now end }
@@ -187,8 +189,8 @@ pub(crate) fn through_value<'a>(text: &'a str, span: Span, first: Span) -> Optio
     }
 }
 
-/// Recognizes a key, at `span`, that is defined twice because it is a header or dotted key through an earlier value,
-/// whose key is at `first`.
+/// Recognizes a key, at `span`, that is reported as defined twice, but is in a header or dotted key that goes through
+/// an earlier value. The key of that value is at `first`.
 #[tactic(auto, unfolding(crate::specs::found::Clashes::key_twice))]
 pub(crate) fn key_twice<'a>(text: &'a str, span: Span, first: Span) -> Option<Finding<'a>>
     ensures { option_map finding_content result ≡ spec.key_twice text.now span first }

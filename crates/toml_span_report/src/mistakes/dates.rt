@@ -8,7 +8,7 @@ use crate::finding::{Code, Finding, marked, pieces, replaced, six};
 use crate::tables::text_in;
 use crate::words::{DATETIME, NO_DAY, NO_MONTH, NO_TIME, OFFSET, SHORT_DATE, SLASH_DATE};
 
-/// Returns whether there are exactly `count` digits at the offset `from`.
+/// Returns whether there are exactly `count` digits at the offset `from`. At the end of the text, fewer suffice.
 fn are_digits(text: &str, from: usize, count: usize) -> bool
     ensures { result ≡ spec.are_digits text.now from count }
 {
@@ -29,7 +29,7 @@ pub(crate) fn is_date(text: &str, start: usize, end: usize) -> bool
         && ahead(text, start, 10) == end
 }
 
-/// Recognizes a date with slashes, in which the year is last, as in `01/31/2026`.
+/// Recognizes a date with slashes, from `start` to `end`, in which the year is last, as in `01/31/2026`.
 #[tactic(auto, unfolding(crate::specs::found::Dates::slash_date))]
 pub(crate) fn slash_date<'a>(text: &'a str, start: usize, end: usize) -> Option<Finding<'a>>
     ensures { option_map finding_content result ≡ spec.slash_date text.now start end }
@@ -63,7 +63,8 @@ fn zero_for(from: usize, to: usize) -> &'static str
     }
 }
 
-/// Returns whether the two digits at the offset `at` spell a higher number than the digits `tens` and `ones` do.
+/// Returns whether the two digits at the offset `at` spell a higher number than `tens` and `ones`, which are digits in
+/// ASCII.
 fn is_past(text: &str, at: usize, tens: u8, ones: u8) -> bool
     ensures { result ≡ spec.is_past text.now at tens ones }
 {
@@ -94,14 +95,16 @@ fn is_fourth(text: &str, at: usize) -> bool
     (2 * tens + u32::from(byte_at(text, ahead(text, at, 1)))) % 4 == 0
 }
 
-/// Returns the message with the length of a month, unless it is February.
+/// Returns the message with the length of the month that these two digits spell, or `None` for February and for any
+/// other text.
 fn days_of(month: &str) -> Option<&'static str>
     ensures { option_map (λ days. days.now) result ≡ spec.days_of month.now }
 {
     text_in(&MONTHS, month)
 }
 
-/// Returns the message with the length of a month. `year` and `month` are the offsets of their digits.
+/// Returns the message with the length of a month, or an empty text if the month does not exist. `year` and `month` are
+/// the offsets of their digits.
 #[tactic(auto, unfolding(crate::specs::found::Dates::month_length))]
 fn month_length<'a>(text: &'a str, year: usize, month: usize) -> Code<'a>
     ensures { code_content result ≡ spec.month_length text.now year month }
@@ -126,8 +129,8 @@ fn month_length<'a>(text: &'a str, year: usize, month: usize) -> Code<'a>
     }
 }
 
-/// Returns the finding for a time that does not exist, or for a UTC offset without a colon. The value spans
-/// `start..end`, and the time begins at `hour`.
+/// Returns the finding for a UTC offset without a colon, for an hour that does not exist, or else for any other mistake
+/// in a time. The value spans `start..end`, and the time begins at `hour`.
 #[tactic(auto, unfolding(crate::specs::found::Dates::time))]
 fn time<'a>(text: &'a str, start: usize, hour: usize, end: usize) -> Finding<'a>
     ensures { finding_content result ≡ spec.time text.now start hour end }
@@ -180,7 +183,7 @@ fn date<'a>(text: &'a str, start: usize, month: usize, day: usize, end: usize) -
     time(text, start, ahead(text, day_end, 1), end)
 }
 
-/// Returns the finding for an invalid date or time.
+/// Returns the finding for the invalid date or time around the offset `at`.
 #[tactic(auto, unfolding(crate::specs::found::Dates::datetime))]
 pub(crate) fn datetime<'a>(text: &'a str, at: usize) -> Finding<'a>
     ensures { finding_content result ≡ spec.datetime text.now at }

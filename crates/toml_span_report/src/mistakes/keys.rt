@@ -22,7 +22,7 @@ use crate::words::{
 };
 use toml_span_lex::span::Span;
 
-/// Returns the finding for a comment of another language. It begins at `at`, with a sign of `length` bytes.
+/// Returns the finding for a comment of another language. The comment begins at `at`, with a sign of `length` bytes.
 #[tactic(auto, unfolding(crate::specs::found::Keys::comment))]
 pub(crate) fn comment<'a>(mistake: Mistake, text: &'a str, at: usize, length: usize) -> Finding<'a>
     ensures { finding_content result ≡ spec.comment (texts mistake.entry) text.now at length }
@@ -35,7 +35,7 @@ pub(crate) fn comment<'a>(mistake: Mistake, text: &'a str, at: usize, length: us
     )
 }
 
-/// Recognizes a part of a header that needs quotes.
+/// Recognizes a part of a header, around the offset `at`, that needs quotes.
 #[tactic(auto, unfolding(crate::specs::found::Keys::header_key))]
 pub(crate) fn header_key<'a>(text: &'a str, at: usize) -> Option<Finding<'a>>
     ensures { option_map finding_content result ≡ spec.header_key text.now at }
@@ -50,7 +50,7 @@ pub(crate) fn header_key<'a>(text: &'a str, at: usize) -> Option<Finding<'a>>
     }
 }
 
-/// Recognizes a key that needs quotes because of its characters.
+/// Recognizes a key, around the offset `at`, that needs quotes because of its characters.
 #[tactic(auto, unfolding(crate::specs::found::Keys::other_key))]
 pub(crate) fn other_key<'a>(text: &'a str, at: usize) -> Option<Finding<'a>>
     ensures { option_map finding_content result ≡ spec.other_key text.now at }
@@ -64,7 +64,7 @@ pub(crate) fn other_key<'a>(text: &'a str, at: usize) -> Option<Finding<'a>>
     }
 }
 
-/// Returns the start of the key that ends at `end`: a quoted one, or one of bare parts.
+/// Returns the start of the key that ends at `end`: a quoted key, or a key of bare parts.
 #[tactic(auto, unfolding(crate::specs::found::Keys::key_start))]
 fn key_start(text: &str, end: usize) -> usize
     ensures { result ≡ spec.key_start text.now end }
@@ -76,7 +76,8 @@ fn key_start(text: &str, end: usize) -> usize
     }
 }
 
-/// Returns the end of the value that begins at `at`, or the end of the line if the value goes on.
+/// Returns the end of the string or word that begins at `at`. For an array or inline table, returns the end of the line
+/// on which it begins, without trailing blanks.
 #[tactic(auto, unfolding(crate::specs::found::Keys::value_end))]
 fn value_end(text: &str, at: usize) -> usize
     ensures { result ≡ spec.value_end text.now at }
@@ -88,7 +89,7 @@ fn value_end(text: &str, at: usize) -> usize
     }
 }
 
-/// Returns whether the word from `at` to `end` is a decimal integer or a float.
+/// Returns whether the word from `at` to `end` is a decimal integer, or a float without an exponent.
 #[tactic(auto, unfolding(crate::specs::found::Keys::is_number))]
 fn is_number(text: &str, at: usize, end: usize) -> bool
     ensures { result ≡ spec.is_number text.now at end }
@@ -103,8 +104,8 @@ fn is_number(text: &str, at: usize, end: usize) -> bool
         || byte_at(text, point) == b'.' && other < end && end_of(Class::Digit, text, other) == end
 }
 
-/// Returns whether the word from `at` to `end` is a valid value: it begins with a quote or a bracket, or is a number, a
-/// date, a boolean, `inf` or `nan`.
+/// Returns whether the word from `at` to `end` looks like a value: it begins with a quote, a bracket or a brace, or is
+/// a number (`is_number`), a date, a boolean, `inf` or `nan`.
 #[tactic(auto, unfolding(crate::specs::found::Keys::is_value))]
 fn is_value(text: &str, at: usize, end: usize) -> bool
     ensures { result ≡ spec.is_value text.now at end }
@@ -137,8 +138,8 @@ fn doubtful<'a>(mistake: Mistake, mark: Span, edit: Span, code: Code<'a>) -> Fin
 }
 
 /// Returns the finding for `key`, a sign other than `=`, and the word of another language at `at`. `mark` is the span
-/// of the sign; `edit` is the span of all three. If TOML has a value for that word, the finding marks the sign and
-/// replaces `edit`. Otherwise it only marks the word.
+/// of the sign, `edit` the span of all three, and `known` says what the word means. If TOML has a value for the word,
+/// the finding marks the sign and replaces `edit`. Otherwise it only marks the word.
 fn known_pair<'a>(
     mistake: Mistake,
     key: &'a str,
@@ -250,7 +251,8 @@ fn yaml_list<'a>(text: &'a str, start: usize, colon: usize, dash: usize) -> Find
     }
 }
 
-/// Returns the finding for a key and a colon at the end of its line.
+/// Returns the finding for a key and a colon with nothing after them on their line but blanks and a comment. The colon
+/// is at `at`.
 #[tactic(auto, unfolding(crate::specs::found::Keys::yaml))]
 fn yaml<'a>(text: &'a str, at: usize) -> Finding<'a>
     ensures { finding_content result ≡ spec.yaml text.now at }
@@ -269,7 +271,7 @@ fn yaml<'a>(text: &'a str, at: usize) -> Finding<'a>
     )
 }
 
-/// Returns the finding for a colon instead of `=`.
+/// Returns the finding for the colon at `at`, which is written instead of `=`.
 #[tactic(auto, unfolding(crate::specs::found::Keys::colon))]
 fn colon<'a>(text: &'a str, at: usize) -> Finding<'a>
     ensures { finding_content result ≡ spec.colon text.now at }
@@ -286,14 +288,14 @@ fn colon<'a>(text: &'a str, at: usize) -> Finding<'a>
     }
 }
 
-/// Returns whether the word is one that other languages write before a key or an assignment, such as `let`.
+/// Returns whether the word is a keyword, such as `let`, that other languages write before a key or an assignment.
 fn is_keyword(word: &str) -> bool
     ensures { result ≡ spec.is_keyword word.now }
 {
     matches!(word, "export" | "let" | "var" | "const" | "set" | "local")
 }
 
-/// Returns the finding for a key alone on its line, which ends at `end`.
+/// Returns the finding for a key that ends at `end` and is alone on its line.
 #[tactic(auto, unfolding(crate::specs::found::Keys::lone_key))]
 fn lone_key<'a>(text: &'a str, end: usize) -> Finding<'a>
     ensures { finding_content result ≡ spec.lone_key text.now end }
@@ -363,7 +365,7 @@ fn second_word<'a>(text: &'a str, end: usize, at: usize) -> Option<Finding<'a>>
     }
 }
 
-/// Recognizes the mistake in the token `found`, where `=` is expected.
+/// Recognizes the mistake in the token `found` at `at`, where `=` is expected.
 #[tactic(auto, unfolding(crate::specs::found::Keys::no_equals))]
 pub(crate) fn no_equals<'a>(found: &str, text: &'a str, at: usize) -> Option<Finding<'a>>
     ensures { option_map finding_content result ≡ spec.no_equals found.now text.now at }
@@ -376,7 +378,7 @@ pub(crate) fn no_equals<'a>(found: &str, text: &'a str, at: usize) -> Option<Fin
     }
 }
 
-/// Recognizes the mistake in a brace where a key is expected.
+/// Recognizes the mistake in the brace at `at`, where a key is expected.
 #[tactic(auto, unfolding(crate::specs::found::Keys::brace))]
 fn brace<'a>(text: &'a str, at: usize) -> Option<Finding<'a>>
     ensures { option_map finding_content result ≡ spec.brace text.now at }
@@ -394,7 +396,7 @@ fn brace<'a>(text: &'a str, at: usize) -> Option<Finding<'a>>
     }
 }
 
-/// Recognizes a header in braces.
+/// Recognizes a header in braces that begins at `at`.
 #[tactic(auto, unfolding(crate::specs::found::Keys::brace_header))]
 fn brace_header<'a>(text: &'a str, at: usize) -> Option<Finding<'a>>
     ensures { option_map finding_content result ≡ spec.brace_header text.now at }
@@ -423,7 +425,7 @@ fn placeholder<'a>(text: &'a str, at: usize) -> Finding<'a>
     quoted(TEMPLATE, text, at, end)
 }
 
-/// Returns the finding for an extra dot or comma.
+/// Returns the finding for the extra dot or comma at `at`.
 #[tactic(auto, unfolding(crate::specs::found::Keys::extra))]
 pub(crate) fn extra<'a>(mistake: Mistake, text: &'a str, at: usize) -> Finding<'a>
     ensures { finding_content result ≡ spec.extra (texts mistake.entry) text.now at }
@@ -431,7 +433,7 @@ pub(crate) fn extra<'a>(mistake: Mistake, text: &'a str, at: usize) -> Finding<'
     removed(mistake, at, ahead(text, at, 1))
 }
 
-/// Returns the finding for `=` or a closing bracket where a key is expected.
+/// Returns the finding for `=` or a closing bracket at `at`, where a key is expected.
 #[tactic(auto, unfolding(crate::specs::found::Keys::missing_key))]
 fn missing_key<'a>(mistake: Mistake, text: &'a str, at: usize) -> Finding<'a>
     ensures { finding_content result ≡ spec.missing_key (texts mistake.entry) text.now at }
@@ -446,7 +448,7 @@ fn missing_key<'a>(mistake: Mistake, text: &'a str, at: usize) -> Finding<'a>
     }
 }
 
-/// Recognizes the mistake in the token `found`, where a key is expected.
+/// Recognizes the mistake in the token `found` at `at`, where a key is expected.
 #[tactic(auto, unfolding(crate::specs::found::Keys::no_key))]
 pub(crate) fn no_key<'a>(found: &str, text: &'a str, at: usize) -> Option<Finding<'a>>
     ensures { option_map finding_content result ≡ spec.no_key found.now text.now at }

@@ -46,7 +46,7 @@ pub(crate) fn open_end<'a>(text: &'a str, at: usize) -> Option<Finding<'a>>
     }
 }
 
-/// Recognizes a value that begins on the line below its key.
+/// Recognizes a value that begins below the line of its key. The value is expected at `at`.
 #[tactic(auto, unfolding(crate::specs::found::Lists::value_below))]
 fn value_below<'a>(text: &'a str, at: usize) -> Option<Finding<'a>>
     ensures { option_map finding_content result ≡ spec.value_below text.now at }
@@ -68,7 +68,8 @@ fn value_below<'a>(text: &'a str, at: usize) -> Option<Finding<'a>>
     }
 }
 
-/// Recognizes a missing value, where the line or the text ends.
+/// Recognizes a value that is missing after `=`, or a bracket that is not closed, where the line or the text ends at
+/// `at`.
 #[tactic(auto, unfolding(crate::specs::found::Lists::missing_value))]
 pub(crate) fn missing_value<'a>(text: &'a str, at: usize) -> Option<Finding<'a>>
     ensures { option_map finding_content result ≡ spec.missing_value text.now at }
@@ -84,7 +85,7 @@ pub(crate) fn missing_value<'a>(text: &'a str, at: usize) -> Option<Finding<'a>>
 }
 
 /// Recognizes a value that begins with `#`, such as a color, and is therefore read as a comment. If the comment at `at`
-/// is not such a value, recognizes that the value before it is missing.
+/// is not such a value, recognizes that a value is missing before it, or that a bracket is not closed.
 #[tactic(auto, unfolding(crate::specs::found::Lists::hash))]
 fn hash<'a>(text: &'a str, at: usize) -> Option<Finding<'a>>
     ensures { option_map finding_content result ≡ spec.hash text.now at }
@@ -98,7 +99,7 @@ fn hash<'a>(text: &'a str, at: usize) -> Option<Finding<'a>>
     }
 }
 
-/// Recognizes an extra comma where a value is expected, but not after `=`.
+/// Recognizes an extra comma at `at`, where a value is expected, but not after `=`.
 #[tactic(auto, unfolding(crate::specs::found::Lists::comma))]
 fn comma<'a>(text: &'a str, at: usize) -> Option<Finding<'a>>
     ensures { option_map finding_content result ≡ spec.comma text.now at }
@@ -111,7 +112,8 @@ fn comma<'a>(text: &'a str, at: usize) -> Option<Finding<'a>>
     }
 }
 
-/// Recognizes a float without a digit before its point, and a word that begins with a dot, where a value is expected.
+/// Recognizes a float without a digit before its point, and a word that begins with a dot, at `at`, where a value is
+/// expected.
 #[tactic(auto, unfolding(crate::specs::found::Lists::point))]
 fn point<'a>(text: &'a str, at: usize) -> Option<Finding<'a>>
     ensures { option_map finding_content result ≡ spec.point text.now at }
@@ -141,7 +143,7 @@ fn equals<'a>(text: &'a str, at: usize) -> Option<Finding<'a>>
     }
 }
 
-/// Recognizes the mistake in the token `found`, where a value is expected.
+/// Recognizes the mistake in the token `found` at `at`, where a value is expected.
 #[tactic(auto, unfolding(crate::specs::found::Lists::no_value))]
 pub(crate) fn no_value<'a>(found: &str, text: &'a str, at: usize) -> Option<Finding<'a>>
     ensures { option_map finding_content result ≡ spec.no_value found.now text.now at }
@@ -172,7 +174,7 @@ fn open_header<'a>(text: &'a str, bracket: usize) -> Finding<'a>
     replaced(OPEN_HEADER, bracket, end, code)
 }
 
-/// Recognizes the mistake in the token `found`, where a header whose bracket is at `bracket` should end.
+/// Recognizes the mistake in the token `found` at `at`, where a header whose bracket is at `bracket` should end.
 #[tactic(auto, unfolding(crate::specs::found::Lists::header))]
 fn header<'a>(found: &str, text: &'a str, at: usize, bracket: usize) -> Option<Finding<'a>>
     ensures { option_map finding_content result ≡ spec.header found.now text.now at bracket }
@@ -184,7 +186,7 @@ fn header<'a>(found: &str, text: &'a str, at: usize, bracket: usize) -> Option<F
     }
 }
 
-/// Returns whether an assignment begins at the offset, and the offset is at the start of a line.
+/// Returns whether an assignment begins at the offset `at`, and only blanks are before it on its line.
 #[tactic(auto, unfolding(crate::specs::found::Lists::is_assignment))]
 fn is_assignment(text: &str, at: usize) -> bool
     ensures { result ≡ spec.is_assignment text.now at }
@@ -193,8 +195,8 @@ fn is_assignment(text: &str, at: usize) -> bool
     first_of_line(text, at) == at && at < end && byte_after(text, end) == b'='
 }
 
-/// Returns whether the line looks like a header: its first byte is a bracket, and a bracket closes after the word at
-/// the offset.
+/// Returns whether the line of the offset `at` looks like a header: its first byte is `[`, and the word at `at` is
+/// followed by `]` or `]]`, with nothing but blanks after it.
 #[tactic(auto, unfolding(crate::specs::found::Lists::is_heading))]
 fn is_heading(text: &str, at: usize) -> bool
     ensures { result ≡ spec.is_heading text.now at }
@@ -205,8 +207,8 @@ fn is_heading(text: &str, at: usize) -> bool
         && (is_last(text, ahead(text, end, 1)) || is_last(text, ahead(text, end, 2)))
 }
 
-/// Returns the finding for the word at `at`, which is written instead of a value. After a bracket that is not closed,
-/// the word begins the next assignment, or is the name in the next header.
+/// Returns the finding for the word at `at`, which is written instead of a value. If a bracket is open, and the word
+/// begins an assignment or is the name in a header, the finding is that the bracket is not closed.
 #[tactic(auto, unfolding(crate::specs::found::Lists::word))]
 pub(crate) fn word<'a>(text: &'a str, at: usize) -> Finding<'a>
     ensures { finding_content result ≡ spec.word text.now at }
@@ -236,7 +238,8 @@ fn missing_comma<'a>(mistake: Mistake, text: &'a str, at: usize) -> Finding<'a>
     found
 }
 
-/// Returns the finding for the token at `at`, where an array or inline table should continue or end.
+/// Returns the finding for the token at `at`, where a comma or closing bracket is expected: a bracket that is not
+/// closed if the token begins an assignment or a header, otherwise a missing comma.
 #[tactic(auto, unfolding(crate::specs::found::Lists::unseparated))]
 fn unseparated<'a>(mistake: Mistake, text: &'a str, at: usize) -> Finding<'a>
     ensures { finding_content result ≡ spec.unseparated (texts mistake.entry) text.now at }
@@ -249,7 +252,7 @@ fn unseparated<'a>(mistake: Mistake, text: &'a str, at: usize) -> Finding<'a>
     }
 }
 
-/// Returns the finding for a closing bracket of the wrong kind. `closing` is the right one.
+/// Returns the finding for the closing bracket at `at`, which is of the wrong kind. `closing` is the correct bracket.
 #[tactic(auto, unfolding(crate::specs::found::Lists::wrong_closing))]
 fn wrong_closing<'a>(
     mistake: Mistake,
@@ -266,7 +269,7 @@ fn wrong_closing<'a>(
     found
 }
 
-/// Recognizes a value in an array or inline table that is followed by `.`, `:` or `+`, so that the word needs quotes.
+/// Recognizes a value in an array or inline table that goes on with `.`, `:` or `+` at `at`, and so needs quotes.
 #[tactic(auto, unfolding(crate::specs::found::Lists::glued))]
 fn glued<'a>(text: &'a str, at: usize) -> Option<Finding<'a>>
     ensures { option_map finding_content result ≡ spec.glued text.now at }
@@ -279,7 +282,7 @@ fn glued<'a>(text: &'a str, at: usize) -> Option<Finding<'a>>
     }
 }
 
-/// Recognizes the mistake in the token `found`, where `]` is expected.
+/// Recognizes the mistake in the token `found` at `at`, where `]` is expected.
 #[tactic(auto, unfolding(crate::specs::found::Lists::no_bracket))]
 pub(crate) fn no_bracket<'a>(found: &str, text: &'a str, at: usize) -> Option<Finding<'a>>
     ensures { option_map finding_content result ≡ spec.no_bracket found.now text.now at }
@@ -296,7 +299,7 @@ pub(crate) fn no_bracket<'a>(found: &str, text: &'a str, at: usize) -> Option<Fi
     }
 }
 
-/// Recognizes the mistake in the token `found`, where a comma is expected in an inline table.
+/// Recognizes the mistake in the token `found` at `at`, where a comma is expected in an inline table.
 #[tactic(auto, unfolding(crate::specs::found::Lists::no_comma))]
 pub(crate) fn no_comma<'a>(found: &str, text: &'a str, at: usize) -> Option<Finding<'a>>
     ensures { option_map finding_content result ≡ spec.no_comma found.now text.now at }

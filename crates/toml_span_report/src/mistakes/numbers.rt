@@ -11,7 +11,7 @@ use crate::words::{
     TRAILING_POINT, UNDERSCORE, UNQUOTED, UPPER_PREFIX,
 };
 
-/// Returns the offset after the sign of a number, if it has one.
+/// Returns the offset after the sign of the number at `at`, or `at` if the number has no sign.
 pub(crate) fn after_sign(text: &str, at: usize) -> usize
     ensures { result ≡ spec.after_sign text.now at }
 {
@@ -59,7 +59,7 @@ fn digit_of(byte: u8) -> u64
     }
 }
 
-/// Returns the base of a number with this letter in its prefix.
+/// Returns the base of a number with this letter in its prefix: 16 for `x` or `X`, 8 for `o` or `O`, otherwise 2.
 fn base_of(letter: u8) -> u64
     ensures { result ≡ spec.base_of letter }
 {
@@ -98,7 +98,7 @@ fn value_of(digits: &str, base: u64) -> Option<u64>
 }
 
 /// Returns the finding for a sign before a prefix. The `0` of the prefix is at `zero`. The repair is the number in
-/// decimal, which may have a sign.
+/// decimal, which may have a sign. There is no repair if a digit is not valid, or if the number is higher than 2^63.
 #[tactic(auto, unfolding(crate::specs::found::Numbers::signed_prefix))]
 fn signed_prefix<'a>(text: &'a str, start: usize, zero: usize, end: usize) -> Finding<'a>
     ensures { finding_content result ≡ spec.signed_prefix text.now start zero end }
@@ -205,7 +205,7 @@ fn integer<'a>(text: &'a str, start: usize, digits: usize, end: usize) -> Findin
     }
 }
 
-/// Recognizes the mistake in a number without a prefix. Its digits begin at `digits`.
+/// Recognizes the mistake in a number without `0x`, `0o` or `0b`. Its digits begin at `digits`.
 #[tactic(auto, unfolding(crate::specs::found::Numbers::plain))]
 fn plain<'a>(text: &'a str, start: usize, digits: usize, end: usize) -> Option<Finding<'a>>
     ensures { option_map finding_content result ≡ spec.plain text.now start digits end }
@@ -224,7 +224,8 @@ fn plain<'a>(text: &'a str, start: usize, digits: usize, end: usize) -> Option<F
     }
 }
 
-/// Recognizes the mistake in an invalid number that contains the offset `at`. Returns `None` if it is no typical one.
+/// Recognizes the mistake in an invalid number that contains the offset `at`. Returns `None` if the mistake is not a
+/// typical one.
 #[tactic(auto, unfolding(crate::specs::found::Numbers::number))]
 pub(crate) fn number<'a>(text: &'a str, at: usize) -> Option<Finding<'a>>
     ensures { option_map finding_content result ≡ spec.number text.now at }

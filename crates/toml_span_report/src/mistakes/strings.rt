@@ -14,7 +14,8 @@ use crate::words::{
     SURROGATE,
 };
 
-/// Returns the finding for a single-line string whose quote, at `quote`, is not closed before `end`.
+/// Returns the finding for a single-line string that is not closed. Its opening quote is at `quote`, and `end` is the
+/// end of its line. If the string begins a line outside brackets, it is a quoted key.
 #[tactic(auto, unfolding(crate::specs::found::Strings::open_string))]
 fn open_string<'a>(text: &'a str, quote: usize, end: usize) -> Finding<'a>
     ensures { finding_content result ≡ spec.open_string text.now quote end }
@@ -30,7 +31,8 @@ fn open_string<'a>(text: &'a str, quote: usize, end: usize) -> Finding<'a>
     marked(mistake, quote, end)
 }
 
-/// Returns the finding for a quoted key whose quote, at `quote`, is not closed before `end`.
+/// Returns the finding for a quoted key that is not closed. Its opening quote is at `quote`, and `end` is the end of
+/// its line.
 #[tactic(auto, unfolding(crate::specs::found::Strings::open_key))]
 fn open_key<'a>(text: &'a str, quote: usize, end: usize) -> Finding<'a>
     ensures { finding_content result ≡ spec.open_key text.now quote end }
@@ -90,7 +92,7 @@ pub(crate) fn character<'a>(text: &'a str, at: usize, c: char) -> Finding<'a>
     }
 }
 
-/// Returns the finding for a backslash that does not begin an escape, up to the offset `end`.
+/// Returns the finding for a backslash, at `at`, that does not begin an escape. `end` is the end of the mark.
 #[tactic(auto, unfolding(crate::specs::found::Strings::backslash))]
 fn backslash<'a>(text: &'a str, at: usize, end: usize) -> Finding<'a>
     ensures { finding_content result ≡ spec.backslash text.now at end }
@@ -113,7 +115,7 @@ fn backslash<'a>(text: &'a str, at: usize, end: usize) -> Finding<'a>
     )
 }
 
-/// Returns the finding for the character after a backslash that does not begin an escape.
+/// Returns the finding for a backslash that does not begin an escape. The character after the backslash is at `at`.
 pub(crate) fn escape<'a>(text: &'a str, at: usize) -> Finding<'a>
     ensures { finding_content result ≡ spec.escape text.now at }
 {
@@ -145,7 +147,7 @@ fn digits_after(letter: u8) -> &'static str
     }
 }
 
-/// Returns the finding for a character where a hexadecimal digit is expected.
+/// Returns the finding for the character at `at`, where a hexadecimal digit is expected.
 #[tactic(auto, unfolding(crate::specs::found::Strings::hex_escape))]
 pub(crate) fn hex_escape<'a>(text: &'a str, at: usize) -> Finding<'a>
     ensures { finding_content result ≡ spec.hex_escape text.now at }
@@ -165,7 +167,8 @@ pub(crate) fn hex_escape<'a>(text: &'a str, at: usize) -> Finding<'a>
     found
 }
 
-/// Returns the finding for digits that are not the number of a character. The letter of the escape is at `at`.
+/// Returns the finding for an escape whose digits spell `value`, which is not the code point of a character. The letter
+/// of the escape is at `at`.
 #[tactic(auto, unfolding(crate::specs::found::Strings::escape_value))]
 pub(crate) fn escape_value<'a>(text: &'a str, at: usize, value: u32) -> Finding<'a>
     ensures { finding_content result ≡ spec.escape_value text.now at value }
@@ -180,7 +183,7 @@ pub(crate) fn escape_value<'a>(text: &'a str, at: usize, value: u32) -> Finding<
     marked(mistake, start, ahead(text, at, length))
 }
 
-/// Returns the finding for a string that is not closed before the end of the text.
+/// Returns the finding for a string that is not closed before the end of the text. Its opening quote is at `at`.
 #[tactic(auto, unfolding(crate::specs::found::Strings::unterminated))]
 pub(crate) fn unterminated<'a>(text: &'a str, at: usize) -> Finding<'a>
     ensures { finding_content result ≡ spec.unterminated text.now at }
@@ -194,7 +197,7 @@ pub(crate) fn unterminated<'a>(text: &'a str, at: usize) -> Finding<'a>
     }
 }
 
-/// Returns the finding for a multi-line string as a key.
+/// Returns the finding for a multi-line string as a key. Its opening quotes are at `at`.
 #[tactic(auto, unfolding(crate::specs::found::Strings::long_key))]
 pub(crate) fn long_key<'a>(text: &'a str, at: usize) -> Finding<'a>
     ensures { finding_content result ≡ spec.long_key text.now at }
@@ -202,8 +205,8 @@ pub(crate) fn long_key<'a>(text: &'a str, at: usize) -> Finding<'a>
     marked(LONG_KEY, at, ahead(text, at, 3))
 }
 
-/// Recognizes a value that begins and ends with a quote and contains it too, so that the string seems to end before the
-/// token at `at`.
+/// Recognizes a value that begins and ends with a quote and contains the same quote, so that the string ends too early,
+/// before the token at `at`.
 #[tactic(auto, unfolding(crate::specs::found::Strings::quote_in_string))]
 pub(crate) fn quote_in_string<'a>(text: &'a str, at: usize) -> Option<Finding<'a>>
     ensures { option_map finding_content result ≡ spec.quote_in_string text.now at }

@@ -18,8 +18,8 @@ use crate::words::{
     MARKUP, OTHER_SIGN, OTHER_SPACE, PARENTHESES, SEMICOLON, SEMICOLONS, SLASHES,
 };
 
-/// Returns the TOML character that `c` looks like, with the mistake and the Unicode name of `c`. Returns `None` if `c`
-/// does not look like one.
+/// Returns the TOML character that `c` looks like, or no character if `c` is invisible, with the mistake and the
+/// Unicode name of `c`. Returns `None` for any other character.
 #[tactic(auto, unfolding(crate::specs::found::Symbols::look_alike))]
 fn look_alike(c: char) -> Option<Meant>
     ensures { option_map meant_content result ≡ spec.look_alike c }
@@ -56,7 +56,7 @@ fn curly_name(c: char) -> &'static str
     }
 }
 
-/// Returns the finding for a curly quote with this name, and for the string that it begins.
+/// Returns the finding for the curly quote at `at`, which has this name, and for the string that it begins.
 #[tactic(auto, unfolding(crate::specs::found::Symbols::curly))]
 fn curly<'a>(text: &'a str, at: usize, name: &'static str) -> Finding<'a>
     ensures { finding_content result ≡ spec.curly text.now at name.now }
@@ -79,7 +79,7 @@ fn curly<'a>(text: &'a str, at: usize, name: &'static str) -> Finding<'a>
     }
 }
 
-/// Returns the finding for the character at `at`, which is written instead of the one in `meant`.
+/// Returns the finding for the character at `at`, which is written instead of the character in `meant`.
 #[tactic(auto, unfolding(crate::specs::found::Symbols::other_character))]
 fn other_character<'a>(text: &'a str, at: usize, meant: Meant) -> Finding<'a>
     ensures { finding_content result ≡ spec.other_character text.now at (meant_content meant) }
@@ -91,7 +91,7 @@ fn other_character<'a>(text: &'a str, at: usize, meant: Meant) -> Finding<'a>
     found
 }
 
-/// Recognizes the character `c` at `at` if it looks like one that TOML uses.
+/// Recognizes the character `c` at `at` if it looks like a character that TOML uses.
 #[tactic(auto, unfolding(crate::specs::found::Symbols::alike))]
 fn alike<'a>(text: &'a str, at: usize, c: char) -> Option<Finding<'a>>
     ensures { option_map finding_content result ≡ spec.alike text.now at c }
@@ -106,7 +106,7 @@ fn alike<'a>(text: &'a str, at: usize, c: char) -> Option<Finding<'a>>
     }
 }
 
-/// Returns the finding for a semicolon, which ends a line or begins a comment in other languages.
+/// Returns the finding for the semicolon at `at`, which ends a line or begins a comment in other languages.
 #[tactic(auto, unfolding(crate::specs::found::Symbols::semicolon))]
 fn semicolon<'a>(text: &'a str, at: usize) -> Finding<'a>
     ensures { finding_content result ≡ spec.semicolon text.now at }
@@ -118,7 +118,7 @@ fn semicolon<'a>(text: &'a str, at: usize) -> Finding<'a>
     comment(SEMICOLONS, text, at, 1)
 }
 
-/// Returns the finding for a string in backticks.
+/// Returns the finding for the string in backticks that begins at `at`.
 #[tactic(auto, unfolding(crate::specs::found::Symbols::backticks))]
 fn backticks<'a>(text: &'a str, at: usize) -> Finding<'a>
     ensures { finding_content result ≡ spec.backticks text.now at }
@@ -132,7 +132,7 @@ fn backticks<'a>(text: &'a str, at: usize) -> Finding<'a>
     replaced(BACKTICKS, at, ahead(text, close, 1), code)
 }
 
-/// Returns the finding for a list in parentheses.
+/// Returns the finding for the list in parentheses that begins at `at`.
 #[tactic(auto, unfolding(crate::specs::found::Symbols::parentheses))]
 fn parentheses<'a>(text: &'a str, at: usize) -> Finding<'a>
     ensures { finding_content result ≡ spec.parentheses text.now at }
@@ -146,7 +146,7 @@ fn parentheses<'a>(text: &'a str, at: usize) -> Finding<'a>
     replaced(PARENTHESES, at, ahead(text, close, 1), code)
 }
 
-/// Recognizes the mistake in a character at the beginning of a line.
+/// Recognizes a marker of a merge conflict, or a tag of a markup language, on the line that begins at `at`.
 #[tactic(auto, unfolding(crate::specs::found::Symbols::at_line_start))]
 fn at_line_start<'a>(text: &'a str, at: usize) -> Option<Finding<'a>>
     ensures { option_map finding_content result ≡ spec.at_line_start text.now at }
@@ -164,7 +164,8 @@ fn at_line_start<'a>(text: &'a str, at: usize) -> Option<Finding<'a>>
     None
 }
 
-/// Returns the finding for a block comment. It has a replacement if the comment is on one line, and nothing follows it.
+/// Returns the finding for the block comment that begins at `at`. It has a replacement if the comment is on one line,
+/// and nothing follows the comment.
 #[tactic(auto, unfolding(crate::specs::found::Symbols::block_comment))]
 fn block_comment<'a>(text: &'a str, at: usize) -> Finding<'a>
     ensures { finding_content result ≡ spec.block_comment text.now at }
@@ -179,7 +180,7 @@ fn block_comment<'a>(text: &'a str, at: usize) -> Finding<'a>
     replaced(COMMENT_LINE, at, last, pieces("#", content, ""))
 }
 
-/// Recognizes `//`, `/*`, `;` or a lone carriage return, as in other languages.
+/// Recognizes `//`, `/*`, `;` or a lone carriage return at `at`, as in other languages.
 #[tactic(auto, unfolding(crate::specs::found::Symbols::foreign))]
 fn foreign<'a>(text: &'a str, at: usize) -> Option<Finding<'a>>
     ensures { option_map finding_content result ≡ spec.foreign text.now at }
@@ -197,7 +198,8 @@ fn foreign<'a>(text: &'a str, at: usize) -> Option<Finding<'a>>
     }
 }
 
-/// Recognizes a key or value that needs quotes because of a character. The word with the character begins at `start`.
+/// Recognizes a key or value that needs quotes because of the character at `at`. The word with the character begins at
+/// `start`.
 #[tactic(auto, unfolding(crate::specs::found::Symbols::unquoted))]
 fn unquoted<'a>(text: &'a str, at: usize, start: usize) -> Option<Finding<'a>>
     ensures { option_map finding_content result ≡ spec.unquoted text.now at start }
@@ -213,7 +215,7 @@ fn unquoted<'a>(text: &'a str, at: usize, start: usize) -> Option<Finding<'a>>
     }
 }
 
-/// Recognizes the mistake in a value with an invalid character. The value begins at `start`, after `=`.
+/// Recognizes the mistake in a value with an invalid character, at `at`. The value begins at `start`, after `=`.
 #[tactic(auto, unfolding(crate::specs::found::Symbols::value))]
 fn value<'a>(text: &'a str, at: usize, start: usize) -> Option<Finding<'a>>
     ensures { option_map finding_content result ≡ spec.value text.now at start }
@@ -233,7 +235,7 @@ fn value<'a>(text: &'a str, at: usize, start: usize) -> Option<Finding<'a>>
     }
 }
 
-/// Recognizes the mistake in a character that does not begin a token.
+/// Recognizes the mistake in the character `c` at `at`, which does not begin a token.
 #[tactic(auto, unfolding(crate::specs::found::Symbols::unexpected))]
 pub(crate) fn unexpected<'a>(text: &'a str, at: usize, c: char) -> Option<Finding<'a>>
     ensures { option_map finding_content result ≡ spec.unexpected text.now at c }

@@ -30,7 +30,8 @@ fn is_near_at(word: &str, name: &str, at: usize) -> bool
             || is_swapped)
 }
 
-/// Returns whether a word differs from `name`, which has at most five bytes, by at most one byte or two swapped ones.
+/// Returns whether a word differs from `name`, which has at most five bytes, by at most one byte, or by two swapped
+/// bytes.
 #[tactic(auto, unfolding(crate::specs::found::Values::is_near))]
 fn is_near(word: &str, name: &str) -> bool
     ensures { result ≡ spec.is_near word.now name.now }
@@ -75,9 +76,9 @@ pub(crate) fn known_word(word: &str) -> Option<Meant>
     }
 }
 
-/// Returns the end of a string that needs quotes. It begins at `at`, and its first word ends at `end`. If a comment,
-/// the end of the line, a comma, `]` or `}` follows the words on the line, all of them belong to the string; otherwise
-/// only the first one does, and `end` is returned.
+/// Returns the end of a string that needs quotes. The string begins at `at`, and its first word ends at `end`. If a
+/// comment, the end of the line, a comma, `]` or `}` follows the words on the line, all of them belong to the string;
+/// otherwise only the first one does, and `end` is returned.
 #[tactic(auto, unfolding(crate::specs::found::Values::phrase_end))]
 pub(crate) fn phrase_end(text: &str, at: usize, end: usize) -> usize
     ensures { result ≡ spec.phrase_end text.now at end }
@@ -101,7 +102,8 @@ pub(crate) fn unquoted_value<'a>(text: &'a str, at: usize) -> Finding<'a>
     }
 }
 
-/// Returns the finding for a prefixed string at `at`, such as `r".."`, with its quote at `quote`.
+/// Returns the finding for a string with letters before its quote, such as `r".."`. It begins at `at`, and its quote is
+/// at `quote`.
 #[tactic(auto, unfolding(crate::specs::found::Values::prefixed))]
 fn prefixed<'a>(text: &'a str, at: usize, quote: usize) -> Finding<'a>
     ensures { finding_content result ≡ spec.prefixed text.now at quote }
@@ -127,7 +129,8 @@ fn prefixed<'a>(text: &'a str, at: usize, quote: usize) -> Finding<'a>
     }
 }
 
-/// Returns the finding for a word of another language, from `at` to `end`, instead of a value.
+/// Returns the finding for a word of another language, from `at` to `end`, that is written instead of a value. `known`
+/// says what the word means.
 fn known_value<'a>(at: usize, end: usize, known: Meant) -> Finding<'a>
     ensures { finding_content result ≡ spec.known_value at end (meant_content known) }
 {

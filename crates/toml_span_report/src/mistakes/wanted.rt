@@ -30,7 +30,7 @@ fn broken<'a>(mistake: Mistake, text: &'a str, from: usize, at: usize) -> Findin
     mended(mistake, mark, span_of(from, at), pieces("\n", "", ""))
 }
 
-/// Returns the finding for a comma after a value, at the end of an assignment.
+/// Returns the finding for the comma at `at`, after a value at the end of an assignment.
 #[tactic(auto, unfolding(crate::specs::found::Wanted::comma))]
 fn comma<'a>(text: &'a str, at: usize) -> Finding<'a>
     ensures { finding_content result ≡ spec.comma text.now at }
@@ -65,7 +65,8 @@ fn header_value<'a>(text: &'a str, line: usize, at: usize) -> Finding<'a>
     replaced(VALUE_OF_HEADER, line, last, code)
 }
 
-/// Recognizes the mistake in the token `found`, which follows a header on its line. The header begins at `line`.
+/// Recognizes the mistake in the token `found` at `at`, which follows a header on its line. The header begins at
+/// `line`.
 #[tactic(auto, unfolding(crate::specs::found::Wanted::after_header))]
 fn after_header<'a>(found: &str, text: &'a str, line: usize, at: usize) -> Option<Finding<'a>>
     ensures { option_map finding_content result ≡ spec.after_header found.now text.now line at }
@@ -80,7 +81,7 @@ fn after_header<'a>(found: &str, text: &'a str, line: usize, at: usize) -> Optio
     }
 }
 
-/// Returns whether the word is `AM`, `PM` or the like, which other notations write after a time.
+/// Returns whether the word is `AM`, `PM`, `am` or `pm`, which other notations write after a time.
 fn is_half_day(word: &str) -> bool
     ensures { result ≡ spec.is_half_day word.now }
 {
@@ -179,7 +180,7 @@ fn word_after<'a>(text: &'a str, at: usize) -> Finding<'a>
     marked(AFTER_VALUE, at, end)
 }
 
-/// Recognizes the mistake in the token `found`, which follows a value on its line.
+/// Recognizes the mistake in the token `found` at `at`, which follows a value on its line.
 #[tactic(auto, unfolding(crate::specs::found::Wanted::after_value))]
 fn after_value<'a>(found: &str, text: &'a str, at: usize) -> Option<Finding<'a>>
     ensures { option_map finding_content result ≡ spec.after_value found.now text.now at }
@@ -197,7 +198,7 @@ fn after_value<'a>(found: &str, text: &'a str, at: usize) -> Option<Finding<'a>>
     }
 }
 
-/// Recognizes the mistake in the token `found`, where a line should end.
+/// Recognizes the mistake in the token `found` at `at`, where a line should end.
 #[tactic(auto, unfolding(crate::specs::found::Wanted::no_newline))]
 fn no_newline<'a>(found: &str, text: &'a str, at: usize) -> Option<Finding<'a>>
     ensures { option_map finding_content result ≡ spec.no_newline found.now text.now at }
@@ -210,7 +211,8 @@ fn no_newline<'a>(found: &str, text: &'a str, at: usize) -> Option<Finding<'a>>
     }
 }
 
-/// Recognizes the mistake in a token other than the expected one or, in a typed read, in a value of another kind.
+/// Recognizes the mistake in a token, at `span`, other than the expected one or, in a typed read, in a value of another
+/// kind. `expected` and `found` are those of the error `Wanted`.
 #[tactic(auto, unfolding(crate::specs::found::Wanted::wanted))]
 pub(crate) fn wanted<'a>(
     expected: &str,
@@ -232,7 +234,8 @@ pub(crate) fn wanted<'a>(
     }
 }
 
-/// Recognizes a value that a typed read expects to be of another kind, if that is easily repaired.
+/// Recognizes a value, at `span`, that a typed read expects to be of another kind, if that is easily repaired.
+/// `expected` and `found` are those of the error `Wanted`.
 #[tactic(auto, unfolding(crate::specs::found::Wanted::other_kind))]
 fn other_kind<'a>(expected: &str, found: &str, text: &'a str, span: Span) -> Option<Finding<'a>>
     ensures { option_map finding_content result ≡ spec.other_kind expected.now found.now text.now span }

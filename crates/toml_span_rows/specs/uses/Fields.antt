@@ -1,4 +1,4 @@
--- What a function reads from a field of a document, and the error that it returns.
+-- The value that `port_of` reads from a field of a document, and the error that it returns.
 use Rattle.std.specs.Prelude.{◌≡◌, ◌^◌, ◌⊎◌, ⊤, ℕ, List, [], ◌∷◌, length, Option, Some, None, Result, Ok, Err, codes}
 use Rattle.toml_span_lex.specs.declared.span.Span.{Span}
 use Rattle.toml_span_lex.specs.declared.stop.Stop.{Stop}
@@ -19,7 +19,7 @@ inner_with (shape_scalar s) = scalar s
 inner_with shape_array = array no_items
 inner_with shape_table = table no_members
 
--- a value at the place; an array or a table is empty
+-- a node with the shape and the span of a place; an array or a table has no elements or entries
 abbrev pub face : Place → Node
 face x = node (inner_with x.shape) x.span
 
@@ -31,7 +31,7 @@ read_or otherwise read (Some x) = read (face x)
 abbrev pub lacks : List ℕ → Span → ErrorContent
 lacks name span = record { kind = missing_field name; span = span; line_info = None }
 
--- the value read at a key of the root, which has this span; `MissingField` if the key is absent
+-- the value read at the key `name` of the root, whose span is `span`; `MissingField` if the key is absent
 abbrev pub required_field : {T : Type 0} → (Node → Result T Errors) → List ℕ → Span → (Path → Option Place)
     → Result T Errors
 required_field read name span places = read_or (Err (one (lacks name span))) read (places (key name ∷ []))

@@ -1,4 +1,4 @@
-//! Types that together have each attribute and are read in each way.
+//! Types that together use each attribute and each way to read a value.
 use serde::{Deserialize, Deserializer, Format};
 use std::alloc::Global;
 
@@ -70,7 +70,7 @@ mod spelled {
     }
 }
 
-/// Reads a percentage.
+/// Reads a percentage. Fails if the value is not an integer from 0 to 100.
 fn percent<F: Format>(_alloc: Global, from: &mut Deserializer<'_, '_, F>) -> Result<u64, F::Error> {
     let share = from.u64()?;
     if share > 100 {
@@ -95,7 +95,7 @@ pub enum Kind<'a> {
     Unknown,
 }
 
-/// Fields with attributes that no other type in this file uses. A missing field has its default value.
+/// Fields with attributes that no other type in this file has. A missing field has its default value.
 #[derive(Debug, Drop, Default, Deserialize)]
 #[serde(default, rename_all = "kebab-case")]
 pub struct Attributes<'a> {

@@ -5,7 +5,8 @@ use std::alloc::Global;
 use toml_span::parse;
 use toml_span::value::{Value, nodes};
 
-/// Prints the lines of a piece's value. Blanks are put before the piece so that its spans are those in the document.
+/// Parses `piece`, which begins at the offset `start` of the document, and prints the lines of its value. If `start` is
+/// at least 3, blanks before the piece make the spans the same as in the document.
 fn push_reread(alloc: Global, piece: &str, start: usize, out: &mut Out) {
     let width = start.saturating_sub(3);
     let Some(text) = out.kept(format!(in alloc; "x ={:1$}{piece}", "", width)) else {
@@ -22,7 +23,7 @@ fn push_reread(alloc: Global, piece: &str, start: usize, out: &mut Out) {
     }
 }
 
-/// Returns whether the piece is parsed as this value.
+/// Returns whether `piece`, parsed by `push_reread`, has the same lines as `value`.
 fn is_read_again(alloc: Global, piece: &str, value: &Value<'_>, out: &mut Out) -> bool {
     let mut lines = Out::new(alloc);
     push_lines(alloc, value, &mut lines);

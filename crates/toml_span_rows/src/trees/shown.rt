@@ -5,8 +5,8 @@ use std::borrow::CowStr;
 use toml_span::Error;
 use toml_span::value::{Step, Value, ValueInner, nodes};
 
-/// Prints a path, which is empty at the root. In a name, a slash, a percent sign, and each byte that is not printable
-/// are written as `%` and two digits.
+/// Prints a path, which is empty at the root. In a name, a space, a slash, a percent sign, and each byte that is not
+/// printable ASCII are written as `%` and two hexadecimal digits.
 fn push_path(steps: &[Step<'_>], out: &mut Out) {
     for step in steps {
         out.push_str("/");
@@ -93,7 +93,7 @@ pub fn push_lines(alloc: Global, value: &Value<'_>, out: &mut Out) {
     }
 }
 
-/// Prints the value that a pointer names.
+/// Prints the kind, the span and the content of a value, or `none`.
 pub fn push_named(value: Option<&Value<'_>>, out: &mut Out) {
     match value {
         Some(value) => {

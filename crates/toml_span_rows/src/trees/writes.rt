@@ -7,8 +7,8 @@
 //! | `look=POINTER` | `look_up` |
 //! | `at=POINTER` | `at` with the `Pointer` of this text |
 //! | `set=POINTER=INTEGER` | `set` on what `pointer_mut` returns |
-//! | `take=POINTER` | `take` on it |
-//! | `take_string=POINTER`, `take_string=POINTER=MESSAGE` | `take_string` on it |
+//! | `take=POINTER` | `take` on what `pointer_mut` returns |
+//! | `take_string=POINTER`, `take_string=POINTER=MESSAGE` | `take_string` on what `pointer_mut` returns |
 //! | `replace=POINTER=INTEGER` | `replace` by `Value::new` |
 //! | `taken=POINTER` | `is_taken` on what `pointer` returns |
 //! | `has_key=NAME`, `has_keys`, `whole` | `has_key`, `has_keys` and `is_whole` on the root |
@@ -27,7 +27,8 @@ struct Operation<'w> {
     rest: Option<&'w str>,
 }
 
-/// Takes the content of a value, unless it has been taken. Returns whether there is such a call.
+/// Takes the content of a value, unless it has been taken, and prints the result. Returns false for an unknown
+/// operation.
 fn push_taken(value: &mut Value<'_>, operation: Operation<'_>, out: &mut Out) -> bool {
     if value.is_taken() {
         out.push_str("taken");
@@ -47,7 +48,8 @@ fn push_taken(value: &mut Value<'_>, operation: Operation<'_>, out: &mut Out) ->
     operation.name == "take_string"
 }
 
-/// Makes a call on what `pointer_mut` returns, and prints the result. Returns whether there is such a call.
+/// Makes a call on the value that `pointer_mut` returns, and prints the result, or `none` if this is `None`. Returns
+/// false for an unknown operation.
 fn push_lent<'t>(
     root: &mut Value<'t>,
     operation: Operation<'t>,
@@ -75,7 +77,7 @@ fn push_at(alloc: Global, root: &Value<'_>, text: &str, out: &mut Out) {
     }
 }
 
-/// Prints the result of a call. Returns whether there is such a call.
+/// Makes a call, and prints the result. Returns false for an unknown operation.
 fn push_operation<'t>(
     alloc: Global,
     root: &mut Value<'t>,
@@ -104,7 +106,8 @@ fn push_operation<'t>(
     true
 }
 
-/// Prints the results of the calls, and then the lines of the tree. Returns whether there are such calls.
+/// Makes the calls that the words name, and prints their results and then the lines of the tree. Stops and returns
+/// false at a word that names no operation.
 pub fn push_writes<'t>(
     alloc: Global,
     words: &'t [String],

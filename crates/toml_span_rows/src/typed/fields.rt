@@ -15,7 +15,7 @@ use toml_span::de_helpers::{TableHelper, Unfinished};
 use toml_span::value::{Key, Value};
 use toml_span::{Deserialize, Error, Spanned, Stop};
 
-/// Prints the answer to `fields`. Returns whether there are such calls.
+/// Prints the answer to `fields`. Returns false if no helper can be made for the root, or at an unknown call.
 pub fn push_fields<'de>(
     alloc: Global,
     calls: &'de [String],
@@ -31,8 +31,8 @@ pub fn push_fields<'de>(
     push_calls(&mut helper, calls, out) && push_last(helper, last.as_str(), root, out)
 }
 
-/// Makes a helper for the root of a document. Returns `None` if something has been taken from the root, or if it is not
-/// a table.
+/// Makes a helper for the root of a document. Returns `None` if something has been taken from the root, or if the root
+/// is not a table.
 fn opened<'de>(alloc: Global, root: &mut Value<'de>) -> Option<TableHelper<'de>>
     ensures { IfSome result (λ helper. AllWhole (state_of helper)) }
 {
@@ -45,7 +45,7 @@ fn opened<'de>(alloc: Global, root: &mut Value<'de>) -> Option<TableHelper<'de>>
     }
 }
 
-/// Makes all calls except the last. Returns whether there are such calls.
+/// Makes these calls on a helper, and prints each call with its result. Returns false at an unknown call.
 fn push_calls<'de>(helper: &mut TableHelper<'de>, calls: &'de [String], out: &mut Out) -> bool
     requires { AllWhole (state_of helper.old) }
 {
@@ -60,7 +60,7 @@ fn push_calls<'de>(helper: &mut TableHelper<'de>, calls: &'de [String], out: &mu
     true
 }
 
-/// Makes one call, and prints the result. Returns whether there is such a call.
+/// Makes one call, and prints the result. Returns false for an unknown call.
 fn push_call<'de>(helper: &mut TableHelper<'de>, call: &'de str, out: &mut Out) -> bool
     requires { AllWhole (state_of helper.old) }
     ensures { AllWhole (state_of helper.new) }
@@ -89,7 +89,7 @@ fn push_entry(entry: Result<Option<(Key<'_>, Value<'_>)>, AllocError>, out: &mut
     }
 }
 
-/// Reads a field as a type, and prints the result. Returns whether there are such a call and such a type.
+/// Reads a field as a type, and prints the result. Returns false for an unknown call or type.
 fn push_field<'de>(
     helper: &mut TableHelper<'de>,
     how: &str,
@@ -112,7 +112,7 @@ fn push_field<'de>(
     }
 }
 
-/// Reads a field as `T`, and prints the result. Returns whether there is such a call.
+/// Reads a field as `T`, and prints the result. Returns false for an unknown call.
 #[tactic(auto, using(toml_span_typed::proofs::Whole::found_whole))]
 fn push_as<'de, T: Deserialize<'de> + Debug>(
     helper: &mut TableHelper<'de>,
@@ -133,7 +133,7 @@ fn push_as<'de, T: Deserialize<'de> + Debug>(
     true
 }
 
-/// Prints what was read with its span.
+/// Prints the value that was read and its span, or why the read failed.
 fn push_spanned<T: Debug + Drop>(read: Result<Spanned<T>, Stop<Error<'_>>>, out: &mut Out) {
     match read {
         Ok(found) => {
@@ -144,8 +144,8 @@ fn push_spanned<T: Debug + Drop>(read: Result<Spanned<T>, Stop<Error<'_>>>, out:
     }
 }
 
-/// Makes the last call, and prints the errors that it returns. If an allocation fails, makes it again with the helper
-/// that is returned.
+/// Makes the last call, and prints the errors that it returns. If an allocation fails, calls `finalize` on the helper
+/// that is returned. Returns false for an unknown call.
 fn push_last<'de>(
     helper: TableHelper<'de>,
     call: &str,
@@ -163,7 +163,7 @@ fn push_last<'de>(
     true
 }
 
-/// Prints the errors of the last call. Returns the helper if an allocation failed.
+/// Prints the errors of the last call. Returns the helper if an allocation failed, otherwise `None`.
 fn push_ended<'de>(ended: Result<(), Unfinished<'de>>, out: &mut Out) -> Option<TableHelper<'de>> {
     match ended {
         Ok(()) => out.push_str("no error"),

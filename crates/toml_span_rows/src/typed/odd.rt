@@ -1,18 +1,18 @@
-//! Types that state nothing about their reads.
+//! Types whose reads have no contract.
 use std::alloc::Global;
 use std::borrow::CowStr;
 use std::str::FromStr;
 use toml_span::de_helpers::TableHelper;
 use toml_span::{DeserError, Deserialize, Error, ErrorKind, Span, Stop, Value};
 
-/// Returns one error with a message of its own.
+/// Returns a `DeserError` with one error, which has this message.
 fn custom<'de>(message: &'de str, span: Span) -> DeserError<'de> {
     let kind = ErrorKind::Custom(CowStr::Borrowed(message));
     Error::from((kind, span)).into()
 }
 
-/// Succeeds for a boolean, and leaves it as it is. For a table, reads one entry, puts the others back, and fails. For
-/// any other value, takes it and fails with two errors.
+/// A type whose read succeeds for a boolean, which stays as it is. For a table, the read takes one entry, puts the
+/// others back, and fails. It takes any other value, and fails with two errors.
 #[derive(Debug, Drop)]
 pub struct Odd;
 
@@ -38,7 +38,7 @@ impl<'de> Deserialize<'de> for Odd {
     }
 }
 
-/// Refuses every string.
+/// A type that can't be parsed from any string.
 #[derive(Debug, Drop)]
 pub struct Never;
 

@@ -12,7 +12,8 @@ use toml_span_load::{LoadError, TextFile};
 #[derive(Debug, Drop)]
 pub struct Name(String);
 
-/// Returns a name with this text. Fails with a message if the text is empty, or if an allocation fails.
+/// Returns a name with this text. Fails with a message if the text is empty, and with `Stop::Memory` if an allocation
+/// fails.
 fn name_of(alloc: Global, text: &str) -> Result<Name, Stop<&'static str>> {
     if text.is_empty() {
         return Err(Stop::Fault("a name must not be empty"));
@@ -26,7 +27,7 @@ impl<'de> Deserialize<'de> for Name {
     }
 }
 
-/// A listener: its name and its load.
+/// A listener: its host, its port, its load and its weight.
 #[derive(Debug, Drop)]
 pub struct Listener {
     pub host: Name,
@@ -49,7 +50,8 @@ impl<'de> Deserialize<'de> for Listener {
     }
 }
 
-/// Reads the listener from a file.
+/// Reads the listener from a file. Fails if the file can't be read, if its content does not fit, or if an allocation
+/// fails.
 fn load(rt: &HostRuntime, name: &str) -> Result<Listener, LoadError> {
     let file = TextFile::open(rt, name)?;
     file.read::<Listener>(rt.alloc())

@@ -11,8 +11,8 @@ use std::fmt::Debug;
 use toml_span::value::{DateText, FloatText, Value};
 use toml_span::{DeserError, Deserialize, Parsed, Spanned, Stop};
 
-/// Reads a value as a type, if nothing has been taken from it, and prints the result. If an allocation fails, reads it
-/// again under the same condition. Returns whether nothing had been taken.
+/// Reads a value as a type, if nothing has been taken from it, and prints the result. If an allocation fails and
+/// nothing has been taken, reads the value again. Returns false if something had been taken before.
 fn push_as<'de, T: Deserialize<'de> + Debug>(
     alloc: Global,
     value: &mut Value<'de>,
@@ -31,8 +31,8 @@ fn push_as<'de, T: Deserialize<'de> + Debug>(
     true
 }
 
-/// Reads a value as the type with this name, and prints the result. Returns whether there is such a type, and nothing
-/// had been taken from the value.
+/// Reads a value as the type with this name, and prints the result. Returns false if there is no such type, or if
+/// something had been taken from the value.
 pub fn push_read<'de>(alloc: Global, name: &str, value: &mut Value<'de>, out: &mut Out) -> bool {
     match name {
         "u8" => push_as::<u8>(alloc, value, out),
@@ -56,7 +56,8 @@ pub fn push_read<'de>(alloc: Global, name: &str, value: &mut Value<'de>, out: &m
     }
 }
 
-/// Does the same as `push_read`, for the types that this crate defines.
+/// Reads a value as the type with this name, which this crate defines, and prints the result. Returns false if this
+/// crate has no such type, or if something had been taken from the value.
 fn push_own<'de>(alloc: Global, name: &str, value: &mut Value<'de>, out: &mut Out) -> bool {
     match name {
         "Vec<Odd>" => push_as::<Vec<Odd>>(alloc, value, out),
@@ -72,7 +73,8 @@ fn push_own<'de>(alloc: Global, name: &str, value: &mut Value<'de>, out: &mut Ou
     }
 }
 
-/// Reads a value as a `CowStr`, if nothing has been taken from it. Prints the string, and whether it is owned.
+/// Reads a value as a `CowStr`, if nothing has been taken from it. Prints the string, and whether it is owned. Returns
+/// false if something had been taken.
 fn push_cow(alloc: Global, value: &mut Value<'_>, out: &mut Out) -> bool {
     if !value.is_whole() {
         return false;
@@ -88,7 +90,8 @@ fn push_cow(alloc: Global, value: &mut Value<'_>, out: &mut Out) -> bool {
     true
 }
 
-/// Returns the errors of a read as `T`, if there are any. Does not read a value from which something has been taken.
+/// Reads a value as `T`, and returns the errors. Returns `None` if there are no errors, or without a read if something
+/// has been taken from the value.
 fn errors_as<'de, T: Deserialize<'de>>(
     alloc: Global,
     value: &mut Value<'de>,
@@ -103,7 +106,7 @@ fn errors_as<'de, T: Deserialize<'de>>(
     }
 }
 
-/// Returns the errors of a read of the value at `place` as the type with this name. Returns `None` if there is no such
+/// Reads the value at `place` as the type with this name, and returns the errors. Returns `None` if there is no such
 /// type or place, or if there are no errors.
 pub fn errors_at<'de>(
     alloc: Global,

@@ -70,7 +70,7 @@ impl<'de> Deserialize<'de> for Holders {
     }
 }
 
-/// Two bounds. The lower one comes first.
+/// Two bounds, the lower first.
 #[derive(Debug, Drop)]
 pub struct Range {
     pub low: u8,
@@ -89,7 +89,7 @@ impl<'de> Deserialize<'de> for Range {
     }
 }
 
-/// Returns the range of two bounds, or the error that they are not in order.
+/// Returns the range of two bounds, which are 0 and 255 if they are missing. Fails if they are not in order.
 fn range_of<'s>(
     low: Option<u8>,
     high: Option<u8>,

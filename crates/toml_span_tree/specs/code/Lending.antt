@@ -66,12 +66,14 @@ lends_named s path r = LendsBy value_row value_row s r (λ n w. view n ≡ put_n
 abbrev pub lends_at : MutBor Value → List ℕ → MutBor Value → Fml
 lends_at s p r = LendsBy value_row value_row s r (λ n w. view n ≡ put_pointed p (view w) (view s.now))
 
--- The content of the value has not been taken; and it is an array; and it is a table.
+-- The content of the value has not been taken.
 abbrev pub IsHeld : Value → Type 0
 IsHeld v = (i : ValueInner) × (v.value ≡ Some i)
 
+-- The content is an array.
 abbrev pub IsArray : ValueInner → Type 0
 IsArray i = (v : Vec Value Global) × (i ≡ Array v)
 
+-- The content is a table.
 abbrev pub IsTable : ValueInner → Type 0
 IsTable i = (m : BTreeMap Key Value) × (i ≡ Table m)

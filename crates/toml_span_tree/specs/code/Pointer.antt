@@ -7,7 +7,7 @@ use Rattle.toml_span_tree.specs.Value.{view, inner_of}
 use Rattle.toml_span_tree.specs.Path.{Step, at_step, node_at, set_element, set_at_step}
 use Rattle.toml_span_tree.specs.Pointer.{step_named, if_not_taken, path_named, segments, put_where_named}
 
--- r is the position, or None if there is none that fits into 64 bits.
+-- The first is the second, or None if the second is None or does not fit into 64 bits.
 abbrev pub PositionIs : Option ℕ → Option ℕ → Type 0
 PositionIs (Some i) o = o ≡ Some i
 PositionIs None None = ⊤
@@ -25,7 +25,7 @@ untaken_entry segment n = option_and_then if_not_taken (entry segment (inner_of 
 abbrev pub value_named : List (List ℕ) → Node → Option Node
 value_named names n = option_and_then (λ path. node_at path n) (path_named names n)
 
--- n with w at the place to which the segments lead
+-- n with w where the segments lead; n itself if they lead nowhere
 abbrev pub put_named : List (List ℕ) → Node → Node → Node
 put_named names w n = put_where_named (path_named names n) w n
 
@@ -50,8 +50,9 @@ pub record SplitAtSlash (path segment : List ℕ) (rest : Option (List ℕ)) : T
   pub parts : segments path ≡ segment ∷ segments_after rest
   pub shorter : IfSome rest (λ more. length more < length path)
 
--- The segments lead to a value below o, which was replaced: the old one is returned, and o is now `put_named` with the
--- new one. Or they lead nowhere: the new value is returned, and o is unchanged.
+-- Either the segments lead from o to a value, which was replaced: the result is the old value, and `changed` holds for
+-- o with the new value in its place. Or they lead nowhere: the result is `Err` with the new value, and `same` holds,
+-- which says that nothing changed.
 abbrev pub Exchanged : Result Value Value → Value → List (List ℕ) → Option Node → (Node → Type 0) → Type 0 → Type 0
 Exchanged (Ok old) new names o changed same =
     (n : Node) × (o ≡ Some n) × (value_named names n ≡ Some (view old)) × changed (put_named names (view new) n)

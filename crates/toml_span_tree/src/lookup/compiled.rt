@@ -16,7 +16,7 @@ use toml_span_lex::span::Span;
 // Toolchain: if a `Pointer` borrowed its text, which would be a second lifetime, the check would refuse `at` ("what is
 // returned holds or points to a reference at another lifetime"). So it owns its keys.
 /// A pointer that is split into segments once, for many look-ups. It owns the segments, so it can be made before the
-/// document is parsed. It works for all trees of documents with this lifetime.
+/// document is parsed. It can be looked up in every tree that borrows its strings for the lifetime `'de`.
 #[derive(Debug, Drop)]
 pub struct Pointer<'de> {
     names: Vec<Key<'de>>,
@@ -44,8 +44,8 @@ impl<'de> Pointer<'de> {
     }
 }
 
-/// Appends each segment of the text as a key that owns its name. `path` is the text after the first `/`. Fails if an
-/// allocation fails.
+/// Appends each segment of `path`, a pointer without its first `/`, as a key that owns its name. Fails if an allocation
+/// fails.
 fn push_segments<'de>(
     alloc: Global,
     path: &str,
@@ -72,7 +72,7 @@ fn push_name<'de>(alloc: Global, name: &str, names: &mut Vec<Key<'de>>) -> Resul
     Ok(())
 }
 
-/// Returns the value of the entry with this name, if the table has one.
+/// Returns the value of the entry with this name, or `None` if the table lacks it.
 fn table_at<'v, 'de>(table: &'v Table<'de>, name: &Key<'de>) -> Option<&'v Value<'de>>
     ensures { option_map (λ v. view v.now) result ≡ get_member (name_in name.now) (members_view table.now.entries) }
 {
@@ -81,7 +81,7 @@ fn table_at<'v, 'de>(table: &'v Table<'de>, name: &Key<'de>) -> Option<&'v Value
 
 impl<'de> ValueInner<'de> {
     /// Returns the value that a name selects: an entry of a table, or the element of an array if the name is a decimal
-    /// position.
+    /// position. Returns `None` if it selects nothing.
     fn entry_at(&self, name: &Key<'de>) -> Option<&Value<'de>>
         ensures { option_map (λ v. view v.now) result ≡ entry (name_in name.now) (inner_view self.now) }
     {
@@ -94,7 +94,8 @@ impl<'de> ValueInner<'de> {
 }
 
 impl<'de> Value<'de> {
-    /// Returns the value that a name selects in this value, unless its content has been taken.
+    /// Returns the value that a name selects in this value. Returns `None` if it selects nothing, or if the content of
+    /// this value or of the selected one has been taken.
     fn entry_at(&self, name: &Key<'de>) -> Option<&Self>
         ensures { option_map (λ v. view v.now) result ≡ untaken_entry (name_in name.now) (view self.now) }
     {
@@ -104,7 +105,8 @@ impl<'de> Value<'de> {
         }
     }
 
-    /// Returns the value that the names select, one step for each name, beginning at this value.
+    /// Follows the names from this value, one step for each name. Returns the value to which they lead, or `None` if
+    /// they lead nowhere, or through or to a value whose content has been taken. Without names, returns this value.
     fn found_at(&self, names: &[Key<'de>]) -> Option<&Self>
         ensures { option_map (λ v. view v.now) result ≡ value_named (map name_in names.now) (view self.now) }
     {
@@ -114,7 +116,8 @@ impl<'de> Value<'de> {
         }
     }
 
-    /// Returns the value that the pointer names, as `pointer` does with the same text.
+    /// Returns the value that the pointer names, or `None` if it names no value: the same as the method `pointer` with
+    /// the text of the pointer.
     ///
     /// In each table on the way, the look-up takes logarithmic time. Allocates nothing.
     pub fn at(&self, pointer: &Pointer<'de>) -> Option<&Self>

@@ -13,8 +13,9 @@ use std::str::FromStr;
 use toml_span_lex::stop::Stop;
 use toml_span_tree::Value;
 
-/// Reads a value's string with `FromStr`, as `parse` does, but returns the error in a `DeserError`, as `deserialize`
-/// does.
+/// Reads a value's string with `FromStr`, like `parse`: takes the value in every case, and fails with `Wanted` or
+/// `Custom` at its span, or with `Stop::Memory`. The error is in a `DeserError`, so that `deserialize` can pass it on
+/// with `?`.
 pub fn parsed<'de, T: FromStr<Err = E>, E: Display + Drop>(
     alloc: Global,
     value: &mut Value<'de>,
@@ -35,8 +36,9 @@ pub fn parsed<'de, T: FromStr<Err = E>, E: Display + Drop>(
 ///
 /// Takes the value in every case. Callers must prove that it has not been taken already (`is_taken`). Fails with
 /// `Wanted`, which expects "a string", if the value is of another kind; the function is not called then. If the
-/// function fails with `Stop::Fault`, fails with `Custom` as `parsed` does. Fails with `Stop::Memory` if the function
-/// does, or if an allocation fails.
+/// function fails with `Stop::Fault`, the error is `Custom`: `failed to parse string: ` and the text of the function's
+/// error. Both errors are at the value's span. Fails with `Stop::Memory` if the function does, or if an allocation
+/// fails.
 pub fn parse_with<'de, T: Drop, E: Display + Drop, F: FnOnce(&str) -> Result<T, Stop<E>> + Drop>(
     alloc: Global,
     value: &mut Value<'de>,

@@ -27,7 +27,8 @@ use toml_span_tree::{Error, ErrorKind, Table, Value, ValueInner};
 /// Reads the entries of a table one by one.
 ///
 /// It keeps the errors until the end, and it records the names that it was asked for: the error `UnexpectedKeys` lists
-/// these names as the expected ones. A name is recorded even if the table has no such key.
+/// these names as the expected ones. A name is recorded even if the table has no such key. For methods that read
+/// values, callers must prove that nothing has been taken from the entries that have not been read (`is_whole`).
 #[derive(Drop)]
 pub struct TableHelper<'de> {
     /// The entries that have not been read.
@@ -44,7 +45,7 @@ pub struct TableHelper<'de> {
 pub enum Unfinished<'de> {
     /// All errors that were kept.
     Faults(DeserError<'de>),
-    /// An allocation failed. This is the helper, unchanged.
+    /// An allocation failed. The helper is unchanged.
     Memory(TableHelper<'de>),
 }
 
@@ -107,8 +108,8 @@ impl<'de> TableHelper<'de> {
         self.table.contains_key(&Key::named(name))
     }
 
-    /// Records the name, and moves its entry out of the table, if there is one. If an allocation fails, nothing has
-    /// changed.
+    /// Records the name, and moves its entry out of the table. Returns the entry, or `None` if the table has no entry
+    /// of this name. If an allocation fails, nothing has changed.
     #[tactic(auto, using(crate::proofs::Whole::without_whole))]
     pub fn take(&mut self, name: &'de str) -> Result<Option<(Key<'de>, Value<'de>)>, AllocError>
         ensures answer { Takes name.now (state_of self.old) result (state_of self.new) }
@@ -191,9 +192,11 @@ impl<'de> TableHelper<'de> {
     /// Ends the read. Returns `Ok` if no error was kept, otherwise fails with all errors in order.
     ///
     /// Given the original value, puts the entries that remain back into it, even if there are errors. The span of the
-    /// value stays the same, and nothing is allocated. Given `None`, also fails if entries remain: the last error is
-    /// then `UnexpectedKeys` at the table's span. It has the keys that remain, in the order of their names, and the
-    /// recorded names, in the order of their requests. If an allocation fails, returns the helper unchanged.
+    /// value stays the same, and nothing is allocated.
+    ///
+    /// Given `None`, also fails if entries remain: the last error is then `UnexpectedKeys` at the table's span. It has
+    /// the keys that remain, in the order of their names, and the recorded names, in the order in which they were asked
+    /// for. If an allocation fails, returns the helper unchanged, in `Unfinished::Memory`.
     pub fn finalize(self, original: Option<&mut Value<'de>>) -> Result<(), Unfinished<'de>>
         ensures answer { Finalizes (state_of self.entry) original.entry result }
         ensures rest { Leaves (HoldsRest self.entry.table) original.entry original.exit }
@@ -220,8 +223,8 @@ impl<'de> TableHelper<'de> {
         finish(errors)
     }
 
-    /// Ends the read, and reports the entries that remain. Fails with all errors, or returns the helper if an
-    /// allocation fails.
+    /// Ends the read, and reports the entries that remain as an error. Fails with all errors, if there are any, or with
+    /// the helper in `Unfinished::Memory` if an allocation fails.
     fn refuse_rest(mut self) -> Result<(), Unfinished<'de>>
         ensures { Refuses (state_of self.entry) result }
     {
@@ -253,8 +256,8 @@ impl<'de> TableHelper<'de> {
         Ok(Error::from((ErrorKind::UnexpectedKeys { keys, expected }, self.span)))
     }
 
-    /// Reads a value. If that fails, keeps all its errors, and returns a copy of the last one. If an allocation fails,
-    /// keeps none.
+    /// Reads a value. If the read fails, keeps all errors of the read, and returns a copy of the last error. If an
+    /// allocation fails, keeps no error.
     fn read_value<T: Deserialize<'de>>(
         &mut self,
         mut value: Value<'de>,
@@ -280,7 +283,7 @@ impl<'de> TableHelper<'de> {
         Ok(())
     }
 
-    /// Keeps all errors of a read, and returns a copy of the last one. If an allocation fails, keeps none.
+    /// Keeps all errors of a read, and returns a copy of the last error. If an allocation fails, keeps no error.
     fn keep_all(&mut self, faults: DeserError<'de>) -> Result<Error<'de>, AllocError>
         ensures ok { IfOk result (λ e. (content_of e ≡ faults.entry.last)
             × (state_of self.new ≡ keeping (all faults.entry) (state_of self.old))) }
@@ -303,7 +306,7 @@ impl<'de> TableHelper<'de> {
     }
 }
 
-/// Moves the entry with this name out of the table, if there is one.
+/// Moves the entry with this name out of the table, and returns it. Returns `None` if the table has no such entry.
 fn remove<'de>(table: &mut Table<'de>, name: &'de str) -> Option<(Key<'de>, Value<'de>)>
     ensures rest { members_view table.new.entries ≡ without name.now (members_view table.old.entries) }
     ensures entry { option_map (λ e. (Some e.0.span, view e.1)) result

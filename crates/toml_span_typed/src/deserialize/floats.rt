@@ -37,7 +37,7 @@ fn single_of(text: &str) -> Option<f32>
     }
 }
 
-/// Returns the number. If it is `None`, fails with `OutOfRange` at `span` for the type `name`.
+/// Returns the number. If it is `None`, fails with `OutOfRange` at `span`, for the number type called `name`.
 fn or_out_of_range<'s, T: Drop>(
     number: Option<T>,
     name: &'s str,
@@ -52,7 +52,7 @@ fn or_out_of_range<'s, T: Drop>(
 }
 
 /// Reads a float as the nearest `f64`. If that is not finite, as for `inf`, `nan` and `1e400`, the error is
-/// `OutOfRange`. `FloatText` reads all floats.
+/// `OutOfRange`. To accept such floats too, read a `FloatText`.
 impl<'de> Deserialize<'de> for f64 {
     ghost reads = { Gives (read_number (codes "f64") binary64) };
 

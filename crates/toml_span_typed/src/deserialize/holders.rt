@@ -1,4 +1,4 @@
-//! Reads of values into a box or an `Option`, and of strings with `FromStr`.
+//! Reads values into a `Box` or an `Option`, and strings with `FromStr`.
 ghost use Rattle.std.specs.Prelude.{◌⊎◌};
 ghost use Rattle.toml_span_typed.specs.Fields.{AsParsed, AsRead, AsSome};
 ghost use Rattle.toml_span_typed.specs.Reads.{Taken, result_map};
@@ -29,8 +29,8 @@ impl<'de, T: Deserialize<'de>> Deserialize<'de> for Box<T> {
     }
 }
 
-/// Reads the value as a `T`, and returns `Some`. For an absent key this is not called: `read_table!` then returns
-/// `None` for a field of type `Option<T>`.
+/// Reads the value as a `T`, and returns `Some`. This implementation is not used for an absent key: `read_table!` then
+/// sets a field of type `Option<T>` to `None`.
 impl<'de, T: Deserialize<'de>> Deserialize<'de> for Option<T> {
     ghost reads = { AsSome T.reads };
 

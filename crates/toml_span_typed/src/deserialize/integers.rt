@@ -14,15 +14,15 @@ use toml_span_lex::span::Span;
 use toml_span_lex::stop::Stop;
 use toml_span_tree::{Error, ErrorKind, Value, ValueInner};
 
-/// Returns the error `OutOfRange` at `span` for the type `name`.
+/// Returns the error `OutOfRange` at `span`, for the number type called `name`.
 pub(crate) fn out_of_range<'s>(name: &'s str, span: Span) -> DeserError<'s>
     ensures { result ≡ one (beyond_range name.now span) }
 {
     Error::from((ErrorKind::OutOfRange(name), span)).into()
 }
 
-/// Reads an integer as a `T`, the type `name`. Takes the value in every case. Fails with `Wanted`, which expects
-/// `name`, if the value is of another kind, and with `OutOfRange` if the type can't represent the integer.
+/// Reads an integer as a `T`, which errors call `name`. Takes the value in every case. Fails with `Wanted`, which
+/// expects `name`, if the value is of another kind, and with `OutOfRange` if a `T` can't represent the integer.
 fn narrowed<'s, T: TryFrom<i64, Error = TryFromIntError> + Drop>(
     name: &'s str,
     value: &mut Value,

@@ -33,7 +33,8 @@ impl<'de, T: Deserialize<'de>> Deserialize<'de> for BTreeMap<String, T> {
     }
 }
 
-/// Reads the same entries as a `BTreeMap` does. No contract says in which order the map iterates over them.
+/// Reads the same entries as the implementation for `BTreeMap`. No contract says in which order the map iterates over
+/// them.
 impl<'de, T: Deserialize<'de>> Deserialize<'de> for HashMap<String, T> {
     ghost reads = { hashed_reads T.reads };
 

@@ -49,8 +49,8 @@ impl<
     }
 }
 
-/// Returns the error of a value that is an integer outside the range, or `None` for any other value. Fails if an
-/// allocation fails.
+/// Returns the error of a value that is an integer outside the range `low..=high`, or `None` for any other value. Fails
+/// if an allocation fails.
 fn range_fault<'s>(
     alloc: Global,
     low: i64,
@@ -67,7 +67,8 @@ fn range_fault<'s>(
     }
 }
 
-/// Returns the error of the integer `found`, which is not in the range. Fails if an allocation fails.
+/// Returns the error of the integer `found`, at `span`, which is not in the range `low..=high`. Fails if an allocation
+/// fails.
 fn out_of_range<'s>(
     alloc: Global,
     low: i64,
@@ -86,7 +87,7 @@ fn out_of_range<'s>(
     Ok(Error::from((kind, span)))
 }
 
-/// Returns the message for the integer `found`, which is not in the range. Fails if an allocation fails.
+/// Returns the message for the integer `found`, which is not in the range `low..=high`. Fails if an allocation fails.
 #[tactic(auto, unfolding(crate::specs::Ranges::range_message))]
 fn range_message(alloc: Global, low: i64, high: i64, found: i64) -> Result<String, AllocError>
     ensures { IfOk result (λ message. string_bytes message ≡ spec.range_message low high found) }

@@ -44,8 +44,8 @@ impl<'de, A: Deserialize<'de>, B: Deserialize<'de>> Deserialize<'de> for (A, B) 
     }
 }
 
-/// Takes the value, and returns its two elements. Fails with `Wanted` if it is not an array, and with the error of
-/// `miscounted` if it does not have two elements.
+/// Takes the value, and returns its two elements. Fails with `Wanted` if the value is not an array, with `Custom` if it
+/// does not have two elements, and with `Stop::Memory` if an allocation fails.
 fn two<'de>(
     alloc: Global,
     value: &mut Value<'de>,

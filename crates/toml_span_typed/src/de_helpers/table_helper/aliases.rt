@@ -16,8 +16,9 @@ use toml_span_lex::span::Span;
 use toml_span_tree::{Error, ErrorKind, Value};
 
 impl<'de> TableHelper<'de> {
-    /// Reads a field as `read` does, under its name or, if that is absent, under an old name. Records both names,
-    /// `name` first.
+    /// Reads a field under its name or, if that is absent, under the name `old`. Records both names, `name` first.
+    /// Returns `None` if neither is present or if the read fails, after keeping the error `MissingField` or the errors
+    /// of the read.
     ///
     /// If both names are present, reads the value of `name`, and keeps the error `DuplicateKey` at the later of the two
     /// keys. If an allocation fails, at most this error is kept, but the names may be recorded and their entries gone.
@@ -35,8 +36,10 @@ impl<'de> TableHelper<'de> {
         self.read_or_miss(name, value)
     }
 
-    /// Reads an optional field under its name or, if that is absent, under an old name. Both names together are an
-    /// error, as for `read_either`; all else is as for `read_optional`.
+    /// Reads an optional field under its name or, if that is absent, under the name `old`. Records both names, `name`
+    /// first. Returns `None` if neither is present. Also returns `None` if the read fails, after keeping its errors. If
+    /// both names are present, reads the value of `name`, and keeps the error `DuplicateKey`, as `read_either` does. If
+    /// an allocation fails, at most this error is kept, but the names may be recorded and their entries gone.
     pub fn read_optional_either<T: Deserialize<'de>>(
         &mut self,
         name: &'de str,
@@ -51,9 +54,9 @@ impl<'de> TableHelper<'de> {
         self.read_if_there(value)
     }
 
-    /// Reads a field as `read_either` does, and warns if the old name is present: appends the warning `Deprecated`, at
-    /// the span of the old key, to `warnings`, even if the read fails. Only `name` is recorded, so the error
-    /// `UnexpectedKeys` does not list the old name as expected.
+    /// Reads a field under its name or, if that is absent, under the deprecated name `old`, as `read_either` does. If
+    /// `old` is present, appends the warning `Deprecated`, at the span of the old key, to `warnings`, even if the read
+    /// fails. Only `name` is recorded, so the error `UnexpectedKeys` does not list the old name as expected.
     ///
     /// If an allocation fails, at most the error `DuplicateKey` is kept, and the warning may have been appended.
     pub fn read_deprecated<T: Deserialize<'de>>(
@@ -74,7 +77,11 @@ impl<'de> TableHelper<'de> {
         self.read_or_miss(name, value)
     }
 
-    /// Reads a field as `read_optional_either` does, and warns as `read_deprecated` does.
+    /// Reads an optional field under its name or, if that is absent, under the deprecated name `old`. Returns `None` if
+    /// neither is present. Also returns `None` if the read fails, after keeping its errors. If `old` is present,
+    /// appends the warning `Deprecated`, at the span of the old key, to `warnings`; if both names are present, also
+    /// keeps the error `DuplicateKey`. Records only `name`. If an allocation fails, at most the error `DuplicateKey` is
+    /// kept, and the warning may have been appended.
     pub fn read_optional_deprecated<T: Deserialize<'de>>(
         &mut self,
         name: &'de str,
@@ -138,8 +145,9 @@ impl<'de> TableHelper<'de> {
         }
     }
 
-    /// Records both names, and moves their entries out. Returns the value of `name` or, if that is absent, of `old`. If
-    /// both are present, keeps the error `DuplicateKey`.
+    /// Records both names, and moves their entries out. Returns the value of `name` or, if that is absent, of `old`,
+    /// and `None` if neither is present. If both are present, keeps the error `DuplicateKey`. Fails if an allocation
+    /// fails.
     fn take_either(
         &mut self,
         name: &'de str,
@@ -160,7 +168,8 @@ impl<'de> TableHelper<'de> {
     }
 
     /// Records `name`, and moves the entries of both names out. Returns the value of `name` or, if that is absent, of
-    /// `old`, and appends a warning if `old` is present. If both are present, keeps the error `DuplicateKey`.
+    /// `old`, and `None` if neither is present. Appends a warning if `old` is present. If both are present, keeps the
+    /// error `DuplicateKey`. If an allocation fails, `warnings` is unchanged.
     fn take_deprecated(
         &mut self,
         name: &'de str,
@@ -186,9 +195,9 @@ impl<'de> TableHelper<'de> {
         Ok(value)
     }
 
-    /// Returns the value of `newer` or, if there is none, the value of `older`. These are the entries of `name` and
-    /// `old`, each with the span of its key. If both are there, keeps the error `DuplicateKey` at the later key. If an
-    /// allocation fails, nothing is kept.
+    /// Returns the value of `newer` or, if that is `None`, the value of `older`, and `None` if both are `None`. These
+    /// are the entries of `name` and `old`, each a value with the span of its key. If both are there, keeps the error
+    /// `DuplicateKey` at the later key. If an allocation fails, nothing is kept.
     fn choose(
         &mut self,
         name: &str,
@@ -218,8 +227,8 @@ impl<'de> TableHelper<'de> {
         }
     }
 
-    /// Records the name, and moves its entry out of the table, if there is one. Returns the value with the span of its
-    /// key. If an allocation fails, nothing has changed.
+    /// Records the name, and moves its entry out of the table. Returns the value with the span of its key, or `None` if
+    /// the table has no entry of this name. If an allocation fails, nothing has changed.
     #[tactic(auto, using(crate::proofs::Whole::placed_whole))]
     pub(super) fn take_placed(
         &mut self,
@@ -242,8 +251,8 @@ impl<'de> TableHelper<'de> {
         }
     }
 
-    /// Moves the entry with this name out of the table, if there is one, without recording the name. Returns the value
-    /// with the span of its key.
+    /// Moves the entry with this name out of the table, without recording the name. Returns the value with the span of
+    /// its key, or `None` if the table has no such entry.
     #[tactic(auto, using(crate::proofs::Whole::placed_whole, crate::proofs::Whole::without_whole))]
     fn pass(&mut self, name: &'de str) -> Option<(Span, Value<'de>)>
         requires { AllWhole (state_of self.old) }
@@ -263,7 +272,7 @@ impl<'de> TableHelper<'de> {
     }
 }
 
-/// Returns the span of the key of an entry, if there is an entry.
+/// Returns the span of the key of an entry, or `None` without an entry.
 fn place_of(entry: &Option<(Span, Value)>) -> Option<Span>
     ensures { option_map (λ span. Some span) result ≡ option_map (λ e. e.0) (option_map entry_of entry.now) }
 {

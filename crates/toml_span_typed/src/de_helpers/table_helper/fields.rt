@@ -43,7 +43,8 @@ impl<'de> TableHelper<'de> {
         }
     }
 
-    /// Reads a field as `optional` does. Callers must prove that nothing has been taken from the remaining entries.
+    /// Reads the field of this name, as `optional` does: returns `None` if the table has no such entry, and also if the
+    /// read fails, after keeping its errors. Callers must prove that nothing has been taken from the remaining entries.
     #[tactic(auto, using(crate::proofs::Whole::found_whole))]
     pub fn read_optional<T: Deserialize<'de>>(
         &mut self,
@@ -79,7 +80,7 @@ impl<'de> TableHelper<'de> {
     }
 
     /// Ends the read, as `finalize(None)` does. Returns `Ok` if no error was kept and no entry remains. Otherwise fails
-    /// with all errors, the one for the remaining keys last. Only that one needs an allocation.
+    /// with all errors, the error for the remaining keys last. Only this error needs an allocation.
     pub fn finish(self) -> Result<(), Stop<DeserError<'de>>>
         ensures answer { Finishes (state_of self.entry) result }
         ensures none { OnOk result (kept (state_of self.entry) ≡ 0) }
@@ -99,7 +100,7 @@ impl<'de> TableHelper<'de> {
         Ok(())
     }
 
-    /// Reads the field of this name: see `read`.
+    /// Reads the field of this name, as `read` does. Callers must prove that nothing has been taken from its value.
     fn ask<T: Deserialize<'de>>(&mut self, name: &'de str) -> Result<Option<T>, AllocError>
         requires { IfSome (found name.now (state_of self.old)) (λ value. IsTrue (is_whole value)) }
         ensures answer { Asks T.reads name.now (state_of self.old) result (state_of self.new) }

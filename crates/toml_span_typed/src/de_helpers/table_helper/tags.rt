@@ -1,4 +1,4 @@
-//! Reads of an enum's tag, and of the entries beside it.
+//! Reads an enum's tag, and the other entries of its table.
 ghost use Rattle.std.specs.Prelude.{◌≡◌, ◌+◌, ◌≤◌, IfOk, OnErr, Result, false, map, option_map};
 ghost use Rattle.toml_span_tree.specs.Error.{content_of};
 ghost use Rattle.toml_span_tree.specs.Value.{is_taken, view};
@@ -75,8 +75,8 @@ impl<'de> TableHelper<'de> {
         }
     }
 
-    /// Reads all entries that remain, as a table with the span of this one, into a `T`. If the read fails, keeps its
-    /// errors, and returns `None`. If an allocation fails, no error is kept, but the entries are gone.
+    /// Reads all entries that remain into a `T`, as a table with the span of the whole table. If the read fails, keeps
+    /// its errors, and returns `None`. If an allocation fails, no error is kept, but the entries are gone.
     pub fn read_rest<T: Deserialize<'de>>(&mut self) -> Result<Option<T>, AllocError>
         requires { AllWhole (state_of self.old) }
         ensures answer { IfOk result (λ rest. ReadsRest T.reads (state_of self.old) rest (state_of self.new)) }
@@ -88,7 +88,7 @@ impl<'de> TableHelper<'de> {
         read_or_keep(self.alloc, rest, &mut self.errors)
     }
 
-    /// Moves the entries that remain into a new table, with the span of this one.
+    /// Moves the entries that remain into a new table, with the span of the whole table.
     fn take_rest(&mut self) -> Value<'de>
         ensures rest { view result ≡ remaining (state_of self.old) }
         ensures state { state_of self.new ≡ emptied (state_of self.old) }
@@ -103,7 +103,8 @@ impl<'de> TableHelper<'de> {
 /// case.
 ///
 /// Fails with `Wanted` if the value is not a string, and with `UnexpectedValue`, which lists the names, if the string
-/// is not one of them. Both errors are at the value's span. Only the second needs an allocation.
+/// is not one of them. Both errors are at the value's span. Only the second needs an allocation; if that fails, the
+/// call fails with `Stop::Memory`.
 pub fn name_of<'de>(
     alloc: Global,
     value: &mut Value<'de>,
@@ -119,8 +120,8 @@ pub fn name_of<'de>(
     }
 }
 
-/// Returns the tag that equals the value's string, or the error if there is none. Takes the value in every case. Fails
-/// if an allocation fails.
+/// Returns the tag that equals the value's string. As `Ok(Err(..))`, returns the error `Wanted` if the value is not a
+/// string, or `UnexpectedValue` if no tag equals it. Takes the value in every case. Fails if an allocation fails.
 fn tag_of<'de>(
     alloc: Global,
     value: &mut Value<'de>,
