@@ -1,9 +1,10 @@
 /* hold FILE..: tests calls with each request for memory refused in turn, and with every length of the caller's arrays.
  *
  * Linked with -Wl,--wrap=malloc,--wrap=realloc. For each document: with any one request refused, a call returns 4 and
- * writes nothing or, where only the parser's fast path needed it, does the same as without the refusal; with arrays of any length, they get a prefix of the records and of the strings, nothing after it is
- * touched, and the counts are the same. For an invalid document only the fault is written. So it is with an edit and
- * the formatter, with any one request refused. */
+ * writes nothing or, where only the parser's fast path needed it, does the same as without the refusal; with arrays of
+ * any length, they get a prefix of the records and of the strings, nothing after it is touched, and the counts are the
+ * same. For an invalid document only the fault is written. So it is with an edit and the formatter, with any one
+ * request refused. */
 #include "toml_span.h"
 
 #include <stdio.h>
