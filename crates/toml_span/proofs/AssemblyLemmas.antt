@@ -13,9 +13,9 @@ use Rattle.toml_span_read.specs.Borrowed.{AreWrittenRight as AreRightRead, secti
 use Rattle.toml_span_read.specs.Data.{ParsedSection, parsed_section, parsed_assignment, headerless_section, simple_key}
 use Rattle.toml_span_read.specs.code.Faults.{MatchesReading}
 use Rattle.toml_span_read.specs.code.Sections.{first_sections, first_found, section_found, sections_found}
-use Rattle.toml_span_read.specs.Reading.{HoldsForm}
 use Rattle.toml_span_read.specs.declared.fault.Fault.{Fault}
 use Rattle.toml_span_read.specs.declared.section.Section.{Section}
+use Rattle.toml_span_read.proofs.MemoryLemmas.{HoldsForm}
 use Rattle.toml_span_read.proofs.StepLemmas.{first_keeps}
 use Rattle.toml_span_read.proofs.LineRead.{DocumentFrom, sections_end, document_begins, document_read, document_stops, section_on}
 use Rattle.toml_span_read.proofs.ReadSound.{first_sound, section_sound}

@@ -16,9 +16,9 @@ use Rattle.toml_span.specs.code.ClaimInfos.{PlaceError}
 use Rattle.toml_span_lex.specs.declared.stop.Stop.TheVariants.{Memory, Fault}
 use Rattle.toml_span.specs.declared.branch.Branch.{Branch}
 use Rattle.toml_span.specs.declared.branch.Branch.TheViews.{out-Branch}
-use Rattle.toml_span.specs.Claims.{Claims, no_claims, followed, assignment_claims, assignments_claims}
+use Rattle.toml_span.specs.Claims.{Claims, no_claims, followed, assignments_claims}
 use Rattle.toml_span.specs.code.Machine.{CellMap, key_spans, no_cells, show_all, put_all, clash_found}
-use Rattle.toml_span.specs.code.Placing.{Places, ScopeGives, ShowsBelow, ShowsPlain, Finishes, place_shown}
+use Rattle.toml_span.specs.code.Placing.{Places, ScopeGives, ShowsBelow, ShowsPlain, Finishes, place_shown, assignment_claims}
 use Rattle.toml_span.specs.code.Relative.{pair_at}
 use Rattle.toml_span.specs.Borrowed.{strings_and_keys, AreBorrowedRight}
 use Rattle.toml_span.specs.code.Borrowed.{own_spans, own_table, branch_strings}

@@ -22,12 +22,12 @@ use Rattle.toml_span.specs.declared.claims.ClaimKind.TheVariants.{Passed, Standa
 use Rattle.toml_span.specs.declared.claims.HeaderInfo.{HeaderInfo}
 use Rattle.toml_span.specs.Borrowed.{KeySpans, IsBorrowedRight, strings_and_keys, AreBorrowedRight}
 use Rattle.toml_span.specs.Claims.{Claim, Claims, array_claims, claimed, header_claim}
-use Rattle.toml_span.specs.Clashes.{clash_kind, with_name}
+use Rattle.toml_span.specs.Clashes.{clash_kind}
 use Rattle.toml_span.specs.Ordered.{IsOrdered, HoldsOrdered}
 use Rattle.toml_span.specs.Paths.{same_path}
 use Rattle.toml_span.specs.code.Borrowed.{table_held}
 use Rattle.toml_span.specs.code.Built.{BuildsOn, EntryAt, EntryBuilt, EntryBuildsOn, EntryRight, EntryShows, IsBuilt, built, IsByHeader, IsKeyFor, IsSection, IsTableCell, MakesEntry, Placed, is_assigned}
-use Rattle.toml_span.specs.code.ClaimInfos.{earliest_clash_info}
+use Rattle.toml_span.specs.code.ClaimInfos.{earliest_clash_info, with_name}
 use Rattle.toml_span.specs.code.Machine.{Cell, CellMap, Decided, change, clash_found, decide, earliest_clash, graft, key_spans, no_cell, no_cells, put_all, with_claim}
 use Rattle.toml_span.specs.code.Placing.{Array, NamesAscend, ShowsBelow, Table, place_shown}
 use Rattle.toml_span.specs.code.Relative.{adding, counts_after, counts_after_adding, counts_after_entered, counts_after_through, entered, opening, passing, section_at, through}

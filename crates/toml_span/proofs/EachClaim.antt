@@ -1,11 +1,11 @@
 -- What holds for each claim holds for what decides in the flat document.
 use Rattle.std.specs.Option.{option_or}
-use Rattle.toml_span_lex.proofs.Common.{◌≡◌, ℕ, suc, true, List, [], ◌∷◌, Option, Some, option_map, refl, ⊤, IfSome, false≢true, and_parts, AllByRecursion, arith, nat_tests, common_steps, find}
+use Rattle.toml_span_lex.proofs.Common.{◌≡◌, ℕ, suc, true, List, [], ◌∷◌, Option, Some, option_map, refl, ⊤, IfSome, false≢true, and_parts, AllByRecursion, arith, nat_tests, common_steps, find, filter}
 use Rattle.toml_span_tree.specs.Path.{Path, Step, Place}
 use Rattle.toml_span_read.proofs.BorrowLemmas.{all_append}
 use Rattle.toml_span_read.specs.Data.{ParsedValue as Read, parsed, ParsedInner, scalar, array, inline, ParsedItems, no_items, item, ParsedPairs, no_pairs, pair, ParsedAssignment, SimpleKey}
 use Rattle.toml_span.specs.Claims.{Claim, Claims, no_claims, claimed, scope, followed, dotted, assigned, element, key_claims, value_claims, inner_claims, item_claims, pair_claims, assignments_claims}
-use Rattle.toml_span.specs.Flat.{by_header, flat, all_claims, claims_at, deciding_claim}
+use Rattle.toml_span.specs.Flat.{by_header, flat, all_claims, deciding_claim}
 use Rattle.toml_span.specs.Paths.{same_path, same_step, with_key, with_position}
 use Rattle.toml_span.proofs.Grafts.{same_step-eq}
 
@@ -73,12 +73,15 @@ each-all P no_claims h = tt
 each-all P (claimed c cs) h = (h.0, each-all P cs h.1)
 each-all P (scope inner cs) h = all_append P (all_claims inner) (all_claims cs) (each-all P inner h.0) (each-all P cs h.1)
 
+-- the claims on this path among these claims
+abbrev pub claims_at : Path → List Claim → List Claim
+claims_at p cs = filter (λ c. same_path c.path p) cs
+
 -- P holds for the claim, which is on this path
 abbrev On : (Claim → Type 0) → Path → Claim → Type 0
 On P q c = P c × (c.path ≡ q)
 
 each-at : (P : Claim → Type 0) (q : Path) (cs : List Claim) → AllByRecursion P cs → AllByRecursion (On P q) (claims_at q cs)
-unfolding claims_at
 each-at P q [] h = tt
 each-at P q (c ∷ cs) h = grind (arith, nat_tests, common_steps, same_path-eq, each-at P q cs)
 

@@ -5,8 +5,8 @@ use Rattle.toml_span.specs.declared.claims.ClashKind.{ClashKind}
 use Rattle.toml_span.specs.declared.claims.ClaimInfo.{ClaimInfo}
 use Rattle.toml_span.specs.declared.claims.ClashInfo.{ClashInfo}
 use Rattle.toml_span.specs.Claims.{Claim, Claims, no_claims, claimed, scope}
-use Rattle.toml_span.specs.Clashes.{NamedClash, with_name, clash_info, clash_info_between, clash, clash_among, clash_after, first_clash}
-use Rattle.toml_span.specs.code.ClaimInfos.{earliest_clash_info, same_kind, remember}
+use Rattle.toml_span.specs.Clashes.{NamedClash, clash_info, clash, clash_among, clash_after, first_clash}
+use Rattle.toml_span.specs.code.ClaimInfos.{earliest_clash_info, same_kind, remember, with_name, clash_info_between}
 use Rattle.toml_span.specs.code.Machine.{CellMap, no_cells, change, with_claim, show_all, earliest_clash, clash_found}
 use Rattle.toml_span.proofs.Claimed.{remember-cases, same_kind-eq}
 use Rattle.toml_span.proofs.Grafts.{or_else-assoc, or_else-none}
@@ -50,9 +50,13 @@ keeps-nothing later = refl
 map-or_else : (name : List ℕ) (x y : Option ClashInfo) → option_map (with_name name) (option_or x y) ≡ option_or (option_map (with_name name) x) (option_map (with_name name) y)
 map-or_else name x y = grind (arith, nat_tests, common_steps)
 
+-- the clash of two claims on the same path, with a name
+clash-named : (name : List ℕ) (a b : ClaimInfo) (o : Option ClashKind) → option_map (with_name name) (option_map (clash_info a b) o) ≡ option_map (λ kind. with_name name (clash_info a b kind)) o
+clash-named name a b o = grind (arith, nat_tests, common_steps)
+
 met-claim : (st : CellMap) (c later : Claim) → met_in (change st c.path (with_claim c)) later ≡ option_or (met_in st later) (clash c later)
 unfolding change clash
-met-claim st c later = grind (arith, nat_tests, common_steps, map-or_else, or_else-none, earliest_clash_info-remember)
+met-claim st c later = grind (arith, nat_tests, common_steps, map-or_else, or_else-none, clash-named, earliest_clash_info-remember)
 
 keeps-claim : (st : CellMap) (earlier : List Claim) (c : Claim) → Keeps st earlier → Keeps (change st c.path (with_claim c)) (earlier ++ (c ∷ []))
 keeps-claim st earlier c keeps later = grind (arith, nat_tests, common_steps, among-push, met-claim)

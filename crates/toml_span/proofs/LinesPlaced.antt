@@ -11,10 +11,10 @@ use Rattle.toml_span_read.proofs.EarlierLemmas.{added_clear}
 use Rattle.toml_span_read.proofs.LineRead.{LinesFrom}
 use Rattle.toml_span.specs.declared.branch.Branch.{Branch}
 use Rattle.toml_span.specs.Borrowed.{AreBorrowedRight}
-use Rattle.toml_span.specs.Claims.{Claims, followed, assignment_claims, assignments_claims}
+use Rattle.toml_span.specs.Claims.{Claims, followed, assignments_claims}
 use Rattle.toml_span.specs.code.Borrowed.{branch_strings}
 use Rattle.toml_span.specs.code.Machine.{clash_found, put_all}
-use Rattle.toml_span.specs.code.Placing.{Places}
+use Rattle.toml_span.specs.code.Placing.{Places, assignment_claims}
 use Rattle.toml_span.specs.code.Tree.{cells, counts, IsScope}
 use Rattle.toml_span.proofs.Assignments.{placed-then}
 use Rattle.toml_span.proofs.ClearKeys.{clear-placed}

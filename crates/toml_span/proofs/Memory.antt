@@ -15,7 +15,8 @@ use Rattle.toml_span_read.specs.Keys.{SpellsKey}
 use Rattle.toml_span_read.specs.Grammar.{OpensHeader, SpellsSection, AssignmentsWith, SectionsWith, SpellsScalar}
 use Rattle.toml_span_read.specs.Read as read
 use Rattle.toml_span_read.proofs.ReadSound.{document_sound}
-use Rattle.toml_span_read.specs.Reading.{HoldsForm, OnlyFormsTakeMemory}
+use Rattle.toml_span_read.specs.Reading.{OnlyFormsTakeMemory}
+use Rattle.toml_span_read.proofs.MemoryLemmas.{HoldsForm}
 use Rattle.toml_span_read.proofs.InsideLemmas.{ascend_forward}
 use Rattle.toml_span_read.proofs.KeyOrder.{dotted_ascend}
 

@@ -20,11 +20,11 @@ use Rattle.toml_span.specs.declared.claims.ClashInfo.{ClashInfo}
 use Rattle.toml_span.specs.declared.sections.Assembly.{Assembly}
 use Rattle.toml_span.specs.Paths.{with_key, enter, elements_added, opened_by, section_path}
 use Rattle.toml_span.specs.Claims.{Claims, no_claims, claimed, scope, followed, key_claims, value_claims, inner_claims, pair_claims, assignments_claims, end_claims, header_claims, section_claims, claims_after, claims, header_info}
-use Rattle.toml_span.specs.Clashes.{NamedClash, clash_kind, clash_info, with_name}
+use Rattle.toml_span.specs.Clashes.{NamedClash, clash_kind, clash_info}
 use Rattle.toml_span.specs.Flat.{by_header}
 use Rattle.toml_span.specs.code.Assembling.{IsAssemblyOf, AssemblesTo, IsAssemblyInside}
 use Rattle.toml_span.specs.code.Machine.{CellMap, change, clash_found, no_cells, show_all, with_claim}
-use Rattle.toml_span.specs.code.ClaimInfos.{PlaceError, IsPlaceErrorInside, earliest_clash_info}
+use Rattle.toml_span.specs.code.ClaimInfos.{PlaceError, IsPlaceErrorInside, earliest_clash_info, with_name}
 use Rattle.toml_span.proofs.EachClaim.{either-one}
 use Rattle.toml_span.proofs.Judged.{first-met}
 use Rattle.toml_span.proofs.Values.{first_in, reported-array}

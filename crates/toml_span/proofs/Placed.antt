@@ -8,13 +8,13 @@ use Rattle.toml_span_lex.specs.declared.key.Key.{Key}
 use Rattle.toml_span.specs.declared.claims.ClaimInfo.{ClaimInfo}
 use Rattle.toml_span.specs.declared.claims.ClaimKind.{ClaimKind}
 use Rattle.toml_span.specs.declared.claims.ClaimKind.TheVariants.{ArrayOfTables, Assigned}
-use Rattle.toml_span.specs.code.ClaimInfos.{PlaceError}
+use Rattle.toml_span.specs.code.ClaimInfos.{PlaceError, with_name}
 use Rattle.toml_span_lex.specs.declared.stop.Stop.TheVariants.{Memory, Fault}
 use Rattle.toml_span.specs.declared.branch.Branch.{Branch}
 use Rattle.toml_span.specs.declared.branch.Branch.TheViews.{roll-Branch, out-Branch}
 use Rattle.toml_span_read.proofs.EarlierTree.{key_cmp}
 use Rattle.toml_span.specs.Claims.{Claim, Claims, claimed, followed, pair_info}
-use Rattle.toml_span.specs.Clashes.{NamedClash, clash_kind, with_name}
+use Rattle.toml_span.specs.Clashes.{NamedClash, clash_kind}
 use Rattle.toml_span.specs.code.Machine.{OkOrClash, earliest_clash, clash_found, put_all, graft}
 use Rattle.toml_span.specs.code.Placing.{Reaches, Places, Passes}
 use Rattle.toml_span.specs.code.Relative.{under}

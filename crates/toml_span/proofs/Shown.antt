@@ -1,16 +1,18 @@
 -- A state shows what the flat document says.
 use Rattle.std.specs.Option.{option_or}
+use Rattle.std.proofs.lemmas.List.Elements.{filter-append}
 use Rattle.toml_span_lex.proofs.Common.{◌≡◌, ℕ, Bool, true, false, List, [], ◌∷◌, ◌++◌, Option, Some, None, option_map, refl, sym, ap, ◌∙◌, inl, inr, if◌then◌else◌, ⊤, cases_Bool, arith, nat_tests, common_steps, find, slice_get}
 use Rattle.toml_span_lex.specs.declared.span.Span.{Span}
 use Rattle.toml_span_tree.specs.Path.{Path, Step, Place}
 use Rattle.toml_span_read.specs.Data.{ParsedAssignment}
 use Rattle.toml_span.specs.Claims.{Claim, Claims, no_claims, claimed, scope, assignments_claims}
-use Rattle.toml_span.specs.Flat.{by_header, all_claims, claims_at, deciding_claim, flat}
+use Rattle.toml_span.specs.Flat.{by_header, all_claims, deciding_claim, flat}
 use Rattle.toml_span.specs.Borrowed.{first_key}
+use Rattle.toml_span.specs.Paths.{same_path}
 use Rattle.toml_span.specs.code.Machine.{Cell, CellMap, Decided, no_cells, decide, decided, key_spans, with_span, with_claim, with_inner, change, show_all, put_all}
 use Rattle.toml_span.specs.code.Placing.{place_shown}
 use Rattle.toml_span.specs.code.Tree.{plain}
-use Rattle.toml_span.proofs.EachClaim.{Each, assignments-each}
+use Rattle.toml_span.proofs.EachClaim.{Each, assignments-each, claims_at}
 use Rattle.toml_span.proofs.Grafts.{fun_ext}
 
 -- ---- one after another
@@ -62,11 +64,6 @@ module _ (A : Type 0) (d : A → Decided) (by : List A → Option A) where
 abbrev claims_show : Option Decided → List Claim → Option Decided
 claims_show = shown_by Claim decided (find (λ c. by_header c.info.kind))
 
-claims_at-append : (p : Path) (xs ys : List Claim) → claims_at p (xs ++ ys) ≡ claims_at p xs ++ claims_at p ys
-unfolding claims_at
-claims_at-append p [] ys = refl
-claims_at-append p (x ∷ xs) ys = grind (arith, nat_tests, common_steps, claims_at-append p xs)
-
 -- the claims on a path, in all scopes
 abbrev on_path : Path → Claims → List Claim
 on_path p cs = claims_at p (all_claims cs)
@@ -74,22 +71,22 @@ on_path p cs = claims_at p (all_claims cs)
 on_path-scope : (p : Path) (o : Option Decided) (inner cs : Claims)
     → claims_show o (on_path p (scope inner cs)) ≡ claims_show (claims_show o (on_path p inner)) (on_path p cs)
 unfolding all_claims
-on_path-scope p o inner cs = grind (arith, nat_tests, common_steps, claims_at-append, shown_by-append)
+on_path-scope p o inner cs = grind (arith, nat_tests, common_steps, filter-append {X = Claim} (λ c. same_path c.path p), shown_by-append)
 
 -- a claim decides at its own path, whether it is of the scope or of one inside
 on_path-claimed : (p : Path) (st : CellMap) (c : Claim) (cs : Claims) (f : Cell → Cell) → ((x : Cell) → (f x).shown ≡ decide x.shown (decided c))
     → claims_show (change st c.path f p).shown (on_path p cs) ≡ claims_show (st p).shown (on_path p (claimed c cs))
-unfolding all_claims claims_at change shown_by
+unfolding all_claims change shown_by
 on_path-claimed p st c cs f h = grind (arith, nat_tests, common_steps)
 
 show_all-is : (st : CellMap) (cs : Claims) (p : Path) → (show_all st cs p).shown ≡ claims_show (st p).shown (on_path p cs)
-unfolding show_all all_claims claims_at shown_by
+unfolding show_all all_claims shown_by
 show_all-is st no_claims p = refl
 show_all-is st (claimed c cs) p = show_all-is (change st c.path (with_inner c)) cs p ∙ on_path-claimed p st c cs (with_inner c) (λ x. refl)
 show_all-is st (scope inner cs) p = grind (arith, nat_tests, common_steps, on_path-scope, show_all-is (show_all st inner) cs p, show_all-is st inner p)
 
 put_all-is : (st : CellMap) (cs : Claims) (p : Path) → (put_all st cs p).shown ≡ claims_show (st p).shown (on_path p cs)
-unfolding put_all all_claims claims_at shown_by
+unfolding put_all all_claims shown_by
 put_all-is st no_claims p = refl
 put_all-is st (claimed c cs) p = put_all-is (change st c.path (with_claim c)) cs p ∙ on_path-claimed p st c cs (with_claim c) (λ x. refl)
 put_all-is st (scope inner cs) p = grind (arith, nat_tests, common_steps, on_path-scope, put_all-is (show_all st inner) cs p, show_all-is st inner p)

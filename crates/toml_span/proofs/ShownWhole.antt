@@ -4,8 +4,8 @@ use Rattle.toml_span_lex.specs.declared.span.Span.{Span}
 use Rattle.toml_span_tree.specs.Node.{Node, node, Inner, taken, scalar, array, table, Items, no_items, item, Members, no_members, member, entry_at, element_at}
 use Rattle.toml_span_tree.specs.Path.{Path, key, position, Place, shape_of, reached, place_of, node_at, Shape, shape_taken, shape_scalar, shape_array, shape_table}
 use Rattle.toml_span_tree.specs.Value.{inner_of, holds_nothing, is_taken, is_whole, all_whole, all_members_whole}
-use Rattle.toml_span_read.specs.Data.{ParsedSection, ParsedInner, ParsedAssignment, SimpleKey}
-use Rattle.toml_span.specs.Claims.{claims, Claim, value_shape, parsed_inner, assignments_claims, end_claims, header_claims, section_claims, claims_after}
+use Rattle.toml_span_read.specs.Data.{ParsedSection, ParsedValue, ParsedAssignment, SimpleKey}
+use Rattle.toml_span.specs.Claims.{claims, Claim, value_shape, assignments_claims, end_claims, header_claims, section_claims, claims_after}
 use Rattle.toml_span.specs.Flat.{flat, ShowsExactly}
 use Rattle.toml_span.specs.Ordered.{HasOneEach, ItemsHaveOneEach, MembersHaveOneEach}
 use Rattle.toml_span.proofs.EachClaim.{flat-decides, Each, each-followed, assignments-each}
@@ -26,11 +26,11 @@ is_held shape_table = true
 abbrev pub IsHeldAt : Claim → Type 0
 IsHeldAt c = is_held c.place.shape ≡ true
 
-value-held : (k : ParsedInner) → is_held (value_shape k) ≡ true
-value-held k = grind (arith, nat_tests, common_steps)
+value-held : (v : ParsedValue) → is_held (value_shape v) ≡ true
+value-held v = grind (arith, nat_tests, common_steps)
 
 assignments-held : (es : List ParsedAssignment) (p : Path) → Each IsHeldAt (assignments_claims es p)
-assignments-held = assignments-each IsHeldAt (λ p k v. refl) (λ p k v. value-held (parsed_inner v)) (λ p i v. value-held (parsed_inner v))
+assignments-held = assignments-each IsHeldAt (λ p k v. refl) (λ p k. value-held) (λ p i. value-held)
 
 end-held : (h : HeaderInfo) (p : Path) (k : SimpleKey) (n : ℕ) → Each IsHeldAt (end_claims h p k n)
 unfolding end_claims

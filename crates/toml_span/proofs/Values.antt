@@ -20,7 +20,7 @@ use Rattle.toml_span.specs.code.ClaimInfos.{PlaceError}
 use Rattle.toml_span_lex.specs.declared.stop.Stop.TheVariants.{Memory, Fault}
 use Rattle.toml_span.specs.Paths.{same_step, same_path}
 use Rattle.toml_span_lex.specs.declared.span.Span.{Span}
-use Rattle.toml_span.specs.Claims.{Claim, Claims, no_claims, claimed, scope, followed, parsed_inner, value_claims, inner_claims, item_claims, assignments_claims, element, value_shape}
+use Rattle.toml_span.specs.Claims.{Claim, Claims, no_claims, claimed, scope, followed, value_claims, inner_claims, item_claims, assignments_claims, element, value_shape}
 use Rattle.toml_span.specs.Clashes.{NamedClash}
 use Rattle.toml_span.specs.code.Machine.{Cell, CellMap, no_cells, no_cell, change, with_claim, with_inner, show_all, put_all, clash_found, graft}
 use Rattle.toml_span.specs.Ordered.{HoldsOrdered, AreOrdered}
@@ -164,7 +164,7 @@ items-apart (item v vs) i st s p other =
     ap (λ f. f (s ∷ p)) (show_all-item st i v vs) ∙ items-apart vs (suc i) (beyond st i v) s p (λ l past. other l (omega arith)) ∙ rw (other i (omega arith)) refl
 
 -- a value shows what was claimed, if there was nothing before
-pub value-shown : (v : Read) (x : Value) (at : Option Span) (f : Cell → Cell) → IsFinished v x → (f no_cell).shown ≡ Some (plain (record { shape = value_shape (parsed_inner v); key_span = at; span = parsed_span v }))
+pub value-shown : (v : Read) (x : Value) (at : Option Span) (f : Cell → Cell) → IsFinished v x → (f no_cell).shown ≡ Some (plain (record { shape = value_shape v; key_span = at; span = parsed_span v }))
     → (p : Path) → (show_all (change no_cells [] f) (value_claims v []) p).shown ≡ value_shows at (view x) p
 unfolding change same_path
 value-shown v x at f h is [] = ap (λ c. c.shown) (show_all-here (change no_cells [] f) (value_claims v []) (value_below v [])) ∙ is ∙ ap (λ m. Some (plain m)) (sym (h.0 at))
@@ -207,7 +207,7 @@ elements-none rest all xs none inv = grind (arith, nat_tests, common_steps, appe
 
 -- ---- what was read, by kind
 
-value-gives : (v : Val) (k : ParsedInner) (i : tree.Inner) (x : Value) → parsed_kind v.kind ≡ k → view x ≡ tree.node i v.span → tree_shape i ≡ value_shape k
+value-gives : (v : Val) (k : ParsedInner) (i : tree.Inner) (x : Value) → parsed_kind v.kind ≡ k → view x ≡ tree.node i v.span → tree_shape i ≡ value_shape (parsed k v.span)
     → clash_found no_cells (inner_claims k []) ≡ None → ShowsPlain i (show_all no_cells (inner_claims k [])) → HoldsOrdered i → ValueGives (Ok x) (view_read v)
 unfolding value_claims
 value-gives v k i x kind seen shape clear shows ordered = grind (arith, nat_tests, common_steps, view_is)
@@ -238,7 +238,7 @@ unfolding inner_claims
 inline-reads v ps is = (ap parsed_kind is ∙ kind_view-Inline ps, ap (λ cs. scope cs no_claims) (pairs-assignments (map parsed_assignment ps.items) []))
 
 pub scope-gives : (v : Val) (k : ParsedInner) (cs : Claims) (inner i : ValueInner) (x : Value) → ReadsScope v k cs → inner ≡ i
-    → view x ≡ tree.node (inner_view inner) v.span → tree_shape (inner_view i) ≡ value_shape k
+    → view x ≡ tree.node (inner_view inner) v.span → tree_shape (inner_view i) ≡ value_shape (parsed k v.span)
     → (clash_found no_cells cs ≡ None) × (ShowsPlain (inner_view i) (show_all no_cells cs) × HoldsOrdered (inner_view i)) → ValueGives (Ok x) (view_read v)
 unfolding clash_found show_all
 scope-gives v k cs inner i x reads is seen shape whole =

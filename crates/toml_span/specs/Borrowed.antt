@@ -3,7 +3,7 @@
 -- even if a later claim determines the span of its key.
 use Rattle.std.specs.Global.{Global}
 use Rattle.std.specs.declared.borrow.CowStr.{CowStr}
-use Rattle.std.specs.Prelude.{ℕ, suc, List, [], ◌∷◌, ◌++◌, Option, Some, option_map, IsSomeAnd}
+use Rattle.std.specs.Prelude.{ℕ, suc, List, [], ◌∷◌, ◌++◌, Option, Some, option_map, IsSomeAnd, filter}
 use Rattle.std.specs.Cow.{cow_str_bytes}
 use Rattle.std.specs.List.{AllByRecursion, slice_get}
 use Rattle.std.specs.Option.{option_map_or}
@@ -15,7 +15,8 @@ use Rattle.toml_span_tree.specs.declared.value.ValueInner.TheOpen.{ValueInner-F,
 use Rattle.toml_span_tree.specs.declared.value.Value.{Value}
 use Rattle.toml_span_tree.specs.declared.value.ValueInner.TheFolds.{fold-Value}
 use Rattle.toml_span.specs.Claims.{Claims}
-use Rattle.toml_span.specs.Flat.{all_claims, claims_at}
+use Rattle.toml_span.specs.Flat.{all_claims}
+use Rattle.toml_span.specs.Paths.{same_path}
 
 -- ---- the strings and keys of a tree
 
@@ -60,7 +61,7 @@ strings_and_keys = fold-Value (Span → StringsAndKeys) StringsAndKeys inner_ste
 
 -- for each path, the span of the key in the first claim on it
 abbrev pub first_key : Claims → KeySpans
-first_key cs p = option_map (λ c. c.info.key) (slice_get (claims_at p (all_claims cs)) 0)
+first_key cs p = option_map (λ c. c.info.key) (slice_get (filter (λ c. same_path c.path p) (all_claims cs)) 0)
 
 -- It is known where the string or key is written, and it is borrowed if and only if it equals the text there.
 abbrev pub IsBorrowedRight : List ℕ → StringOrKey → Type 0

@@ -47,23 +47,22 @@ abbrev pub key_span_of : ClaimKind → Span → Option Span
 key_span_of TableElement key = None
 key_span_of _ key = Some key
 
--- The place at a path that this claim of a table or of an array of tables determines. A header that passes through an
--- element never determines its place, because the element's own claim comes first.
-abbrev pub place_claimed : ClaimInfo → Place
-place_claimed m = record { shape = shape_claimed m.kind; key_span = key_span_of m.kind m.key; span = m.extent }
-
+-- The claim of a table or of an array of tables. A header that passes through an element never determines its place,
+-- because the element's own claim comes first.
 abbrev pub table_claim : Path → SimpleKey → ClaimInfo → Claim
-table_claim p k m = record { path = p; name = k.name; info = m; place = place_claimed m }
+table_claim p k m = record {
+  path = p;
+  name = k.name;
+  info = m;
+  place = record { shape = shape_claimed m.kind; key_span = key_span_of m.kind m.key; span = m.extent };
+}
 
 -- ---- assignments
 
-abbrev pub value_shape : ParsedInner → Shape
-value_shape (scalar s) = shape_scalar s
-value_shape (array vs) = shape_array
-value_shape (inline ps) = shape_table
-
-abbrev pub parsed_inner : ParsedValue → ParsedInner
-parsed_inner (parsed k span) = k
+abbrev pub value_shape : ParsedValue → Shape
+value_shape (parsed (scalar s) span) = shape_scalar s
+value_shape (parsed (array vs) span) = shape_array
+value_shape (parsed (inline ps) span) = shape_table
 
 abbrev pub pair_info : ClaimKind → Span → Span → ClaimInfo
 pair_info kind key span = record { kind = kind; key = key; line = span; extent = span }
@@ -78,7 +77,7 @@ assigned p k v = record {
   path = p;
   name = k.name;
   info = pair_info Assigned k.span (parsed_span v);
-  place = record { shape = value_shape (parsed_inner v); key_span = Some k.span; span = parsed_span v };
+  place = record { shape = value_shape v; key_span = Some k.span; span = parsed_span v };
 }
 
 -- An element of an array claims its position.
@@ -87,7 +86,7 @@ element p v = record {
   path = p;
   name = [];
   info = pair_info Assigned (parsed_span v) (parsed_span v);
-  place = record { shape = value_shape (parsed_inner v); key_span = None; span = parsed_span v };
+  place = record { shape = value_shape v; key_span = None; span = parsed_span v };
 }
 
 -- The claims of a key in the table at p, and those inside the value. The key has at least one part.
@@ -117,13 +116,10 @@ unfoldable mutual
   pair_claims no_pairs p = no_claims
   pair_claims (pair parts v extent rest) p = followed (key_claims p parts v (value_claims v)) (pair_claims rest p)
 
--- the claims of an assignment in the table at p, and those of several
-abbrev pub assignment_claims : ParsedAssignment → Path → Claims
-assignment_claims e p = key_claims p e.parts e.value (value_claims e.value)
-
+-- the claims of assignments in the table at p
 unfoldable pub assignments_claims : List ParsedAssignment → Path → Claims
 assignments_claims [] p = no_claims
-assignments_claims (e ∷ es) p = followed (assignment_claims e p) (assignments_claims es p)
+assignments_claims (e ∷ es) p = followed (key_claims p e.parts e.value (value_claims e.value)) (assignments_claims es p)
 
 -- ---- sections
 

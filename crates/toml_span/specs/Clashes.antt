@@ -42,23 +42,17 @@ clash_info earlier later DuplicateTable = record { kind = DuplicateTable; first 
 clash_info earlier later DuplicateKey = record { kind = DuplicateKey; first = earlier.key; span = later.key }
 clash_info earlier later RedefineAsArray = record { kind = RedefineAsArray; first = earlier.line; span = later.line }
 
--- the clash of two claims on the same path
-abbrev pub clash_info_between : ClaimInfo → ClaimInfo → Option ClashInfo
-clash_info_between earlier later = option_map (clash_info earlier later) (clash_kind earlier.kind later.kind)
-
 -- a clash, and the name of the key that is claimed again
 pub record NamedClash : Type 0 where
   pub info : ClashInfo
   pub name : List ℕ
 
-abbrev pub with_name : List ℕ → ClashInfo → NamedClash
-with_name name m = record { info = m; name = name }
-
 -- the clash of an earlier and a later claim, if they clash; they may be on different paths
 unfoldable pub clash : Claim → Claim → Option NamedClash
 clash earlier later =
     if same_path earlier.path later.path
-    then option_map (with_name later.name) (clash_info_between earlier.info later.info) else None
+    then option_map (λ kind. record { info = clash_info earlier.info later.info kind; name = later.name })
+    (clash_kind earlier.info.kind later.info.kind) else None
 
 -- the clash of a claim with the first of these claims that it clashes with
 unfoldable pub clash_among : List Claim → Claim → Option NamedClash

@@ -1,6 +1,6 @@
 -- The flat document: the place at each path.
-use Rattle.std.specs.Prelude.{◌≡◌, ℕ, Bool, true, false, if◌then◌else◌, List, [], ◌∷◌, ◌++◌, Option, Some, None}
-use Rattle.std.specs.Prelude.{option_map}
+use Rattle.std.specs.Prelude.{◌≡◌, ℕ, Bool, true, false, List, [], ◌∷◌, ◌++◌, Option, Some, None}
+use Rattle.std.specs.Prelude.{option_map, filter}
 use Rattle.std.specs.List.{find, slice_get}
 use Rattle.std.specs.Option.{option_or}
 use Rattle.toml_span_tree.specs.Path.{Path, shape_table, Place, place_at}
@@ -16,18 +16,13 @@ all_claims no_claims = []
 all_claims (claimed c cs) = c ∷ all_claims cs
 all_claims (scope inner cs) = all_claims inner ++ all_claims cs
 
--- the claims on this path among these claims
-unfoldable pub claims_at : Path → List Claim → List Claim
-claims_at p [] = []
-claims_at p (c ∷ cs) = if same_path c.path p then c ∷ claims_at p cs else claims_at p cs
-
 abbrev pub by_header : ClaimKind → Bool
 by_header Dotted = false
 by_header Assigned = false
 by_header _ = true
 
--- The claim that determines the place at a path: that of the first header that reaches or passes through it, or, if
--- there is none, the first claim. If no claims clash, all claims on a path belong to one scope.
+-- Of the claims on a path, the one that determines the place there: that of the first header that reaches or passes
+-- through it, or, if there is none, the first claim. If no claims clash, all of them belong to one scope.
 abbrev pub deciding_claim : List Claim → Option Claim
 deciding_claim cs = option_or (find (λ c. by_header c.info.kind) cs) (slice_get cs 0)
 
@@ -35,7 +30,8 @@ deciding_claim cs = option_or (find (λ c. by_header c.info.kind) cs) (slice_get
 -- deciding claim says.
 unfoldable pub flat : ℕ → Claims → Path → Option Place
 flat size cs [] = Some (record { shape = shape_table; key_span = None; span = record { start = 0; end = size } })
-flat size cs (s ∷ p) = option_map (λ c. c.place) (deciding_claim (claims_at (s ∷ p) (all_claims cs)))
+flat size cs (s ∷ p) =
+    option_map (λ c. c.place) (deciding_claim (filter (λ c. same_path c.path (s ∷ p)) (all_claims cs)))
 
 -- The tree has the same place as `places` at each path, and nothing where `places` has nothing. `IsOrdered` says that
 -- no name occurs twice in a table.

@@ -1,5 +1,5 @@
 -- What `parse` returns.
-use Rattle.std.specs.Prelude.{◌≡◌, ⊤, ℕ, ◌⊎◌, List, Some, Result, Ok, Err, length}
+use Rattle.std.specs.Prelude.{◌≡◌, ⊤, ℕ, ◌⊎◌, List, Some, None, Result, Ok, Err, length}
 use Rattle.toml_span_lex.specs.declared.stop.Stop.{Stop}
 use Rattle.toml_span_lex.specs.declared.stop.Stop.TheVariants as stops
 use Rattle.toml_span_tree.specs.declared.value.Value.{Value}
@@ -13,28 +13,10 @@ use Rattle.toml_span_lex.specs.Lines.{line_info}
 use Rattle.toml_span_read.specs.Faults.{StartsInside, fault_content}
 use Rattle.toml_span_read.specs.Read.{document}
 use Rattle.toml_span.specs.Claims.{claims}
-use Rattle.toml_span.specs.Clashes.{Resolves, NamedClash, first_clash, content_of_clash}
+use Rattle.toml_span.specs.Clashes.{NamedClash, first_clash, content_of_clash}
 use Rattle.toml_span.specs.Flat.{flat, ShowsExactly}
 use Rattle.toml_span.specs.Ordered.{IsOrdered}
 use Rattle.toml_span.specs.Borrowed.{AreBorrowedRight, first_key, strings_and_keys}
-
--- ---- the outcome for a text
-
--- its sections; its sections and their first clash; or its first fault
-pub data Outcome : Type 0 where
-  resolved : List ParsedSection → Outcome
-  clashed : List ParsedSection → NamedClash → Outcome
-  refused_at : Fault → Outcome
-
--- The text is read within the limit as these sections, which do not clash; or as these sections, and this is their
--- first clash; or it has this fault.
-abbrev pub HasOutcome : List ℕ → ℕ → Outcome → Type 0
-HasOutcome text limit (resolved sections) = document text limit (Ok sections) × Resolves (claims sections)
-HasOutcome text limit (clashed sections clash) =
-    document text limit (Ok sections) × (first_clash (claims sections) ≡ Some clash)
-HasOutcome text limit (refused_at fault) = document text limit (Err fault)
-
--- ---- the answer
 
 -- The tree shows the flat document of these sections, which is `size` bytes long. The names in each table ascend, so
 -- none occurs twice.
@@ -42,29 +24,21 @@ pub record IsTreeOf (sections : List ParsedSection) (size : ℕ) (root : Value) 
   pub shows : ShowsExactly (view root) (flat size (claims sections))
   pub ordered : IsOrdered (view root)
 
--- The answer for an outcome: the tree of these sections, or the error that reports this clash or this fault, with a
--- span that starts inside the text. A failed allocation is an answer for any outcome.
-abbrev pub IsAnswerOf : List ℕ → Outcome → Result Value (Stop Error) → Type 0
-IsAnswerOf text (resolved sections) (Ok root) = IsTreeOf sections (length text) root
-IsAnswerOf text (clashed sections clash) (Err (stops.Fault error)) =
-    StartsInside text clash.info.span
-    × (content_of error ≡ content_of_clash clash.info clash.name (line_info text clash.info.span.start))
-IsAnswerOf text (refused_at fault) (Err (stops.Fault error)) =
-    StartsInside text fault.span × (content_of error ≡ fault_content text fault)
-IsAnswerOf text outcome (Err (stops.Memory e)) = ⊤
-IsAnswerOf text outcome result = ⊥
-
--- The result is the answer for the outcome of the text within the limit, or a failed allocation.
+-- The result of parsing a text within the limit. A tree: the text is read as sections that do not clash, and the tree
+-- is theirs. An error: it reports the fault of the text or, if the text is read as sections, their first clash, and its
+-- span starts inside the text. A failed allocation is a result for any text.
 abbrev pub IsParseResult : List ℕ → ℕ → Result Value (Stop Error) → Type 0
 IsParseResult text limit (Ok root) =
-    (sections : List ParsedSection) × HasOutcome text limit (resolved sections)
-    × IsAnswerOf text (resolved sections) (Ok root)
+    (sections : List ParsedSection) × (document text limit (Ok sections) × (first_clash (claims sections) ≡ None))
+    × IsTreeOf sections (length text) root
 IsParseResult text limit (Err (stops.Memory e)) = ⊤
 IsParseResult text limit (Err (stops.Fault error)) =
-    ((fault : Fault) × HasOutcome text limit (refused_at fault)
-    × IsAnswerOf text (refused_at fault) (Err (stops.Fault error)))
-    ⊎ ((sections : List ParsedSection) × (clash : NamedClash) × HasOutcome text limit (clashed sections clash)
-    × IsAnswerOf text (clashed sections clash) (Err (stops.Fault error)))
+    ((fault : Fault) × document text limit (Err fault)
+    × (StartsInside text fault.span × (content_of error ≡ fault_content text fault)))
+    ⊎ ((sections : List ParsedSection) × (clash : NamedClash)
+    × (document text limit (Ok sections) × (first_clash (claims sections) ≡ Some clash))
+    × (StartsInside text clash.info.span
+    × (content_of error ≡ content_of_clash clash.info clash.name (line_info text clash.info.span.start))))
 
 -- The same for a result that is a tree, and for one that is an error.
 abbrev pub IsTree : List ℕ → ℕ → Value → Type 0

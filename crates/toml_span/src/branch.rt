@@ -14,13 +14,12 @@ use toml_span_lex::key::Key;
 use toml_span_lex::span::Span;
 use toml_span_tree::{Array, Table, Value, ValueInner};
 
-/// Branches by name. They are boxed to keep the map's leaves small: a leaf has room for fifteen entries.
+/// Branches by name. They are boxed to keep the nodes of the map small.
 pub type Branches<'de> = BTreeMap<Key<'de>, Box<Branch<'de>>>;
 
 /// A table or an array of tables under construction.
 ///
-/// Assigned values are final: `values` holds them as the finished tree will. Only the key spans of their claims are
-/// kept. No name is in both `values` and `tables`.
+/// `values` has the assigned values as the finished tree will have them. No name is in both `values` and `tables`.
 #[derive(Drop)]
 pub struct Branch<'de> {
     /// The claims on this branch.
@@ -29,7 +28,7 @@ pub struct Branch<'de> {
     pub values: Table<'de>,
     /// The tables and arrays of tables that headers and dotted keys created.
     pub tables: Branches<'de>,
-    /// The elements of an array of tables: at least one. Empty if this is a table.
+    /// The elements of an array of tables, at least one; empty if this is a table.
     pub entries: Vec<Branch<'de>>,
 }
 
@@ -78,7 +77,7 @@ fn spans(infos: &[ClaimInfo]) -> (Span, Span)
     }
 }
 
-/// Proves that the names in a table ascend, so that none occurs twice. Does nothing at run time.
+/// Proves that the names in a table ascend, so that no name occurs twice. Does nothing at run time.
 pub(crate) fn in_order(table: &Table<'_>)
     ensures { NamesAscend table.now }
 {
@@ -114,8 +113,8 @@ pub fn into_table<'de>(
     Ok(values)
 }
 
-/// Turns a branch into a value, and leaves the branch empty. Returns the value with the span of its key. Fails if an
-/// allocation fails.
+/// Turns a branch into a value. Returns the span of the value's key, and the value. The branch loses its contents, even
+/// if an allocation fails.
 #[cycle(finish)]
 fn into_value<'de>(node: &mut Branch<'de>) -> Result<(Span, Value<'de>), AllocError>
     ensures { Becomes node.old result }
@@ -132,7 +131,7 @@ fn into_value<'de>(node: &mut Branch<'de>) -> Result<(Span, Value<'de>), AllocEr
     Ok((key_span, Value::with_span(ValueInner::Array(array), span)))
 }
 
-/// Turns the elements of an array of tables into values. Fails if an allocation fails.
+/// Turns the elements of an array of tables into values.
 #[cycle(finish)]
 #[inline(never)]
 fn into_array<'de>(entries: Vec<Branch<'de>>) -> Result<Array<'de>, AllocError>

@@ -46,7 +46,7 @@ pub struct ClaimInfo {
     pub extent: Span,
 }
 
-/// What the claims of all parts of a header share.
+/// The data that the claims of all parts of a header share.
 #[derive(Clone, Copy)]
 pub struct HeaderInfo {
     /// Whether the header has double brackets.
@@ -62,8 +62,8 @@ pub struct HeaderInfo {
 pub enum ClashKind {
     /// A table is defined by two headers, at least one of them in single brackets.
     DuplicateTable,
-    /// A key is assigned twice, a path is both assigned and defined as a table, or a table is defined by both a dotted
-    /// key and a header.
+    /// A path is assigned twice, is both assigned and a table or array of tables, or is both created by a dotted key
+    /// and opened by a header.
     DuplicateKey,
     /// A table that an earlier header passes through is defined as an array of tables.
     RedefineAsArray,
@@ -123,7 +123,7 @@ fn clash_info_of(earlier: ClaimInfo, later: ClaimInfo, kind: ClashKind) -> Clash
 
 /// Returns the clash of two claims on the same path, or `None` if they do not clash.
 fn clash_info_between(earlier: ClaimInfo, later: ClaimInfo) -> Option<ClashInfo>
-    ensures { result ≡ clashes.clash_info_between earlier later }
+    ensures { result ≡ kept.clash_info_between earlier later }
 {
     match clash_kind(earlier.kind, later.kind) {
         Some(kind) => Some(clash_info_of(earlier, later, kind)),
@@ -180,8 +180,8 @@ fn same_kind(a: ClaimKind, b: ClaimKind) -> bool
     a as u8 == b as u8
 }
 
-/// Returns the clash of the claim `later` with the first of `infos` that it clashes with, or `None` if it clashes with
-/// none.
+/// Returns the clash of the claim `later` with the first claim in `infos` that excludes it, or `None` if there is no
+/// clash.
 fn earliest_clash_info(infos: &[ClaimInfo], later: ClaimInfo) -> Option<ClashInfo>
     ensures { result ≡ kept.earliest_clash_info infos.now later }
 {
@@ -205,7 +205,7 @@ fn has_kind(infos: &[ClaimInfo], kind: ClaimKind) -> bool
     false
 }
 
-/// Returns the clash described by `clash_info`, with a copy of the key's name. Fails if an allocation fails.
+/// Returns the clash described by `clash_info`, with a copy of the key's name.
 fn clash_of(alloc: Global, clash_info: ClashInfo, key: &Key<'_>) -> Result<Box<Clash>, AllocError>
     ensures { IfOk result (λ clash. kept.IsClashOver clash.value clash_info (cow_str_bytes key.now.name)) }
 {
@@ -219,8 +219,7 @@ fn clash_of(alloc: Global, clash_info: ClashInfo, key: &Key<'_>) -> Result<Box<C
     )?)
 }
 
-/// Returns the clash described by `clash_info` as an error, or `Stop::Memory` if its copy of the key's name can't be
-/// allocated.
+/// Returns the clash described by `clash_info` as a `PlaceError`.
 #[cold]
 fn place_error(alloc: Global, clash_info: ClashInfo, key: &Key<'_>) -> PlaceError
     ensures { kept.IsErrorOver result clash_info (cow_str_bytes key.now.name) }
@@ -231,8 +230,8 @@ fn place_error(alloc: Global, clash_info: ClashInfo, key: &Key<'_>) -> PlaceErro
     }
 }
 
-/// Checks the claim `info`, on a path whose last key is `key`, against the earlier claims `infos` on that path. Fails
-/// with the clash between `info` and the first of them that clashes with it, or if an allocation for that error fails.
+/// Checks the claim `info` against `infos`, the earlier claims on the same path, whose last key is `key`. Fails with
+/// the clash between `info` and the first claim in `infos` that excludes it, or if an allocation for this error fails.
 #[inline(always)]
 pub fn check_clash(
     alloc: Global,
@@ -248,9 +247,9 @@ pub fn check_clash(
     }
 }
 
-/// Adds the claim `info` to the claims `infos` on a branch, unless a claim of its kind is already among them. Fails
-/// with the clash between `info` and the first of `infos` that clashes with it, or if an allocation fails. `key` is the
-/// last key of the branch's path.
+/// Adds the claim `info` to `infos`, the claims on a branch, unless a claim of the same kind is there already. Fails
+/// with the clash between `info` and the first claim in `infos` that excludes it, or if an allocation fails; `infos` is
+/// then unchanged. `key` is the last key of the branch's path.
 #[inline(never)]
 pub fn record_claim(
     alloc: Global,

@@ -13,11 +13,12 @@ use std::collections::btree_map::Entry;
 use toml_span_lex::key::Key;
 use toml_span_tree::{Array, Table, Value, ValueInner};
 
-/// Follows `parts`, the remaining parts of a section's header, from `table`, and places `value`, the table of the
-/// section, at the path to which they lead. `array` says whether the header has double brackets.
+/// Places `value`, the table of a section, in `table` at the path `parts`, the remaining parts of the section's header.
+/// `array` says whether the header has double brackets.
 ///
-/// Returns `None` if the path leads through anything but tables that headers made, if what it leads to is neither new
-/// nor an array of tables to which the header adds an element, or if an allocation fails. The table is of no use then.
+/// Returns `None` if the path goes through anything but tables that headers made, or if there is a value at the path to
+/// which the header does not append an element. Also returns `None` if an allocation fails. `table` is then
+/// unspecified.
 #[cycle(header_paths)]
 #[inline(always)]
 pub(crate) fn place_table<'de>(
@@ -54,8 +55,8 @@ pub(crate) fn place_table<'de>(
     }
 }
 
-/// Places the table of a section at or below `child`, a value that headers made. `rest` are the parts of the header
-/// after the one that names `child`. Fails like `place_table`.
+/// Places `value`, the table of a section, at the path `rest` below `child`, a value that headers made. If `rest` is
+/// empty, appends `value` to the array `child`. Returns `None` like `place_table`; `child` is then unspecified.
 #[cycle(header_paths)]
 fn pass_value<'de>(
     alloc: Global,
@@ -100,8 +101,8 @@ fn pass_value<'de>(
     }
 }
 
-/// Returns the value for a name that is new, with the table of a section at the path to which `rest` leads, the parts
-/// of the header after that name. Returns `None` if an allocation fails.
+/// Returns the value of a new entry: nested tables along `rest`, the remaining parts of a header, with `value` at the
+/// end or, if `array`, an array whose only element is `value`. Returns `None` if an allocation fails.
 #[cycle(header_paths)]
 fn new_value<'de>(
     alloc: Global,
@@ -111,7 +112,8 @@ fn new_value<'de>(
 ) -> Option<Value<'de>>
     ensures { (text : List ℕ) (h : HeaderInfo) (tail : Claims) (k part : Key)
         → Placed text h tail rest.now array value.entry → IsKeyFor text k part
-        → IfSome result (λ v. MakesEntry text (k, v) (through (λ p. 0) h (simple_key part) (map simple_key rest.now) tail)
+        → IfSome result (λ v. MakesEntry text (k, v)
+        (through (λ p. 0) h (simple_key part) (map simple_key rest.now) tail)
         (counts_after_through (λ p. 0) h (map simple_key rest.now))) }
 {
     let span = value.span;

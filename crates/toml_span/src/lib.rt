@@ -24,7 +24,7 @@ pub use toml_span_typed::{
     read_name, read_table, read_tagged,
 };
 
-/// Helpers that read the fields of a table as values of Rust types.
+/// Helpers for implementations of `Deserialize`.
 pub mod de_helpers {
     pub use toml_span_typed::de_helpers::{
         TableHelper, Unfinished, expected, name_of, parse, parse_with, parsed,

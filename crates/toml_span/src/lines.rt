@@ -11,10 +11,10 @@ use toml_span_read::gaps::{byte_at, gap_end};
 use toml_span_read::sections::{assignment, extent_of, next_line};
 use toml_span_tree::Table;
 
-/// Reads the assignments from `from` up to the next header or the end of the text, and places them in a branch. Returns
-/// the end of the last one, or `from` if there is none, and the offset of the header or of the end of the text.
+/// Reads the assignments from `from` up to the next header or the end of the text, and places them in `node`. Returns
+/// the end of the last assignment (`from` if there is none), and the offset of the header or of the end of the text.
 ///
-/// Returns `None` at the first fault or clash, or if an allocation fails. The branch is of no use then.
+/// Returns `None` at the first fault or clash, or if an allocation fails; `node` is then incomplete.
 pub(crate) fn place_lines<'de>(
     alloc: Global,
     text: &'de str,
@@ -51,7 +51,7 @@ pub(crate) fn place_lines<'de>(
 #[derive(Drop)]
 pub(crate) struct Lines<'de> {
     pub table: Table<'de>,
-    /// The end of the last assignment, or the offset from which the section was read if there is none.
+    /// The end of the last assignment or, if there is none, the offset from which the section was read.
     pub end: usize,
     /// The offset of the next header, or of the end of the text.
     pub next: usize,

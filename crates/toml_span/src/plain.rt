@@ -15,10 +15,10 @@ use toml_span_lex::tokenizer::first_place;
 use toml_span_read::sections::{Header, read_header};
 use toml_span_tree::{Table, Value, ValueInner};
 
-/// Reads the section whose header is at `at`, and places its table below the root. Returns the offset of the next
-/// header, or of the end of the text.
+/// Reads the section whose header is at `at`, and places its table in `root`. Returns the offset of the next header, or
+/// of the end of the text.
 ///
-/// Returns `None` like `plain_tree`. The root is of no use then.
+/// Returns `None` in the cases in which `plain_tree` does; `root` is then unspecified.
 fn add_section<'de>(
     alloc: Global,
     text: &'de str,
@@ -50,10 +50,10 @@ fn add_section<'de>(
     }
 }
 
-/// Returns the tree of a document, which is built while the text is read. `limit` is as in `parse_with_limit`.
+/// Parses a plain document in one pass. `limit` is as in `parse_with_limit`.
 ///
-/// Returns `None` at the first fault, clash or section that it can't place at once, or if an allocation fails. `None`
-/// only means that this fast path does not apply.
+/// Returns `None` at the first fault or clash, at a header that `place_table` does not place, or if an allocation
+/// fails. A slower parser then reads the document.
 pub(crate) fn plain_tree<'de>(alloc: Global, text: &'de str, limit: usize) -> Option<Value<'de>>
     requires some { 1 ≤ limit }
     requires small { limit ≤ depth_limit }

@@ -7,13 +7,13 @@ use std::marker::Model;
 /// A list whose buffer has room for at most this many items keeps its buffer until the list is dropped.
 const SMALL_BLOCK: usize = 4096;
 
-/// The remaining items of a list that is consumed from the front. It frees memory on the way.
+/// An iterator over the items of a list. It frees memory on the way.
 ///
-/// A `Vec` keeps its buffer until it is dropped. This list shrinks the buffer when more than a quarter of it is unused.
-/// Shrinking may move the remaining items, but in total there are fewer than four moves per item of the list.
+/// A `Vec` keeps its buffer until it is dropped. A `Rest` shrinks a large buffer when more than a quarter of it is
+/// unused. Shrinking may move the remaining items, but there are fewer than four moves per item of the list in total.
 #[derive(Drop)]
 pub struct Rest<T> {
-    /// The items in reverse order: the next one is the last of this vector.
+    /// The items in reverse order: the next item is the last of this vector.
     turned: Vec<T>,
 }
 
@@ -26,7 +26,7 @@ impl<T> Model for Rest<T> {
 }
 
 impl<T> Rest<T> {
-    /// Wraps a list, whose items are then returned in order.
+    /// Returns an iterator over the items of a list, in order.
     pub fn new(mut items: Vec<T>) -> Self
         ensures { result ≡ items.items }
     {

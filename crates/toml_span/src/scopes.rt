@@ -11,9 +11,10 @@ ghost use Rattle.toml_span_read.specs.Data.{parsed_span, simple_key as part_of};
 ghost use Rattle.toml_span.specs.code.Borrowed.{IfPairRight, KeepsBorrows, KeepsName, ValueRight, own_elements};
 ghost use Rattle.toml_span.specs.code.Borrowed.{own_table};
 ghost use Rattle.toml_span.specs.Borrowed.{AreBorrowedRight};
-ghost use Rattle.toml_span.specs.Claims.{assignment_claims, item_claims};
+ghost use Rattle.toml_span.specs.Claims.{item_claims};
 ghost use Rattle.toml_span.specs.code.Machine.{OkOrClash, earliest_clash};
-ghost use Rattle.toml_span.specs.code.Placing.{claims_of, PassesPair, Places, ValueGives, ScopeGives};
+ghost use Rattle.toml_span.specs.code.Placing.{assignment_claims, claims_of, PassesPair, Places, ValueGives};
+ghost use Rattle.toml_span.specs.code.Placing.{ScopeGives};
 ghost use Rattle.toml_span.specs.code.Relative.{pair_at};
 ghost use Rattle.toml_span.specs.code.Tree.{child_in, closed_in, closed_infos, counts, child_infos, IsFresh};
 ghost use Rattle.toml_span.specs.declared.scopes.Pending.{Pending};
@@ -44,7 +45,7 @@ fn pair_info(kind: ClaimKind, key: &Key<'_>, span: Span) -> ClaimInfo
     }
 }
 
-/// Fails if the claim `info` clashes with the value in `values` that `key` names, or if an allocation fails.
+/// Fails if the claim `info` clashes with the value in `values` that `key` names.
 fn check_beside_value<'de>(
     alloc: Global,
     values: &Table<'de>,
@@ -66,7 +67,7 @@ fn check_beside_value<'de>(
 }
 
 /// Returns a new branch for `key`, without claims. Fails if the claim `info` clashes with the value in `values` that
-/// `key` names, or if an allocation fails.
+/// `key` names.
 #[inline(never)]
 pub(crate) fn fresh_child<'de>(
     alloc: Global,
@@ -82,7 +83,7 @@ pub(crate) fn fresh_child<'de>(
     Ok(child)
 }
 
-/// Fails if the claim `info` clashes with the branch in `tables` that `key` names, or if an allocation fails.
+/// Fails if the claim `info` clashes with the branch in `tables` that `key` names.
 #[inline(always)]
 fn check_beside_table<'de>(
     alloc: Global,
@@ -101,7 +102,7 @@ fn check_beside_table<'de>(
 
 /// Assigns a value to the name `key` in the branch `node`. `value` is the converted value, or the error of its
 /// conversion; `span` is the span of the value in the text. Fails with the clash of the key or, if the key does not
-/// clash, with the error in `value`, or if an allocation fails.
+/// clash, with the error in `value`.
 #[inline(never)]
 fn assign<'de>(
     alloc: Global,
@@ -135,8 +136,8 @@ fn assign<'de>(
     }
 }
 
-/// A value that is about to be assigned. It is passed by reference to the functions that recurse along a path, so that
-/// it takes no room in their stack frames.
+/// A value that is about to be assigned. Functions that recurse along a path take it by reference, to keep their stack
+/// frames small.
 #[derive(Drop)]
 struct Pending<'de> {
     /// The last part of the key.
@@ -144,8 +145,8 @@ struct Pending<'de> {
     value: Result<Value<'de>, PlaceError>,
 }
 
-/// Assigns the pending value in `node`, the branch to which the inner parts of its key have led. Fails with the first
-/// clash, or if an allocation fails.
+/// Takes the value out of `pending`, and assigns it in `node`. Does nothing if `pending` is `None`. Fails with the
+/// first clash.
 #[inline(never)]
 fn assign_pending<'de>(
     alloc: Global,
@@ -165,12 +166,8 @@ fn assign_pending<'de>(
     }
 }
 
-/// Follows `inner`, the parts of a dotted key before the last, from the branch `node`, and assigns the pending value in
-/// the branch to which they lead. `span` is the span of the value. Fails with the first clash, or if an allocation
-/// fails.
-///
-/// Claims inside an inline table can clash only with each other. Such a clash is reported only if the key to which the
-/// inline table is assigned does not clash, because that key comes first in the text.
+/// Assigns the pending value in the branch to which `inner`, the parts of a dotted key before the last, lead from
+/// `node`. `span` is the span of the value. Fails with the first clash; `node` is then incomplete.
 #[cycle(place_pair)]
 #[inline(always)]
 fn place_pair<'de>(
@@ -198,9 +195,7 @@ fn place_pair<'de>(
     }
 }
 
-/// Claims `child`, the branch that the inner part `part` names, and places the pending value where the inner parts
-/// `rest` lead from there. The branch is boxed, because it is in a map. Fails with the first clash, or if an allocation
-/// fails.
+/// Does the same as `pass_pair` for the boxed branch `child`.
 #[cycle(place_pair)]
 fn pass_child<'de>(
     alloc: Global,
@@ -220,8 +215,8 @@ fn pass_child<'de>(
     pass_pair(alloc, child.as_mut(), part, rest, pending, span)
 }
 
-/// Claims `node`, the branch that the inner part `part` names, and places the pending value where the inner parts
-/// `rest` lead from there. Fails with the first clash, or if an allocation fails.
+/// Claims `node`, the branch that `part` of a dotted key names, as `Dotted`. Then assigns the pending value where the
+/// inner parts `rest` lead from `node`. Fails with the first clash; `node` is then incomplete.
 #[cycle(place_pair)]
 #[inline(always)]
 fn pass_pair<'de>(
@@ -246,7 +241,7 @@ fn pass_pair<'de>(
     place_pair(alloc, node, rest, pending, span)
 }
 
-/// Places one assignment below the branch `node`. Fails with the first clash, or if an allocation fails.
+/// Places one assignment below the branch `node`. Fails with the first clash; `node` is then incomplete.
 #[cycle(value_of)]
 #[inline(always)]
 pub(crate) fn place_one<'de>(
@@ -273,7 +268,7 @@ pub(crate) fn place_one<'de>(
     place_pair(alloc, node, inner.as_slice(), &mut pending, span)
 }
 
-/// Places assignments below the branch `node`, in order. Fails with the first clash, or if an allocation fails.
+/// Places assignments below the branch `node`, in order. Fails with the first clash; `node` is then incomplete.
 #[cycle(value_of)]
 fn place_pairs<'de>(
     alloc: Global,
@@ -291,7 +286,7 @@ fn place_pairs<'de>(
 }
 
 /// Places the assignments of a section, in order, below `node`, the branch of the section. Frees a long list while it
-/// is consumed. Fails with the first clash, or if an allocation fails.
+/// is consumed. Fails with the first clash; `node` is then incomplete.
 pub(crate) fn place_all<'de>(
     alloc: Global,
     pairs: Vec<Assignment<'de>>,
@@ -310,8 +305,7 @@ pub(crate) fn place_all<'de>(
     Ok(())
 }
 
-/// Returns the table that an inline table with these pairs defines. Fails with the first clash, or if an allocation
-/// fails.
+/// Returns the table that an inline table with these pairs defines. Fails with the first clash.
 #[cycle(value_of)]
 fn table_of<'de>(alloc: Global, pairs: Vec<Assignment<'de>>) -> Result<Table<'de>, PlaceError>
     ensures scope { ScopeGives result (λ t. inner_view (inners.Table t)) (claims_of pairs.entry.items) }
@@ -323,8 +317,7 @@ fn table_of<'de>(alloc: Global, pairs: Vec<Assignment<'de>>) -> Result<Table<'de
     Ok(into_table(scope.tables, scope.values)?)
 }
 
-/// Converts the elements of an array into values of the tree. Fails with the first clash in one of them, or if an
-/// allocation fails.
+/// Converts the elements of an array into values of the tree. Fails with the first clash inside an element.
 #[cycle(value_of)]
 fn array_of<'de>(alloc: Global, elements: Vec<Val<'de>>) -> Result<Array<'de>, PlaceError>
     ensures scope { ScopeGives result (λ xs. inner_view (inners.Array xs))
@@ -339,8 +332,7 @@ fn array_of<'de>(alloc: Global, elements: Vec<Val<'de>>) -> Result<Array<'de>, P
     Ok(array)
 }
 
-/// Converts a value, as it was read, into a value of the tree. Fails with the first clash inside it, or if an
-/// allocation fails.
+/// Converts a value that was read into a value of the tree. Fails with the first clash inside the value.
 #[cycle(value_of)]
 #[inline(always)]
 fn value_of<'de>(alloc: Global, val: Val<'de>) -> Result<Value<'de>, PlaceError>

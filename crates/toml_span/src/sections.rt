@@ -52,9 +52,8 @@ fn claim_kind(head: HeaderInfo, rest: &[Key<'_>]) -> ClaimKind
     }
 }
 
-/// Follows `parts`, the remaining parts of a section's header, from the branch `node`, and places the section in the
-/// branch to which they lead. `pairs` are the assignments of the section. Fails with the first clash, or if an
-/// allocation fails.
+/// Places a section with the assignments `pairs` in the branch to which `parts`, the remaining parts of its header,
+/// lead from `node`. Fails with the first clash; `node` is then incomplete.
 #[cycle(place_section)]
 #[inline(always)]
 fn place_section<'de>(
@@ -81,8 +80,7 @@ fn place_section<'de>(
     }
 }
 
-/// Places a section, where `child` is the branch that `part` of its header names, and `rest` are the parts after
-/// `part`. The branch is boxed, because it is in a map. Fails with the first clash, or if an allocation fails.
+/// Does the same as `pass_header` for the boxed branch `child`.
 #[cycle(place_section)]
 fn pass_child<'de>(
     alloc: Global,
@@ -99,9 +97,9 @@ fn pass_child<'de>(
     pass_header(alloc, child.as_mut(), part, rest, head, pairs)
 }
 
-/// Places a section, where `node` is the branch that `part` of its header names, and `rest` are the parts after `part`.
-/// If `rest` is not empty and the branch is an array of tables, the path goes on in the latest element of the array
-/// (TOML 1.1, Array of Tables). Fails with the first clash, or if an allocation fails.
+/// Places a section at or below `node`, the branch that `part` of its header names. `rest` are the parts after `part`.
+/// In an array of tables, they lead on from the latest element (TOML 1.1, Array of Tables). Fails with the first clash;
+/// `node` is then incomplete.
 #[cycle(place_section)]
 #[inline(always)]
 fn pass_header<'de>(
@@ -125,9 +123,8 @@ fn pass_header<'de>(
     }
 }
 
-/// Claims `node` as a table through which the header passes, and places the section where the parts `rest` lead from
-/// there. `node` is the branch or array element to which `part` of the header leads. Fails with the first clash, or if
-/// an allocation fails.
+/// Claims `node`, the branch or array element to which `part` of a header leads, as `Passed`. Then places the section
+/// where the parts `rest` lead from `node`. Fails with the first clash; `node` is then incomplete.
 #[cycle(place_section)]
 fn descend<'de>(
     alloc: Global,
@@ -150,8 +147,8 @@ fn descend<'de>(
     place_section(alloc, node, rest, head, pairs)
 }
 
-/// Claims `node`, which `part` of the header names, as `kind`, and places the section's assignments under `node`. Fails
-/// with the first clash, or if an allocation fails.
+/// Claims `node`, which `part` of the header names, as `kind`, and places the section's assignments in `node`. Fails
+/// with the first clash; `node` is then incomplete.
 #[inline(always)]
 fn open_table<'de>(
     alloc: Global,
@@ -170,8 +167,8 @@ fn open_table<'de>(
     place_all(alloc, pairs, node)
 }
 
-/// Appends an element with these assignments to the array of tables `node`, which `part` of the header names. Fails
-/// with the first clash, or if an allocation fails.
+/// Appends an element with the assignments `pairs` to the array of tables `node`, which `part` of the header names.
+/// Fails with the first clash; `node` is then unchanged.
 fn add_entry<'de>(
     alloc: Global,
     node: &mut Branch<'de>,
@@ -197,9 +194,9 @@ fn add_entry<'de>(
     Ok(())
 }
 
-/// Claims `node` as a table or, if the header has double brackets, as an array of tables. `part` is the last part of
-/// the header, which names `node`. Places the assignments of the section in the table, or in a new element of the
-/// array. Fails with the first clash, or if an allocation fails.
+/// Claims `node`, which the last part of the header names, as a table or, if the header has double brackets, as an
+/// array of tables. Places the section's assignments in the table, or in a new element of the array. Fails with the
+/// first clash; `node` is then incomplete.
 #[inline(never)]
 fn end_header<'de>(
     alloc: Global,
@@ -223,7 +220,7 @@ fn end_header<'de>(
     add_entry(alloc, node, part, head, pairs)
 }
 
-/// Places a section below the root of a tree. Fails with the first clash, or if an allocation fails.
+/// Places a section in the tree under `root`. Fails with the first clash; the tree is then incomplete.
 fn place<'de>(
     alloc: Global,
     root: &mut Branch<'de>,
@@ -251,7 +248,7 @@ fn place<'de>(
 /// The tree of the sections read so far, or their first clash.
 #[derive(Drop)]
 pub(crate) struct Assembly<'de> {
-    /// The tree, if nothing clashes.
+    /// The tree; incomplete if there is a clash.
     root: Branch<'de>,
     /// The first clash, if there is one.
     clash: Option<Box<Clash>>,
@@ -273,7 +270,7 @@ impl<'de> Assembly<'de> {
 }
 
 /// Places the next section, or drops it if the assembly has a clash already. If the section clashes, the assembly keeps
-/// the clash. Fails only if an allocation fails.
+/// the clash. If an allocation fails, the tree is incomplete.
 pub(crate) fn add_section<'de>(
     alloc: Global,
     assembly: &mut Assembly<'de>,
@@ -299,8 +296,7 @@ pub(crate) fn add_section<'de>(
     }
 }
 
-/// Returns the assembly of the section before the first header, or an empty assembly without such a section. Fails if
-/// an allocation fails.
+/// Returns the assembly of the section before the first header, or an empty assembly if `first` is `None`.
 pub(crate) fn begin<'de>(
     alloc: Global,
     first: Option<Section<'de>>,
@@ -322,7 +318,7 @@ pub(crate) fn begin<'de>(
 }
 
 /// Returns the finished root. Its span is 0..`length`, where `length` is the length of the document in bytes. Fails
-/// with the first clash, or if an allocation fails.
+/// with the first clash.
 pub(crate) fn finish<'de>(assembly: Assembly<'de>, length: usize) -> Result<Value<'de>, PlaceError>
     ensures assembles { (bs : List ParsedSection) → IsAssemblyOf bs assembly.entry → Assembles bs length result }
     ensures root { IfOk result (IsRoot length) }

@@ -7,7 +7,8 @@ use Rattle.toml_span_tree.specs.Path.{shape_of}
 use Rattle.toml_span_tree.specs.Value.{inner_of, span_of, view}
 use Rattle.toml_span_tree.specs.declared.value.Value.{Value}
 use Rattle.toml_span_read.specs.Data.{ParsedSection, depth_limit}
-use Rattle.toml_span.specs.Parsing.{HasOutcome, IsTree, resolved}
+use Rattle.toml_span.specs.Parsing.{IsTree}
+use Rattle.toml_span_laws.specs.Outcomes.{HasOutcome, resolved}
 use Rattle.toml_span_places.specs.Literals.{literal_span}
 use Rattle.toml_span_places.specs.declared.replace.ReplaceError.{ReplaceError}
 use Rattle.toml_span_places.specs.Replace.{edited, replaced, first_fault, if_right}

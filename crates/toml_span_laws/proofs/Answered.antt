@@ -17,8 +17,8 @@ use Rattle.toml_span_laws.proofs.WiderDocument.{document_wider}
 use Rattle.toml_span_laws.proofs.OneSpelled.{same_read, not_reported}
 use Rattle.toml_span.specs.Claims.{claims}
 use Rattle.toml_span.specs.Clashes.{NamedClash, first_clash}
-use Rattle.toml_span.specs.Parsing.{Outcome, resolved, clashed, refused_at, HasOutcome, IsAnswerOf, IsParseResult, IsTree, IsRefusal}
-use Rattle.toml_span_laws.specs.Outcomes.{IsAlike}
+use Rattle.toml_span.specs.Parsing.{IsParseResult, IsTree, IsRefusal}
+use Rattle.toml_span_laws.specs.Outcomes.{IsAlike, Outcome, resolved, clashed, refused_at, HasOutcome, IsAnswerOf}
 use Rattle.toml_span_laws.proofs.FirstClash.{cases_option}
 use Rattle.toml_span_laws.proofs.OneTree.{node-one}
 

@@ -11,11 +11,11 @@ use Rattle.toml_span.specs.declared.claims.ClaimKind.TheVariants.{Passed, Standa
 use Rattle.toml_span.specs.Paths.{same_path, enter, target, opened_by}
 use Rattle.toml_span.specs.Claims.{Claim, Claims, no_claims, claimed, table_claim, followed, key_claims, value_claims, inner_claims, item_claims, pair_claims, assignments_claims, end_claims, header_claims, section_claims, claims_after, claims}
 use Rattle.toml_span.specs.Clashes.{Resolves, clash, clash_among, clash_after}
-use Rattle.toml_span.specs.Flat.{all_claims, claims_at, flat}
+use Rattle.toml_span.specs.Flat.{all_claims, flat}
 
 -- what the example evaluates
 computed : ⊤
-unfolding same_path enter target opened_by followed key_claims value_claims inner_claims item_claims pair_claims assignments_claims end_claims header_claims section_claims claims_after clash clash_among clash_after all_claims claims_at flat
+unfolding same_path enter target opened_by followed key_claims value_claims inner_claims item_claims pair_claims assignments_claims end_claims header_claims section_claims claims_after clash clash_among clash_after all_claims flat
 computed = tt
 
 -- ---- how sections are written

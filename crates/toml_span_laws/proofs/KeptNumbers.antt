@@ -343,14 +343,14 @@ module _ (a : List ℕ) (i J : ℕ) (whole : MaximalRun is_date_byte a i J) wher
   abbrev EndsInside : Numeral × ℕ → Type 0
   EndsInside p = p.1 ≤ J
 
-  finite_walk : (f : List ℕ → Result ℕ Fault) → Walk f (λ z. z ≤ J) → Walk (λ b. spec.finite (f b)) EndsInside
+  finite_walk : (f : List ℕ → Result ℕ Fault) → Walk f (λ z. z ≤ J) → Walk (λ b. f b >>= (λ j. Ok (numerals.Finite, j))) EndsInside
   finite_walk f h = walk_bind h (λ z u. walk_ok (numerals.Finite, z) u)
 
   decimal_walk : (s x y : ℕ) → Inside s → Inside x → Inside y → Walk (λ b. decimal b s x y) EndsInside
   unfolding decimal
   decimal_walk s x y p q r =
       let o = sign_in x q.1 in
-      walk_at (λ b. after_sign b x) (λ b z. integer_part b x z y >>= (λ m. if nat_lt m y then (if is_exponent (get_or b m 0) then spec.finite (exponent b x y m y) else Err (invalid_number x y)) else if get_or b y 0 == 46 then spec.finite (fraction b s x y) else spec.integer 10 b (is_negative b x) x z y >>= (λ n. Ok (numerals.Integer n, y)))) (sign_same x q.1)
+      walk_at (λ b. after_sign b x) (λ b z. integer_part b x z y >>= (λ m. if nat_lt m y then (if is_exponent (get_or b m 0) then exponent b x y m y >>= (λ j. Ok (numerals.Finite, j)) else Err (invalid_number x y)) else if get_or b y 0 == 46 then fraction b s x y >>= (λ j. Ok (numerals.Finite, j)) else spec.integer 10 b (is_negative b x) x z y >>= (λ n. Ok (numerals.Integer n, y)))) (sign_same x q.1)
       (walk_bind (part_walk x (after_sign a x) y q.0 o.0 o.1)
       (λ m u. walk_if (λ b. nat_lt m y) _ _ (λ b w. refl)
       (λ c. walk_if (λ b. is_exponent (get_or b m 0)) _ (λ b. Err (invalid_number x y)) (byte_same is_exponent m (omega (arith, u.1)))

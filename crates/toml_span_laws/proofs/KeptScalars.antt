@@ -12,7 +12,7 @@ use Rattle.toml_span_read.specs.Numbers.{IsNumber}
 use Rattle.toml_span_read.specs.Numerals.{run_end, special, number}
 use Rattle.toml_span_read.specs.Read.{run_at, word, number_or_word}
 use Rattle.toml_span_read.specs.Read as read
-use Rattle.toml_span_tree.specs.Date.{IsDateText}
+use Rattle.toml_span_tree.specs.Date.{is_date_text}
 use Rattle.toml_span_read.proofs.NumberComplete.{number_complete}
 use Rattle.toml_span_read.proofs.NumberLemmas.{bool_cases, run_found, run_is}
 use Rattle.toml_span_read.proofs.NumberReads.{number_on}
@@ -176,7 +176,7 @@ bare_found a i r h (inl (t, (j, c, d))) =
     let o = candidate_stops a i j c in
     (j, (date_told d).0, λ n reach. (let p = (date_told d).1 n reach in (past_less o.0 p, λ b w. inl (sym (date_same w i j p.here o.0 o.1) ∙ t, (j, candidate w i j p c, rw (range w i j (omega (arith, p.here))) at d)))))
   where
-    date_told : (IsDateText (slice_range a i j) × (r ≡ Ok (datetime (slice_range a i j), j))) ⊎ ((IsDateText (slice_range a i j) → ⊥) × (r ≡ Err (record { kind = kinds.InvalidDatetime; span = from_to i j }))) → ScalarTold a r j × ((n : ℕ) → Reach a r j n → Past a n j)
+    date_told : read.choice (is_date_text (slice_range a i j)) (read.gives (Ok (datetime (slice_range a i j), j))) (read.gives (Err (record { kind = kinds.InvalidDatetime; span = from_to i j }))) r → ScalarTold a r j × ((n : ℕ) → Reach a r j n → Past a n j)
     date_told (inl (x, e)) = rw e (refl, λ n p. p)
     date_told (inr (x, e)) = rw e (refl, λ n is. past_two (omega (arith, is)))
 bare_found a i r h (inr (t, e)) =

@@ -161,7 +161,7 @@ module _ (text : List ℕ) (i : ℕ) where
 
   -- ---- numbers
 
-  finite_rows : (r : Result ℕ Fault) → Rows r → Rows (spec.finite r)
+  finite_rows : (r : Result ℕ Fault) → Rows r → Rows {A = Numeral × ℕ} (r >>= (λ j. Ok (numerals.Finite, j)))
   finite_rows r h = rows_bind r _ h (λ x e. fine (numerals.Finite, x))
 
   decimal_rows : (a b : ℕ) → FirstRun text i a b → radix_at text a ≡ None → Rows (decimal text i a b)

@@ -6,7 +6,8 @@ use Rattle.toml_span_tree.specs.Error.{content_of}
 use Rattle.toml_span_tree.specs.declared.error.Error.{Error}
 use Rattle.toml_span.specs.Claims.{claims}
 use Rattle.toml_span.specs.Flat.{flat}
-use Rattle.toml_span.specs.Parsing.{IsRefusal, resolved}
+use Rattle.toml_span.specs.Parsing.{IsRefusal}
+use Rattle.toml_span_laws.specs.Outcomes.{resolved}
 use Rattle.toml_span_laws.proofs.Answered.{sections-one, decides, one-refusal}
 use Rattle.toml_span_lines.specs.Lines.{error_line}
 use Rattle.toml_span_lines.specs.Run.{bound, IsShown, IsAnswer, Runs}

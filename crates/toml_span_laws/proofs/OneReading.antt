@@ -142,7 +142,7 @@ one_part text i j a n b c = grind (arith, nat_tests, common_steps)
 -- ---- values without brackets
 
 date_one : (text : List ℕ) (i : ℕ) → One (read.date text i)
-date_one text i = one_given (grind (arith, nat_tests, common_steps, one_either, one_part, run_unique)) (λ j. one_either (one_where one_is) (one_where one_is) (λ r s is none. none.0 is.0))
+date_one text i = one_given (grind (arith, nat_tests, common_steps, one_either, one_part, run_unique)) (λ j. one_choice one_is one_is)
 
 bare_one : (text : List ℕ) (i : ℕ) → One (read.bare text i)
 bare_one text i = one_choice (date_one text i) one_is

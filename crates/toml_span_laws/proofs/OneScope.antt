@@ -6,10 +6,10 @@ use Rattle.toml_span_read.specs.Data.{ParsedSection}
 use Rattle.toml_span_read.specs.Grammar.{SpellsDocument}
 use Rattle.toml_span.specs.declared.claims.ClaimKind.TheVariants.{Passed, TableElement, Assigned}
 use Rattle.toml_span.specs.Claims.{Claim, Claims, no_claims, claimed, scope, claims}
-use Rattle.toml_span.specs.Flat.{by_header, all_claims, claims_at, deciding_claim}
+use Rattle.toml_span.specs.Flat.{by_header, all_claims, deciding_claim}
 use Rattle.toml_span.specs.Paths.{same_path}
 use Rattle.toml_span.proofs.Grafts.{same_step-self}
-use Rattle.toml_span.proofs.EachClaim.{same_path-eq}
+use Rattle.toml_span.proofs.EachClaim.{same_path-eq, claims_at}
 use Rattle.toml_span.proofs.Refusals.{spelled-headed}
 use Rattle.toml_span_laws.proofs.Apart.{in-cases, Pairs, in-left, in-right, pairs-join, pairs-split}
 use Rattle.toml_span_laws.proofs.FirstClash.{cases_option, IsFree, AreFree, are-free}
@@ -17,7 +17,8 @@ use Rattle.toml_span_laws.proofs.Scoped.{Has, Scoped, document-scoped, passed-en
 use Rattle.toml_span.specs.declared.claims.ClashKind.{ClashKind}
 use Rattle.toml_span.specs.declared.claims.ClashKind.TheVariants.{DuplicateKey}
 use Rattle.toml_span.specs.declared.claims.ClaimKind.{ClaimKind}
-use Rattle.toml_span.specs.Clashes.{with_name, clash_kind, clash_info, clash, Resolves}
+use Rattle.toml_span.specs.Clashes.{clash_kind, clash_info, clash, Resolves}
+use Rattle.toml_span.specs.code.ClaimInfos.{with_name}
 use Rattle.toml_span_laws.specs.Clashing.{IsIn, DoClash, own, ShareScope}
 use Rattle.toml_span_laws.proofs.FirstPair.{free-clash}
 
@@ -25,11 +26,6 @@ pub path-self : (p : Path) → same_path p p ≡ true
 unfolding same_path
 path-self [] = refl
 path-self (s ∷ p) = rw (same_step-self s, path-self p)
-
-pub at-append : (q : Path) (xs ys : List Claim) → claims_at q (xs ++ ys) ≡ claims_at q xs ++ claims_at q ys
-unfolding claims_at
-at-append q [] ys = refl
-at-append q (c ∷ xs) ys = grind (arith, nat_tests, common_steps, at-append q xs ys)
 
 -- ---- headers that pass through
 
@@ -64,7 +60,6 @@ scoped-entered p n S base earlier (Some a) (scope inner cs) scoped f =
 
 -- the first header does not pass through
 first-passes : (q : Path) (S : Type 0) (l : List Claim) (c : Claim) → Entered q S l → find (λ c. by_header c.info.kind) (claims_at q l) ≡ Some c → c.info.kind ≡ Passed → S
-unfolding claims_at
 first-passes q S [] c h is passed = absurd (none-some c is)
 first-passes q S (x ∷ l) c h is passed =
     let T = S ⊎ ((x.info.kind ≡ TableElement) × (x.path ≡ q)) in

@@ -11,7 +11,8 @@ use Rattle.toml_span_read.proofs.KeyOrder.{dotted_ascend}
 use Rattle.toml_span_read.proofs.SpanLaws.{value_lies}
 use Rattle.toml_span.specs.declared.claims.ClaimKind.TheVariants.{Passed, TableElement}
 use Rattle.toml_span.specs.declared.claims.HeaderInfo.{HeaderInfo}
-use Rattle.toml_span.specs.Claims.{Claim, Claims, no_claims, claimed, scope, followed, key_claims, value_claims, inner_claims, item_claims, pair_claims, assignment_claims, assignments_claims, element, dotted, header_info, header_claim, end_claims, header_claims, section_claims, claims_after, claims}
+use Rattle.toml_span.specs.Claims.{Claim, Claims, no_claims, claimed, scope, followed, key_claims, value_claims, inner_claims, item_claims, pair_claims, assignments_claims, element, dotted, header_info, header_claim, end_claims, header_claims, section_claims, claims_after, claims}
+use Rattle.toml_span.specs.code.Placing.{assignment_claims}
 use Rattle.toml_span.specs.Flat.{all_claims}
 use Rattle.toml_span_laws.specs.Order.{claim_start, Follows, Ascends}
 use Rattle.toml_span.specs.Paths.{with_key, with_position, enter, elements_added, opened_by, section_path}

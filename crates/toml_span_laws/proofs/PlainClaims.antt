@@ -5,8 +5,10 @@ use Rattle.toml_span_lex.proofs.Common.{◌≡◌, ℕ, zero, suc, Bool, true, f
 use Rattle.toml_span_tree.specs.Path.{Path, Place, Shape, shape_scalar}
 use Rattle.toml_span_read.specs.Data.{SimpleKey, ParsedValue, parsed, scalar, array, inline, ParsedItems, no_items, item, ParsedPairs, no_pairs, pair, ParsedAssignment, ParsedSection}
 use Rattle.toml_span.specs.Claims.{Claim, Claims, no_claims, claimed, scope, followed, dotted, assigned, element, key_claims, value_claims, inner_claims, item_claims, pair_claims, assignments_claims, header_info, header_claim, array_claims, end_claims, header_claims, section_claims, claims_after, claims}
-use Rattle.toml_span.specs.Clashes.{NamedClash, with_name, clash_info, clash_kind, clash, clash_among, clash_after, Resolves}
-use Rattle.toml_span.specs.Flat.{all_claims, claims_at, by_header, deciding_claim, flat}
+use Rattle.toml_span.specs.Clashes.{NamedClash, clash_info, clash_kind, clash, clash_among, clash_after, Resolves}
+use Rattle.toml_span.specs.code.ClaimInfos.{with_name}
+use Rattle.toml_span.specs.Flat.{all_claims, by_header, deciding_claim, flat}
+use Rattle.toml_span.proofs.EachClaim.{claims_at}
 use Rattle.toml_span.specs.Paths.{same_path, with_key, with_position, enter, target, opened_by, elements_added, section_path}
 use Rattle.toml_span.specs.declared.claims.ClaimInfo.{ClaimInfo}
 use Rattle.toml_span.specs.declared.claims.ClaimKind.{ClaimKind}
@@ -153,7 +155,7 @@ abbrev plain_clash : NamedClash → NamedClash
 plain_clash t = record { info = record { kind = t.info.kind; first = no_span; span = no_span }; name = t.name }
 
 clash_cases : (x y : ClaimInfo) (name : List ℕ) (b : Bool) (o : Option ClashKind)
-    → (if b then option_map (with_name name) (option_map (clash_info (plain_info x) (plain_info y)) o) else None) ≡ option_map plain_clash (if b then option_map (with_name name) (option_map (clash_info x y) o) else None)
+    → (if b then option_map (λ kind. with_name name (clash_info (plain_info x) (plain_info y) kind)) o else None) ≡ option_map plain_clash (if b then option_map (λ kind. with_name name (clash_info x y kind)) o else None)
 clash_cases x y name false o = refl
 clash_cases x y name true None = refl
 clash_cases x y name true (Some DuplicateTable) = refl
@@ -193,7 +195,6 @@ all_plain c (claimed x cs) = ap (λ l. plain_claim c x ∷ l) (all_plain c cs)
 all_plain c (scope inner cs) = rw (all_plain c inner, all_plain c cs) (sym (map-append (plain_claim c) (all_claims inner) (all_claims cs)))
 
 at_plain : (c : Change) (p : Path) (xs : List Claim) → claims_at p (map (plain_claim c) xs) ≡ map (plain_claim c) (claims_at p xs)
-unfolding claims_at
 at_plain c p [] = refl
 at_plain c p (x ∷ xs) = elim (cases_Bool (same_path x.path p)) [
   | inl here ↦ rw (here, at_plain c p xs) refl

@@ -10,9 +10,10 @@ use Rattle.toml_span_laws.specs.Again.{ScalarReadsAgain}
 use Rattle.toml_span_read.specs.Data.{ParsedValue, parsed, scalar, array, inline, parsed_span, ParsedSection}
 use Rattle.toml_span_read.specs.Grammar.{SpellsDocument}
 pub use Rattle.toml_span_laws.proofs.AgainLaws.{at-span, scalar-again}
-use Rattle.toml_span.specs.Claims.{Claim, parsed_inner, value_shape, claims, Claims, no_claims, claimed, scope, followed, value_claims}
+use Rattle.toml_span.specs.Claims.{Claim, value_shape, claims, Claims, no_claims, claimed, scope, followed, value_claims}
 use Rattle.toml_span.specs.Flat.{flat}
-use Rattle.toml_span.specs.Parsing.{IsTree, IsTreeOf, HasOutcome, resolved}
+use Rattle.toml_span.specs.Parsing.{IsTree, IsTreeOf}
+use Rattle.toml_span_laws.specs.Outcomes.{HasOutcome, resolved}
 use Rattle.toml_span.proofs.EachClaim.{flat-decides}
 use Rattle.toml_span_laws.proofs.SpelledClaims.{Spelled, OfText, document-of_text, AllSpelled, Assigns, Makes, document-spelled}
 use Rattle.toml_span.specs.declared.claims.ClaimKind.TheVariants.{Assigned}
@@ -28,7 +29,7 @@ use Rattle.toml_span_laws.proofs.StringLaws.{span_cuts, unchanged}
 abbrev pub HasScalar : List ℕ → ℕ → List ParsedSection → Scalar → Span → Type 0
 HasScalar text limit bs s span = Spelled text limit bs (parsed (scalar s) span)
 
-of-value : (text : List ℕ) (limit : ℕ) (bs : List ParsedSection) (s : Scalar) (v : ParsedValue) (span : Span) → Spelled text limit bs v → value_shape (parsed_inner v) ≡ shape_scalar s → span ≡ parsed_span v → HasScalar text limit bs s span
+of-value : (text : List ℕ) (limit : ℕ) (bs : List ParsedSection) (s : Scalar) (v : ParsedValue) (span : Span) → Spelled text limit bs v → value_shape v ≡ shape_scalar s → span ≡ parsed_span v → HasScalar text limit bs s span
 of-value text limit bs s (parsed (scalar t) at) span h e f = let same : t ≡ s = cc in rw (f, sym same) h
 of-value text limit bs s (parsed (array vs) at) span h e f = absurd (cc)
 of-value text limit bs s (parsed (inline ps) at) span h e f = absurd (cc)
@@ -70,7 +71,7 @@ spelled-again text limit bs (parsed (array vs) span) h = at-span (parsed (array 
 spelled-again text limit bs (parsed (inline ps) span) h = at-span (parsed (inline ps) span) text limit h.depth h.from h.to h.deep h.spells h.spells.1.1
 
 claim-again : (text : List ℕ) (limit : ℕ) (bs : List ParsedSection) (c : Claim) (cs : Claims) → ((a : Assigns text limit bs c) × (rest : Claims) × (cs ≡ followed (value_claims a.value c.path) rest)) ⊎ Makes c → c.info.kind ≡ Assigned
-    → (v : ParsedValue) × (rest : Claims) × ValueReadsAgain text limit v × (c.place.shape ≡ value_shape (parsed_inner v)) × (c.place.span ≡ parsed_span v) × (cs ≡ followed (value_claims v c.path) rest)
+    → (v : ParsedValue) × (rest : Claims) × ValueReadsAgain text limit v × (c.place.shape ≡ value_shape v) × (c.place.span ≡ parsed_span v) × (cs ≡ followed (value_claims v c.path) rest)
 claim-again text limit bs c cs (inl (a, rest, beyond)) is = (a.value, rest, spelled-again text limit bs a.value a.spelled, a.shape, a.span, beyond)
 claim-again text limit bs c cs (inr made) is = absurd (made.kind is)
 

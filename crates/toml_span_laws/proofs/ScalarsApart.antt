@@ -13,7 +13,7 @@ use Rattle.toml_span_read.proofs.ReadSound.{document_sound}
 use Rattle.toml_span_read.proofs.SpanLaws.{value_lies}
 use Rattle.toml_span.specs.declared.claims.ClaimKind.{ClaimKind}
 use Rattle.toml_span.specs.declared.claims.ClaimKind.TheVariants.{Passed, StandardTable, ArrayOfTables, TableElement, Dotted, Assigned}
-use Rattle.toml_span.specs.Claims.{shape_claimed, Claim, Claims, no_claims, claimed, scope, followed, key_claims, value_claims, inner_claims, item_claims, pair_claims, assignments_claims, header_info, header_claims, section_claims, claims_after, claims, value_shape, parsed_inner}
+use Rattle.toml_span.specs.Claims.{shape_claimed, Claim, Claims, no_claims, claimed, scope, followed, key_claims, value_claims, inner_claims, item_claims, pair_claims, assignments_claims, header_info, header_claims, section_claims, claims_after, claims, value_shape}
 use Rattle.toml_span.specs.Flat.{all_claims, flat}
 use Rattle.toml_span.specs.Parsing.{IsTree}
 use Rattle.toml_span.specs.Paths.{with_key, with_position, elements_added, opened_by, section_path}
@@ -38,7 +38,7 @@ abbrev spot_of : Claim → List ℕ
 spot_of c = spot c.place.shape c.place.span
 
 abbrev value_spot : ParsedValue → List ℕ
-value_spot v = spot (value_shape (parsed_inner v)) (parsed_span v)
+value_spot v = spot (value_shape v) (parsed_span v)
 
 abbrev spots : List Claim → List ℕ
 spots [] = []

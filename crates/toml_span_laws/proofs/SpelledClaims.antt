@@ -7,7 +7,7 @@ use Rattle.toml_span_read.specs.Data.{SimpleKey, ParsedValue, parsed, scalar, ar
 use Rattle.toml_span.specs.declared.claims.ClaimKind.{ClaimKind}
 use Rattle.toml_span.specs.declared.claims.ClaimKind.TheVariants.{Passed, StandardTable, ArrayOfTables, TableElement, Assigned}
 use Rattle.toml_span.specs.declared.claims.HeaderInfo.{HeaderInfo}
-use Rattle.toml_span.specs.Claims.{Claim, Claims, no_claims, claimed, scope, header_claim, array_claims, end_claims, header_claims, followed, shape_claimed, value_shape, parsed_inner, element, key_claims, value_claims, inner_claims, item_claims, pair_claims, assignments_claims, section_claims, claims_after, claims, header_info}
+use Rattle.toml_span.specs.Claims.{Claim, Claims, no_claims, claimed, scope, header_claim, array_claims, end_claims, header_claims, followed, shape_claimed, value_shape, element, key_claims, value_claims, inner_claims, item_claims, pair_claims, assignments_claims, section_claims, claims_after, claims, header_info}
 use Rattle.toml_span.specs.Flat.{by_header}
 use Rattle.toml_span.specs.Paths.{with_key, with_position, enter, elements_added, opened_by, section_path}
 use Rattle.toml_span_tree.specs.Node.{Scalar}
@@ -62,7 +62,7 @@ pub record Spelled (text : List ℕ) (limit : ℕ) (bs : List ParsedSection) (v 
 pub record Assigns (text : List ℕ) (limit : ℕ) (bs : List ParsedSection) (c : Claim) : Type 0 where
   pub value : ParsedValue
   pub spelled : Spelled text limit bs value
-  pub shape : c.place.shape ≡ value_shape (parsed_inner value)
+  pub shape : c.place.shape ≡ value_shape value
   pub span : c.place.span ≡ parsed_span value
 
 -- the claim does not assign: it creates a table or an array

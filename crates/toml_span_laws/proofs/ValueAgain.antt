@@ -1,17 +1,18 @@
 -- An array in brackets or an inline table is a document of its own, which has the same places below its only key as the
 -- value has below its path.
 use Rattle.std.specs.Option.{option_or}
+use Rattle.std.proofs.lemmas.List.Elements.{filter-append}
 use Rattle.toml_span_lex.proofs.Common.{◌≡◌, ℕ, List, [], ◌∷◌, ◌++◌, Option, Some, None, refl, sym, ap, ◌∙◌, subst, append-nil, inl, inr, cases_Bool, arith, nat_tests, common_steps, suc, option_map, append_assoc, append_cancel_left, length, codes, find, slice_get}
 use Rattle.toml_span_tree.specs.Node.{Scalar}
 use Rattle.toml_span_tree.specs.Path.{Path, shape_scalar, Step, key, position, Place, place_at}
 use Rattle.toml_span_read.specs.Data.{ParsedValue, parsed, scalar, array, inline, parsed_span, ParsedSection, ParsedItems, no_items, item, ParsedPairs, no_pairs, pair, headerless_section, SimpleKey}
 use Rattle.toml_span_read.specs.Grammar.{SpellsDocument}
 use Rattle.toml_span.specs.declared.claims.ClaimKind.TheVariants.{Assigned}
-use Rattle.toml_span.specs.Claims.{Claim, Claims, no_claims, claimed, scope, followed, value_claims, inner_claims, item_claims, pair_claims, value_shape, parsed_inner, claims, key_claims, element, assigned, dotted, assignments_claims, header_claims, section_claims, claims_after}
+use Rattle.toml_span.specs.Claims.{Claim, Claims, no_claims, claimed, scope, followed, value_claims, inner_claims, item_claims, pair_claims, value_shape, claims, key_claims, element, assigned, dotted, assignments_claims, header_claims, section_claims, claims_after}
 use Rattle.toml_span.specs.Clashes.{Resolves, clash_kind}
-use Rattle.toml_span.specs.Flat.{by_header, all_claims, claims_at, deciding_claim, flat}
+use Rattle.toml_span.specs.Flat.{by_header, all_claims, deciding_claim, flat}
 use Rattle.toml_span.specs.Paths.{same_path, with_key, with_position, target, opened_by}
-use Rattle.toml_span.proofs.EachClaim.{same_path-eq}
+use Rattle.toml_span.proofs.EachClaim.{same_path-eq, claims_at}
 use Rattle.toml_span_read.proofs.ReadSound.{document_sound}
 use Rattle.toml_span_laws.proofs.Complete.{document_complete}
 use Rattle.toml_span_laws.specs.Clashing.{IsIn, DoClash}
@@ -19,7 +20,7 @@ use Rattle.toml_span_laws.specs.Laws.{AssignsAgain, ValueReadsAgain}
 use Rattle.toml_span_laws.proofs.FirstClash.{AreFree, none-after}
 use Rattle.toml_span_laws.proofs.Apart.{in-cases}
 use Rattle.toml_span_laws.proofs.ReadAgain.{document-again}
-use Rattle.toml_span_laws.proofs.OneScope.{at-append, path-self, Scene, claim-before, document-scene, outside, scene-after, scene-claimed, scene-inside, scope-before, scoped-under, do-clash}
+use Rattle.toml_span_laws.proofs.OneScope.{path-self, Scene, claim-before, document-scene, outside, scene-after, scene-claimed, scene-inside, scope-before, scoped-under, do-clash}
 use Rattle.toml_span_laws.proofs.Order.{all_claims-followed}
 use Rattle.toml_span_laws.proofs.Scoped.{IsUnder, under-from, longer}
 use Rattle.toml_span_laws.specs.Again.{moved, moved_items, moved_pairs, moved_parts, moved_span, ReadsAgain, assignment_again}
@@ -29,7 +30,8 @@ use Rattle.toml_span_laws.proofs.FirstPair.{clash-blames, free-clash, free-of}
 use Rattle.toml_span_lex.specs.declared.span.Span.{Span}
 use Rattle.toml_span_tree.specs.Value.{view}
 use Rattle.toml_span_tree.specs.declared.value.Value.{Value}
-use Rattle.toml_span.specs.Parsing.{HasOutcome, IsTree, resolved}
+use Rattle.toml_span.specs.Parsing.{IsTree}
+use Rattle.toml_span_laws.specs.Outcomes.{HasOutcome, resolved}
 use Rattle.toml_span_laws.proofs.Pointed.{tree-value}
 use Rattle.toml_span_laws.specs.Document.{subtree, without_key}
 use Rattle.toml_span_laws.proofs.OneSpelled.{document_unique}
@@ -40,7 +42,6 @@ use Rattle.toml_span_laws.proofs.SpelledClaims.{followed-none}
 -- ---- claims at a path
 
 pub at-none : (q : Path) (l : List Claim) → ((d : Claim) → IsIn d l → d.path ≡ q → ⊥) → claims_at q l ≡ []
-unfolding claims_at
 at-none q [] h = refl
 at-none q (c ∷ l) h = elim (cases_Bool (same_path c.path q)) [
   | inl here ↦ absurd (h c (inl refl) (same_path-eq c.path q here))
@@ -48,10 +49,10 @@ at-none q (c ∷ l) h = elim (cases_Bool (same_path c.path q)) [
 ]
 
 at-left : (q : Path) (xs ys : List Claim) → ((d : Claim) → IsIn d ys → d.path ≡ q → ⊥) → claims_at q (xs ++ ys) ≡ claims_at q xs
-at-left q xs ys h = at-append q xs ys ∙ ap (λ l. claims_at q xs ++ l) (at-none q ys h) ∙ append-nil (claims_at q xs)
+at-left q xs ys h = filter-append (λ c. same_path c.path q) xs ys ∙ ap (λ l. claims_at q xs ++ l) (at-none q ys h) ∙ append-nil (claims_at q xs)
 
 at-right : (q : Path) (xs ys : List Claim) → ((d : Claim) → IsIn d xs → d.path ≡ q → ⊥) → claims_at q (xs ++ ys) ≡ claims_at q ys
-at-right q xs ys h = at-append q xs ys ∙ ap (λ l. l ++ claims_at q ys) (at-none q xs h)
+at-right q xs ys h = filter-append (λ c. same_path c.path q) xs ys ∙ ap (λ l. l ++ claims_at q ys) (at-none q xs h)
 
 -- ---- the claim and its value
 
@@ -60,9 +61,9 @@ at-right q xs ys h = at-append q xs ys ∙ ap (λ l. l ++ claims_at q ys) (at-no
 pub record Alone (text : List ℕ) (limit : ℕ) (c : Claim) (cs : Claims) : Type 0 where
   pub value : ParsedValue
   pub again : ValueReadsAgain text limit value
-  pub shape : c.place.shape ≡ value_shape (parsed_inner value)
+  pub shape : c.place.shape ≡ value_shape value
   pub span : c.place.span ≡ parsed_span value
-  pub brackets : (s : Scalar) → value_shape (parsed_inner value) ≡ shape_scalar s → ⊥
+  pub brackets : (s : Scalar) → value_shape value ≡ shape_scalar s → ⊥
   pub resolves : AreFree [] (value_claims value c.path)
   pub below : (d : Claim) → IsIn d (all_claims (value_claims value c.path)) → IsUnder c.path d.path
   pub only : (r : Path) → claims_at (c.path ++ r) (all_claims cs) ≡ claims_at (c.path ++ r) (c ∷ all_claims (value_claims value c.path))
@@ -71,14 +72,14 @@ pub record Alone (text : List ℕ) (limit : ℕ) (c : Claim) (cs : Claims) : Typ
 among-more : (text : List ℕ) (limit : ℕ) (c : Claim) (cs more : Claims) → Alone text limit c cs → ((r : Path) → claims_at (c.path ++ r) (all_claims more) ≡ claims_at (c.path ++ r) (all_claims cs)) → Alone text limit c more
 among-more text limit c cs more a same = grind (arith, nat_tests, common_steps)
 
-bracket-scope : (v : ParsedValue) (p : Path) → ((s : Scalar) → value_shape (parsed_inner v) ≡ shape_scalar s → ⊥) → (inner : Claims) × (value_claims v p ≡ scope inner no_claims)
+bracket-scope : (v : ParsedValue) (p : Path) → ((s : Scalar) → value_shape v ≡ shape_scalar s → ⊥) → (inner : Claims) × (value_claims v p ≡ scope inner no_claims)
 unfolding value_claims inner_claims
 bracket-scope (parsed (scalar s) span) p brackets = absurd (brackets s refl)
 bracket-scope (parsed (array vs) span) p brackets = (item_claims vs 0 p, refl)
 bracket-scope (parsed (inline ps) span) p brackets = (pair_claims ps p, refl)
 
 alone-here : (text : List ℕ) (limit : ℕ) (base : Path) (earlier : List Claim) (x : Claim) (v : ParsedValue) (rest : Claims) → Scene base earlier (Some x) (followed (value_claims v x.path) rest)
-    → ValueReadsAgain text limit v → x.place.shape ≡ value_shape (parsed_inner v) → x.place.span ≡ parsed_span v → ((s : Scalar) → value_shape (parsed_inner v) ≡ shape_scalar s → ⊥)
+    → ValueReadsAgain text limit v → x.place.shape ≡ value_shape v → x.place.span ≡ parsed_span v → ((s : Scalar) → value_shape v ≡ shape_scalar s → ⊥)
     → Alone text limit x (claimed x (followed (value_claims v x.path) rest))
 unfolding followed all_claims
 alone-here text limit base earlier x v rest h again shape span brackets =
@@ -223,7 +224,6 @@ same-front (s ∷ p) t q = rw (same_step-self s) (same-front p t q)
 
 -- the claims at one path, and the moved ones at the other
 pub at-moved : (from to : ℕ) (p r : Path) (xs ys : List Claim) (q : Path) → AllMoved from to p r xs ys → AllMoved from to p r (claims_at (p ++ q) xs) (claims_at (r ++ q) ys)
-unfolding claims_at
 at-moved from to p r _ _ q no_more = no_more
 at-moved from to p r _ _ q (one_more x y xs ys m h) =
     let (t, is, on) = m.beside in
@@ -303,17 +303,16 @@ flat-at n cs s p q is = rw is refl
 
 -- a value, and claims below it: the value decides on its path, and these claims below it
 value-decides : (c : Claim) (l : List Claim) → c.info.kind ≡ Assigned → ((d : Claim) → IsIn d l → IsUnder c.path d.path) → deciding_claim (claims_at c.path (c ∷ l)) ≡ Some c
-unfolding claims_at
 value-decides c l value under = grind (arith, nat_tests, common_steps, at-none, longer, path-self)
 
 below-decides : (c : Claim) (l : List Claim) (s : Step) (r : Path) → claims_at (c.path ++ (s ∷ r)) (c ∷ l) ≡ claims_at (c.path ++ (s ∷ r)) l
 below-decides c l s r =
     let q = c.path ++ (s ∷ r) in
-    at-append q (c ∷ []) l ∙ ap (λ x. x ++ claims_at q l) (at-none q (c ∷ []) (λ d here on. grind (arith, nat_tests, common_steps, longer)))
+    filter-append (λ d. same_path d.path q) (c ∷ []) l ∙ ap (λ x. x ++ claims_at q l) (at-none q (c ∷ []) (λ d here on. grind (arith, nat_tests, common_steps, longer)))
 
 -- ---- the value at its path
 
-bracket-reads : (text : List ℕ) (limit : ℕ) (v : ParsedValue) → ((s : Scalar) → value_shape (parsed_inner v) ≡ shape_scalar s → ⊥) → ValueReadsAgain text limit v → ReadsAgain text limit v
+bracket-reads : (text : List ℕ) (limit : ℕ) (v : ParsedValue) → ((s : Scalar) → value_shape v ≡ shape_scalar s → ⊥) → ValueReadsAgain text limit v → ReadsAgain text limit v
 bracket-reads text limit (parsed (scalar s) span) brackets h = absurd (brackets s refl)
 bracket-reads text limit v brackets h = h
 

@@ -10,7 +10,8 @@ use Rattle.toml_span_read.specs.Data.{ParsedValue, parsed, scalar, ParsedSection
 use Rattle.toml_span_read.specs.Grammar.{Spells, SpellsScalar}
 use Rattle.toml_span_read.proofs.NumberLemmas.{same_byte}
 use Rattle.toml_span_read.proofs.SpanLaws.{value_lies}
-use Rattle.toml_span.specs.Parsing.{IsTree, IsTreeOf, HasOutcome, resolved}
+use Rattle.toml_span.specs.Parsing.{IsTree, IsTreeOf}
+use Rattle.toml_span_laws.specs.Outcomes.{HasOutcome, resolved}
 use Rattle.toml_span_laws.specs.Again.{moved, with_part, ReadsAsScalar, TakesAnother}
 use Rattle.toml_span_places.specs.Literals.{literal_span}
 use Rattle.toml_span_laws.specs.Replaced.{IsDocumentWith, TakesScalar}

@@ -8,7 +8,7 @@ use Rattle.toml_span_read.specs.Data as read
 use Rattle.toml_span_laws.specs.Places.{CutsContent}
 use Rattle.toml_span_laws.specs.Again.{ReadsAgain, ScalarReadsAgain}
 use Rattle.toml_span.specs.declared.claims.ClaimKind.TheVariants.{Assigned}
-use Rattle.toml_span.specs.Claims.{Claims, no_claims, claimed, scope, followed, parsed_inner, value_claims, value_shape}
+use Rattle.toml_span.specs.Claims.{Claims, no_claims, claimed, scope, followed, value_claims, value_shape}
 
 -- the number of keys in a path
 abbrev pub keys_in : Path → ℕ
@@ -41,6 +41,6 @@ abbrev pub AssignsAgain : List ℕ → ℕ → Claims → Type 0
 AssignsAgain text limit no_claims = ⊤
 AssignsAgain text limit (claimed c cs) =
     (c.info.kind ≡ Assigned → (v : read.ParsedValue) × (rest : Claims) × ValueReadsAgain text limit v
-    × (c.place.shape ≡ value_shape (parsed_inner v))
+    × (c.place.shape ≡ value_shape v)
     × (c.place.span ≡ parsed_span v) × (cs ≡ followed (value_claims v c.path) rest)) × AssignsAgain text limit cs
 AssignsAgain text limit (scope inner cs) = AssignsAgain text limit inner × AssignsAgain text limit cs

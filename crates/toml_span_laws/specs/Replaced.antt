@@ -8,7 +8,8 @@ use Rattle.toml_span_tree.specs.Value.{view}
 use Rattle.toml_span_tree.specs.declared.value.Value.{Value}
 use Rattle.toml_span_read.specs.Data.{ParsedSection}
 use Rattle.toml_span_read.specs.Grammar.{SpellsScalar}
-use Rattle.toml_span.specs.Parsing.{IsTree, HasOutcome, resolved}
+use Rattle.toml_span.specs.Parsing.{IsTree}
+use Rattle.toml_span_laws.specs.Outcomes.{HasOutcome, resolved}
 use Rattle.toml_span_places.specs.Literals.{literal_span}
 use Rattle.toml_span_laws.specs.Again.{with_part, ReadsAsScalar, TakesAnother}
 

@@ -33,10 +33,10 @@ pub fn float_texts()
     ensures { (text : List ℕ) (limit : ℕ) (root : Value) → IsTree text limit root → HasFloatTexts (view root) }
 {}
 
-/// In a text that has a tree, any value can be written in place of a scalar if it is whole and within the depth limit,
-/// and the texts of its floats are valid. If the new part of the text is read as its value wherever it occurs, as a
-/// result of `to_toml` is, then it is also read as that value in place of the scalar, and all values after it are
-/// spelled as before.
+/// In a text that has a tree, each scalar can be replaced with a piece of text that is read as some value wherever the
+/// piece occurs, such as a result of `to_toml`. The piece is read as that value there, and all values after the scalar
+/// are spelled as before. The new value must be whole and within the depth limit, and the texts of its floats must be
+/// valid.
 pub fn written_over()
     ensures { (text : List ℕ) (limit : ℕ) (root : Value) (path : Path) (place : Place) (s : Scalar)
         → IsTree text limit root → place_at path (view root) ≡ Some place → place.shape ≡ shape_scalar s
@@ -62,10 +62,10 @@ pub fn scalar_replaced()
         → TakesScalar text limit root path s place.span }
 {}
 
-/// If a text is read as a certain key wherever it occurs, as a result of `quote_key` is, and another text as a certain
-/// value, as a result of `to_toml` is, then the first text, ` = ` and the second text are a document with one
-/// assignment, of that value to that key. The value must be whole and within the depth limit `limit`, and the texts of
-/// its floats must be valid.
+/// The result of `quote_key` for a name, ` = `, and the result of `to_toml` for a value are together a document with
+/// one assignment, of that value to that name. The same holds for any two texts that are read as this key and this
+/// value wherever they occur. The value must be whole and within the depth limit `limit`, and the texts of its floats
+/// must be valid.
 pub fn spelled_assignment()
     ensures { (limit : ℕ) (name key : List ℕ) (n : Node) (value : List ℕ) → ReadsAsKey name key → ReadsAsValue n value
         → is_whole n ≡ true → IsWithin limit 1 n → HasFloatTexts n

@@ -13,8 +13,10 @@ pub fn clear_keys_pass_no_value()
         → AllByRecursion (λ e. part_names e.parts ≢ part_names (outer ++ (part ∷ []))) earlier }
 {}
 
-/// If a proper prefix of a key's parts has the same names as earlier keys, the first of these keys and the last part of
-/// the prefix determine the fault, unless the key goes through a value before that part.
+/// If a proper prefix of a key's parts has the same names as an earlier key, and the key goes through no value before
+/// the last part of the prefix, the fault is `DottedKeyInvalidType`, with the span of the last part of the first such
+/// earlier key. The span of the fault itself is from the last part of the prefix to the end of the assigned value's
+/// span.
 pub fn first_value_met_is_the_fault()
     ensures { (before after : List ParsedAssignment) (found next : ParsedAssignment) (outer rest : List SimpleKey)
         (part more : SimpleKey)

@@ -1,6 +1,4 @@
 //! Laws: at each character boundary of a text, each form of the grammar is either present or absent.
-//!
-//! The bodies examine one form each: they are the proofs.
 ghost use Rattle.std.specs.Prelude.{◌≡◌, ℕ, true, Result};
 ghost use Rattle.std.specs.Str.{IsCharBoundary};
 ghost use Rattle.toml_span_tree.specs.Node.{Scalar};
@@ -40,8 +38,8 @@ pub fn place_is_judged(text: &str, at: usize)
     date_or_fault(text, at);
 }
 
-/// At every character boundary of a text, each form that can be read independently of others, such as a token or a
-/// date, is either present or absent: see `place_is_judged`.
+/// At every character boundary of a text, each form that can be read independently of others is either present or
+/// absent (see `place_is_judged`).
 pub fn places_are_judged(text: &str)
     ensures { (i : ℕ) → IsCharBoundary text.now i → Judged text.now i }
 {

@@ -28,8 +28,9 @@ pub fn one_number()
         → (s ≡ t) × (j ≡ k) }
 {}
 
-/// `NumberFault` lists the faults of numbers: the literal has one of the mistakes in the list, and the fault has the
-/// span that the list gives for it.
+/// `IsNumberFault` lists the faults of numbers. If reading a number at a letter, a digit, a dash, an underscore or a
+/// plus sign causes a fault, the text has one of the mistakes in the list, and the fault has the span that the list
+/// gives for that mistake.
 pub fn number_faults()
     ensures { (text : List ℕ) (i : ℕ) (fault : Fault)
         → (is_keylike (slice_index text i) || slice_index text i == plus) ≡ true → number text i ≡ Err fault

@@ -31,8 +31,8 @@ ghost use Rattle.toml_span_laws.specs.Document.{HasPlaceAt, IsValueOf, PointsAt}
 ghost use Rattle.toml_span_laws.specs.Helpers.{EndsWith, HasNoKeyBut, IsOver, RequiresAt, TriesAt, except};
 ghost use Rattle.toml_span_laws.specs.Laws.{AssignsAgain, keys_in, ShowsString};
 ghost use Rattle.toml_span_laws.specs.Order.{Ascends, key_at, KeysApart};
-ghost use Rattle.toml_span_laws.specs.Outcomes.{IsAlike};
-ghost use Rattle.toml_span.specs.Parsing.{IsParseResult, HasOutcome, IsAnswerOf, IsTree, Outcome, clashed, resolved};
+ghost use Rattle.toml_span_laws.specs.Outcomes.{IsAlike, HasOutcome, IsAnswerOf, Outcome, clashed, resolved};
+ghost use Rattle.toml_span.specs.Parsing.{IsParseResult, IsTree};
 
 pub mod clashes;
 
@@ -66,8 +66,8 @@ pub fn outcome_within_wider()
         → HasOutcome text wider (clashed sections clash) }
 {}
 
-/// The outcome of a text determines its result, unless an allocation fails: the tree of the sections, or an error for
-/// the clash or the fault.
+/// The outcome of a text determines what `parse_with_limit` returns, unless an allocation fails: the tree of the
+/// outcome's sections, or the error for its clash or fault.
 pub fn outcome_decides()
     ensures { (text : List ℕ) (limit : ℕ) (outcome : Outcome) (result : Result Value (Stop Error))
         → HasOutcome text limit outcome → IsParseResult text limit result → IsAnswerOf text outcome result }
@@ -209,9 +209,9 @@ pub fn helper_opens_on_a_table()
         → IsOver places s × (s.asked ≡ []) × (s.errors ≡ []) }
 {}
 
-/// `required` reads the value that shows the places of the flat document below the key. It fails with `MissingField` if
-/// and only if the flat document has nothing there. Afterwards, the helper has the entries of the same table, except
-/// those that were asked for.
+/// `required` reads the value that shows the places of the flat document below the key. If the flat document has
+/// nothing there, or the key was asked for before, `required` fails with `MissingField` for the key, unless an
+/// allocation fails. Afterwards, the helper has the entries of the same table, except those that were asked for.
 pub fn required_reads_the_document<'de, T: Deserialize<'de>>()
     ensures reads { (places : Path → Option Place) (name : List ℕ) (before after : State)
         (answer : Result T (Stop Error)) → IsOver places before → Requires T.reads name before answer after
@@ -221,9 +221,9 @@ pub fn required_reads_the_document<'de, T: Deserialize<'de>>()
         → IsOver places after }
 {}
 
-/// `optional` reads the value that shows the places of the flat document below the key. It returns `None` without
-/// keeping an error if and only if the flat document has nothing there. Afterwards, the helper has the entries of the
-/// same table, except those that were asked for.
+/// `optional` reads the value that shows the places of the flat document below the key. Unless an allocation fails, it
+/// returns `None` without keeping an error if and only if the flat document has nothing there, or the key was asked for
+/// before. Afterwards, the helper has the entries of the same table, except those that were asked for.
 pub fn optional_reads_the_document<'de, T: Deserialize<'de>>()
     ensures reads { (places : Path → Option Place) (name : List ℕ) (before after : State)
         (answer : Result (Option T) AllocError) → IsOver places before → Tries T.reads name before answer after

@@ -28,9 +28,8 @@ pub fn one_answer()
         → ShowsRefusal bytes limit other → text ≡ other }
 {}
 
-/// The input determines the exit status and the output, unless an allocation, a read or a write fails: an input has at
-/// most one answer, and two runs on the same input in which nothing fails return the same status and write the same
-/// bytes.
+/// The input determines the exit status and the output, unless an allocation, a read or a write fails. An input has at
+/// most one answer. Two runs on the same input in which nothing fails return the same status and write the same bytes.
 pub fn one_output()
     ensures answer { (bytes : List ℕ) (limit status other : ℕ) (text last : List ℕ) → IsAnswer bytes limit status text
         → IsAnswer bytes limit other last → (status ≡ other) × (text ≡ last) }

@@ -40,8 +40,8 @@ pub fn is_keylike(byte: u8) -> bool
     CLASS[byte as usize] & KEYLIKE != 0
 }
 
-/// Returns whether the byte may occur in a comment: a tab, or anything except control characters (`non-eol = %x09 /
-/// %x20-7E / non-ascii`).
+/// Returns whether the byte may occur in a comment: a tab, or any byte except ASCII control characters (`non-eol = %x09
+/// / %x20-7E / non-ascii`).
 #[inline(always)]
 pub fn is_printed(byte: u8) -> bool
     ensures { result ≡ spec.is_printed byte }

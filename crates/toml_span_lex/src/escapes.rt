@@ -8,8 +8,8 @@ ghost use Rattle.toml_span_lex.specs.code.Text.{LeadsTo};
 use crate::text::char_at;
 use crate::tokens::Error;
 
-/// Reads the `len` hexadecimal digits of an escape whose letter is at the byte offset `at`. Returns the character whose
-/// code point the digits spell, with the offset after them: `%x78 2HEXDIG / %x75 4HEXDIG / %x55 8HEXDIG`.
+/// Reads the `len` hexadecimal digits of the escape whose letter is at the byte offset `at`. Returns the character that
+/// the digits spell, with the offset after the digits: `%x78 2HEXDIG / %x75 4HEXDIG / %x55 8HEXDIG`.
 ///
 /// Fails with the error, and the offset up to which the escape was read. `start` is the offset of the string's opening
 /// quote, for the error `UnterminatedString`.
@@ -64,7 +64,7 @@ fn simple_escape(letter: u8) -> Option<char>
     }
 }
 
-/// Returns how many hexadecimal digits must follow a backslash and this letter: 2, 4 or 8 for `x`, `u` or `U`,
+/// Returns how many hexadecimal digits must follow a backslash and this letter: 2 for `x`, 4 for `u`, 8 for `U`,
 /// otherwise 0 (`escape-seq-char =/ %x78 2HEXDIG / %x75 4HEXDIG / %x55 8HEXDIG`).
 #[inline]
 fn hex_len(letter: u8) -> usize

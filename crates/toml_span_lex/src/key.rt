@@ -8,8 +8,8 @@ use std::borrow::CowStr;
 use std::fmt;
 use std::fmt::{Debug, Display, Formatter, Write};
 
-/// The key of an entry: its name and its span, in bytes. The span of a quoted key covers the text between its quotes
-/// or, if that is empty, the opening quote.
+/// A key: its name and its span. The span of a quoted key covers the text between the quotes or, if the key is empty,
+/// the opening quote.
 ///
 /// Keys are compared and ordered by the bytes of their names. Their spans are ignored.
 #[derive(Drop)]
@@ -21,8 +21,7 @@ pub struct Key<'de> {
 }
 
 impl<'de> Key<'de> {
-    /// Returns a key with this name and the span 0..0. With such a key, an entry of a table can be looked up by its
-    /// name.
+    /// Returns a key with this name and the span 0..0, for looking up an entry of a table.
     pub fn named(name: &'de str) -> Self
         ensures { (cow_str_bytes result.name ≡ name.now) × (result.span ≡ record { start = 0; end = 0 })
             × IsBorrowedStr result.name }
@@ -35,8 +34,7 @@ impl<'de> Key<'de> {
 }
 
 impl Key<'_> {
-    /// Returns a key with the same name and span. The new key borrows its name if and only if this key does. Fails only
-    /// if an allocation fails.
+    /// Returns a copy of the key. The copy borrows its name if and only if `self` does. Fails if an allocation fails.
     pub fn clone(&self, alloc: Global) -> Result<Self, AllocError>
         ensures name { IfOk result (λ key. cow_str_bytes key.name ≡ cow_str_bytes self.now.name) }
         ensures span { IfOk result (λ key. key.span ≡ self.now.span) }

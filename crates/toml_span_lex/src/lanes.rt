@@ -6,7 +6,7 @@ ghost use Rattle.toml_span_lex.specs.code.Lanes.{marked};
 
 use std::simd::prelude::*;
 
-/// Returns a mask whose bit `k`, from the lowest, is set if byte `k` may not occur in a bare key.
+/// Returns a bit mask. Bit `k`, counted from the lowest, is set if byte `k` may not occur in a bare key.
 #[inline(always)]
 pub(crate) fn marked_in_keys(bytes: u8x16) -> u64
     ensures { result ≡ marked (λ b. not (is_keylike b)) bytes }
@@ -21,7 +21,7 @@ pub(crate) fn marked_in_keys(bytes: u8x16) -> u64
     (!keylike).to_bitmask()
 }
 
-/// Returns a mask whose bit `k`, from the lowest, is set if byte `k` may not occur in a comment.
+/// Returns a bit mask. Bit `k`, counted from the lowest, is set if byte `k` may not occur in a comment.
 #[inline(always)]
 pub(crate) fn marked_in_comments(bytes: u8x16) -> u64
     ensures { result ≡ marked (λ b. not (is_printed b)) bytes }
@@ -30,8 +30,8 @@ pub(crate) fn marked_in_comments(bytes: u8x16) -> u64
     (control | bytes.simd_eq(u8x16::splat(0x7F))).to_bitmask()
 }
 
-/// Returns a mask whose bit `k`, from the lowest, is set if byte `k` may not occur unescaped in a string quoted with
-/// `quote`.
+/// Returns a bit mask. Bit `k`, counted from the lowest, is set if byte `k` may not occur unescaped in a single-line
+/// string quoted with `quote`.
 #[inline(always)]
 pub(crate) fn marked_in_strings(quote: u8, bytes: u8x16) -> u64
     ensures { result ≡ marked (λ b. not (is_plain quote b)) bytes }

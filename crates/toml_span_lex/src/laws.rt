@@ -26,8 +26,8 @@ pub fn token_or_fault()
     ensures { law.TokenOrFault }
 {}
 
-/// A token is at least one byte long, and ends within the text. A fault is found after at least one byte was read, and
-/// within the text.
+/// A token is at least one byte long, and ends within the text. The text that is read before a fault is reported also
+/// has at least one byte, and ends within the text.
 pub fn within_the_text()
     ensures tokens { law.TokensWithin }
     ensures faults { law.FaultsWithin }
@@ -88,8 +88,6 @@ pub fn bare_keys()
 {}
 
 /// At each character boundary there is a token, a fault, or the end of the text.
-///
-/// The body is the proof: it reads the string or other token at `at`.
 pub fn something_stands(text: &str, at: usize)
     requires { IsCharBoundary text.now at }
     ensures { law.SomethingStands text.now at }

@@ -27,7 +27,7 @@ pub enum Piece {
     Dropped,
 }
 
-/// Returns whether the byte may occur unescaped in a string quoted with `quote`.
+/// Returns whether the byte may occur unescaped in a single-line string quoted with `quote`.
 ///
 /// `basic-unescaped = wschar / %x21 / %x23-5B / %x5D-7E / non-ascii`,
 /// `literal-char = %x09 / %x20-26 / %x28-7E / non-ascii`
@@ -38,9 +38,9 @@ fn is_plain(quote: u8, byte: u8) -> bool
     is_printed(byte) && byte != quote && !(quote == b'"' && byte == b'\\')
 }
 
-/// Returns the offset after the run of bytes, beginning at the byte offset `from`, that may occur unescaped in a string
-/// quoted with `quote`; `from` itself if the run is empty. `from` must be a character boundary, and `quote` an ASCII
-/// byte.
+/// Skips the bytes from the byte offset `from` that may occur unescaped in a single-line string quoted with `quote`.
+/// Returns the offset after them, or `from` if there are none. `from` must be a character boundary, and `quote` must be
+/// an ASCII byte.
 #[inline(always)]
 pub fn plain_end(text: &str, quote: u8, from: usize) -> usize
     requires boundary { IsCharBoundary text.now from }
@@ -106,10 +106,9 @@ fn ws_and_newlines_end(text: &str, from: usize) -> usize
     bytes.len()
 }
 
-/// Reads the run of quotes at `at` in a multi-line string. One or two quotes belong to the content: returns the piece
-/// `Quotes` with the offset after it. Three or more quotes close the string: returns `None` with the offset after the
-/// string. The string ends after the fifth quote at the latest. The last three of its quotes are the delimiter, and
-/// those before them belong to the content.
+/// Reads the run of quotes at `at` in a multi-line string. One or two quotes are content: returns `Quotes` with the
+/// offset after them. Three or more close the string: returns `None` with the offset after them, or after the fifth if
+/// there are more than five.
 ///
 /// `mlb-quotes = 1*2quotation-mark`, `mll-quotes = 1*2apostrophe`, `ml-basic-string-delim = 3quotation-mark`,
 /// `ml-literal-string-delim = 3apostrophe`
@@ -153,8 +152,8 @@ fn escape_piece(
     }
 }
 
-/// Returns whether there is white space or a line end at the byte offset `at`. Returns `false` at or after the end of
-/// the text.
+/// Returns whether there is a space, a tab or a line end at the byte offset `at`. Returns `false` at or after the end
+/// of the text.
 fn ws_or_newline_at(text: &str, at: usize) -> bool
     ensures gap { result ≡ spec.is_ws_or_newline text.now at }
     ensures within { IsTrue result → at < length text.now }
@@ -190,15 +189,15 @@ fn drop_line(text: &str, start: usize, at: usize) -> Result<(Option<Piece>, usiz
     }
 }
 
-/// Reads the piece of a string that is at the byte offset `at` of the text. The string is quoted with `quote`, and
-/// multi-line if `multi`. Returns the piece with the offset after it. At the end of the string, returns `None` with the
-/// offset after the closing quotes.
+/// Reads the piece at the byte offset `at` of a string that is quoted with `quote`, and multi-line if `multi`. Returns
+/// the piece with the offset after it. At the end of the string, returns `None` with the offset after the closing
+/// quotes.
 ///
 /// Fails with the error, and the offset up to which the string was read. `start` is the offset of the opening quote,
 /// for the error `UnterminatedString`.
 ///
-/// `basic-char = basic-unescaped / escaped`, `mlb-content = basic-char / newline / mlb-escaped-nl`, `mll-content =
-/// literal-char / newline`
+/// `basic-char = basic-unescaped / escaped`, `mlb-content = basic-char / newline / mlb-escaped-nl`,
+/// `mll-content = literal-char / newline`
 pub(crate) fn piece_at(
     text: &str,
     quote: u8,

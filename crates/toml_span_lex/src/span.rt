@@ -5,7 +5,7 @@ use std::ops::Range;
 
 /// A range of byte offsets in a text. `start` is inclusive, `end` is exclusive.
 ///
-/// A reversed span, with `start` after `end`, is allowed, and kept as it is.
+/// A span may be reversed, with `start` after `end`.
 #[derive(Clone, Copy, PartialEq, Eq, Default, Debug)]
 pub struct Span {
     pub start: usize,

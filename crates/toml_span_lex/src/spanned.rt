@@ -79,8 +79,7 @@ impl<T: PartialEq> Spanned<T> {
 }
 
 impl<T: Clone> Spanned<T> {
-    /// Returns a clone of the value, with the same span. If clones of `T` always equal their originals, so does the
-    /// result. Fails only if cloning the value fails.
+    /// Returns a clone of the value, with the same span. Fails if cloning the value fails.
     pub fn clone(&self, _alloc: Global) -> Result<Self, AllocError>
         ensures value { IfOk result (λ copy. T.is_clone self.now.value copy.value) }
         ensures span { IfOk result (λ copy. copy.span ≡ self.now.span) }

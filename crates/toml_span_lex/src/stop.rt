@@ -3,10 +3,10 @@ use std::alloc::{AllocError, AllocFailed};
 use std::fmt;
 use std::fmt::{Display, Formatter, Write};
 
-/// Why a call failed: an allocation failed, or there is a fault to report.
+/// Why a call failed: an allocation failed (`Memory`), or an error of type `E` occurred (`Fault`).
 ///
-/// `Memory` means that the allocator refused a request during the call. Contracts can't express that; it is tested.
-/// `toml_span_serde` also returns `Memory` if a position or a count does not fit into its integer type.
+/// `Memory` means that the allocator refused a request; no contract states this. In `toml_span_serde`, `Memory` can
+/// also mean that a position or a count does not fit into its integer type.
 #[derive(Debug, Drop)]
 pub enum Stop<E> {
     Memory(AllocError),
@@ -17,8 +17,8 @@ impl<E> Stop<E> {
     ghost use Rattle.std.specs.Prelude.{◌≡◌};
     ghost use Rattle.toml_span_lex.specs.Stop.{Converts, fault_of};
 
-    /// Returns the fault, or the allocator's error as `Err`. In a function that fails with `AllocError` or `Stop`, the
-    /// arm `Err(stop) => report(stop.fault()?)` handles the fault, and passes a failed allocation on.
+    /// Returns the fault, or `Err` if an allocation failed. In a function that fails with `AllocError` or `Stop`, the
+    /// arm `Err(stop) => report(stop.fault()?)` handles the fault, and passes on a failed allocation.
     pub fn fault(self) -> Result<E, AllocError>
         ensures { result ≡ fault_of self }
     {
@@ -28,9 +28,8 @@ impl<E> Stop<E> {
         }
     }
 
-    /// Converts the fault with `From`, and keeps a failed allocation as it is. For example,
-    /// `read.map_err(Stop::convert)?` passes on the error of `read`, which fails with one error, in a function that
-    /// fails with a list of errors.
+    /// Converts the fault with `From`, and leaves `Memory` as it is. For example, `result.map_err(Stop::convert)?`
+    /// converts an error `Stop<E>` in a function that fails with `Stop<F>`.
     pub fn convert<F: From<E>>(self) -> Stop<F>
         ensures { Converts F.from_gives self result }
     {
@@ -52,7 +51,7 @@ impl<E> From<AllocError> for Stop<E> {
     }
 }
 
-/// Converts the error of an insertion whose allocation failed, and drops the item that was to be inserted.
+/// Converts the error of a failed insertion to `Memory`, and drops the item that was not inserted.
 impl<T: Drop, E> From<AllocFailed<T>> for Stop<E> {
     ghost use Rattle.std.specs.Prelude.{◌≡◌, alloc_error};
     ghost use Rattle.toml_span_lex.specs.declared.stop.Stop.TheVariants.{Memory};

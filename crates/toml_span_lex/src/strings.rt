@@ -16,8 +16,7 @@ use crate::tokens::{Error, Token};
 use std::alloc::{AllocError, Global};
 use std::borrow::CowStr;
 
-/// Returns the value of the content `from..at` as an owned string: `kept` or, if that is `None`, a copy of the text
-/// there. Fails if an allocation fails.
+/// Returns the string `kept` or, if `kept` is `None`, a copy of `text[from..at]`.
 fn owned(
     alloc: Global,
     kept: Option<String>,
@@ -36,9 +35,8 @@ fn owned(
     }
 }
 
-/// Extends the value of the content `from..at` by the text `at..next`, whose characters represent themselves. `kept` is
-/// the value so far, or `None` as long as it equals the text `from..at`. Returns the value of the content `from..next`
-/// in the same form. Fails if an allocation fails.
+/// Appends `text[at..next]` to `kept`, the value of the content `from..at`. `None`, given or returned, means that the
+/// value equals the text of the content.
 fn same(
     kept: Option<String>,
     text: &str,
@@ -64,9 +62,8 @@ fn same(
     }
 }
 
-/// Extends the value of the content `from..at` by the value of the piece `at..next`. `kept` is the value so far, or
-/// `None` as long as it equals the text `from..at`. Returns the value of the content `from..next` in the same form.
-/// Fails if an allocation fails.
+/// Appends the value of the piece `at..next` to `kept`, the value of the content `from..at`. `None`, given or returned,
+/// means that the value equals the text of the content.
 fn with_piece(
     alloc: Global,
     kept: Option<String>,
@@ -105,12 +102,12 @@ fn with_piece(
     }
 }
 
-/// Reads the content of a string, from its beginning at `from` up to and including the closing quotes. `quote` is the
-/// byte that quotes the string, and `multi` says whether it is multi-line. Returns the value of the content, or `None`
-/// if it equals the text of the content, with the offset at which the content ends, and the offset after the string.
+/// Reads the content, from `from` on, and the closing quotes of a string that is quoted with `quote`, and multi-line if
+/// `multi`. Returns the value (`None` if it equals the text of the content), the offset at which the content ends, and
+/// the offset after the string.
 ///
-/// Fails with the error and the offset up to which the string was read, or with `Memory` if an allocation fails.
-/// `start` is the offset of the opening quote, for the error `UnterminatedString`.
+/// Fails with the error and the offset up to which the string was read. `start` is the offset of the opening quote, for
+/// the error `UnterminatedString`.
 ///
 /// `*basic-char`, `*literal-char`, `ml-basic-body = *mlb-content *( mlb-quotes 1*mlb-content ) [ mlb-quotes ]`,
 /// `ml-literal-body = *mll-content *( mll-quotes 1*mll-content ) [ mll-quotes ]`
@@ -150,7 +147,8 @@ fn content(
     }
 }
 
-/// Returns whether the quote at the offset `at` is the first of three equal ones, which open a multi-line string.
+/// Returns whether the quote at the byte offset `at` is the first of three equal quotes, which open a multi-line
+/// string.
 #[inline]
 fn opens_multi(bytes: &[u8], at: usize) -> bool
     requires within { at < length bytes.now }
@@ -160,8 +158,8 @@ fn opens_multi(bytes: &[u8], at: usize) -> bool
     at + 2 < bytes.len() && bytes[at + 1] == bytes[at] && bytes[at + 2] == bytes[at]
 }
 
-/// Returns the offset at which the content of the string at `at` begins: after `ml-basic-string-delim [ newline ]` or
-/// `ml-literal-string-delim [ newline ]` if `multi`, otherwise after one quote.
+/// Returns the offset at which the content of the string at `at` begins: after the opening quote or, if `multi`, after
+/// the three opening quotes and a line end directly after them, if any.
 fn content_from(text: &str, multi: bool, at: usize) -> usize
     requires within { at < length text.now }
     requires ascii { slice_index text.now at < 128 }
@@ -179,9 +177,10 @@ fn content_from(text: &str, multi: bool, at: usize) -> usize
     }
 }
 
-/// Reads the string whose opening quote is at the byte offset `at`. Returns its span (its content or, if that is empty
-/// and on a single line, the opening quote), its token, and the offset after its closing quotes. Fails with the error
-/// and the offset up to which the string was read, or with `Memory` if an allocation fails.
+/// Reads the string whose opening quote is at the byte offset `at`. Returns its span, its token, and the offset after
+/// its closing quotes. The span covers the content or, if the string is single-line and empty, the opening quote.
+///
+/// Fails with the error and the offset up to which the string was read, or with `Memory` if an allocation fails.
 ///
 /// `string = ml-basic-string / basic-string / ml-literal-string / literal-string`
 /// `basic-string = quotation-mark *basic-char quotation-mark`
@@ -224,8 +223,8 @@ pub fn string_at(
     }
 }
 
-/// Returns the span of a string: its content `from..to` or, if that is empty and the string is not `multi`, the opening
-/// quote at `at`.
+/// Returns the span of a string with the content `from..to`: the content or, if it is empty and the string is not
+/// `multi`, the opening quote at `at`.
 fn content_span(multi: bool, at: usize, from: usize, to: usize) -> Span
     requires { at < usize.MAX }
     ensures { result ≡ spec.content_span multi at from to }

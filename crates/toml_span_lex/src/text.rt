@@ -5,8 +5,8 @@ ghost use Rattle.toml_span_lex.specs.Text as spec;
 ghost use Rattle.toml_span_lex.specs.code.Text as code;
 ghost use Rattle.toml_span_lex.specs.Text.{CharAt};
 
-/// Returns the character at the byte offset `at`, with the offset of the next one. CRLF counts as the one character
-/// `'\n'`. `at` must be a character boundary before the end of the text.
+/// Returns the character at the byte offset `at`, with the offset of the next character. CRLF counts as the single
+/// character `'\n'`. `at` must be a character boundary before the end of the text.
 pub fn char_at(text: &str, at: usize) -> (char, usize)
     requires boundary { IsCharBoundary text.now at }
     requires within { at < length text.now }
@@ -27,7 +27,7 @@ pub fn char_at(text: &str, at: usize) -> (char, usize)
     }
 }
 
-/// Returns whether there is a CRLF at the offset `at`, which must be less than the length of `bytes`.
+/// Returns whether there is a CRLF at the byte offset `at`, which must be less than the length of `bytes`.
 #[inline]
 pub fn is_crlf(bytes: &[u8], at: usize) -> bool
     requires { at < length bytes.now }
@@ -36,8 +36,8 @@ pub fn is_crlf(bytes: &[u8], at: usize) -> bool
     bytes[at] == b'\r' && at + 1 < bytes.len() && bytes[at + 1] == b'\n'
 }
 
-/// Returns the offset after the line end at `at`, or `None` if there is none: `newline = %x0A / %x0D.0A`. `at` must be
-/// at most the length of the text.
+/// Returns the offset after the line end at the byte offset `at`, or `None` if no line end is there:
+/// `newline = %x0A / %x0D.0A`. `at` must be at most the length of the text.
 #[inline]
 #[tactic(auto, using(crate::proofs::Runs::after_line))]
 pub fn line_end(text: &str, at: usize) -> Option<usize>

@@ -44,7 +44,7 @@ impl<'a> Model for Tokenizer<'a> {
     ghost invariant = { λ t. IsFoldedPlace t.input.now t.at };
 }
 
-/// Returns the offset at which reading begins: after a byte order mark, or 0 if there is none.
+/// Returns the offset at which reading begins: after a byte order mark, or 0 if the text does not begin with one.
 pub fn first_place(text: &str) -> usize
     ensures place { FirstPlace text.now result }
     ensures boundary { IsCharBoundary text.now result }
@@ -57,8 +57,9 @@ pub fn first_place(text: &str) -> usize
     if c == '\u{feff}' { next } else { 0 }
 }
 
-/// Reads the token at the byte offset `at`, where there must not be a quote. Returns the token with the offset after
-/// it. If no token begins with the character at `at`, fails with `Unexpected` and the offset after that character.
+/// Reads the token at the byte offset `at`, which must be before the end of the text and not at a quote. Returns the
+/// token with the offset after it. If no token begins with the character at `at`, fails with `Unexpected` and the
+/// offset after that character.
 ///
 /// `ws = *wschar`, `newline = %x0A / %x0D.0A`, `comment = comment-start-symbol *non-eol`,
 /// `unquoted-key = 1*( ALPHA / DIGIT / %x2D / %x5F )`
@@ -95,8 +96,8 @@ pub fn token_at(input: &str, at: usize) -> Result<(Token<'_>, usize), (Error, us
     }
 }
 
-/// Reads the CRLF or bare key at `at`. Returns the token with the offset after it. If there is something else, fails
-/// with `Unexpected` and the offset after the character at `at`.
+/// Reads the CRLF or bare key at `at`. Returns the token with the offset after it. At any other character, fails with
+/// `Unexpected` and the offset after the character.
 fn other_at(input: &str, at: usize) -> Result<(Token<'_>, usize), (Error, usize)>
     requires boundary { IsCharBoundary input.now at }
     requires within { at < length input.now }
@@ -117,7 +118,7 @@ fn other_at(input: &str, at: usize) -> Result<(Token<'_>, usize), (Error, usize)
     }
 }
 
-/// Returns the offset after the first line end at or after `from`, or the length of the text if there is none.
+/// Returns the offset after the first line end at or after `from`, or the length of the text if there is no line end.
 fn line_after(text: &str, from: usize) -> usize
     requires { from ≤ length text.now }
     ensures skips { spec.SkipsLine text.now from result }
@@ -131,7 +132,7 @@ fn line_after(text: &str, from: usize) -> usize
     text.len()
 }
 
-/// Returns whether two tokens and their contents are equal.
+/// Returns whether two tokens are equal, contents included.
 fn is_same(a: &Token<'_>, b: &Token<'_>) -> bool
     ensures { IsTrue result ↔ (lexeme a.now ≡ lexeme b.now) }
 {
@@ -139,7 +140,7 @@ fn is_same(a: &Token<'_>, b: &Token<'_>) -> bool
 }
 
 impl<'a> Tokenizer<'a> {
-    /// Returns a tokenizer at the start of the text, after a byte order mark.
+    /// Returns a tokenizer at the start of the text or, if there is a byte order mark, after it.
     pub fn new(input: &'a str) -> Self
         ensures text { result.text ≡ input.now }
         ensures at { FirstPlace input.now result.at }
@@ -164,9 +165,10 @@ impl<'a> Tokenizer<'a> {
     ///
     /// # Errors
     ///
-    /// Fails if no token can be read. The tokenizer is then after the character that the error names, after the digits
-    /// or blanks of an invalid escape or, if a string is not closed, at the end of the text. If an allocation fails,
-    /// the tokenizer stays where it is.
+    /// Fails if no token can be read. The tokenizer is then after the invalid character, line end or escape. If the
+    /// invalid character is a space or tab after a backslash in a multi-line string, the tokenizer is after all spaces
+    /// and tabs there. If a string is not closed, the tokenizer is at the end of the text. If an allocation fails, it
+    /// stays where it is.
     pub fn step(&mut self, alloc: Global) -> Result<Option<(Span, Token<'a>)>, Stop<Error>>
         ensures text { self.new.text ≡ self.old.text }
         ensures step { spec.StepGives self.old.text self.old.at result self.new.at }
@@ -203,8 +205,7 @@ impl<'a> Tokenizer<'a> {
         }
     }
 
-    /// Returns the next token with its span, or `None` at the end of the text, as `step` does, but does not move on.
-    /// Fails like `step`, but the tokenizer stays where it is.
+    /// Returns what `step` would return. The tokenizer stays where it is, even after an error.
     pub fn peek(&mut self, alloc: Global) -> Result<Option<(Span, Token<'a>)>, Stop<Error>>
         ensures unchanged { self.new ≡ self.old }
         ensures step { (j : ℕ) × spec.StepGives self.old.text self.old.at result j
@@ -308,7 +309,7 @@ impl<'a> Tokenizer<'a> {
         }
     }
 
-    /// Reads a simple key: a bare key or a single-line string (`simple-key = quoted-key / unquoted-key`).
+    /// Reads and returns a simple key: a bare key or a single-line string (`simple-key = quoted-key / unquoted-key`).
     ///
     /// # Errors
     ///
@@ -380,7 +381,8 @@ impl<'a> Tokenizer<'a> {
     ///
     /// # Errors
     ///
-    /// Fails with `Unexpected` at a control character in the comment. The tokenizer is then after that character.
+    /// Fails with `Unexpected` at an ASCII control character other than a tab in the comment. The tokenizer is then
+    /// after that character.
     pub fn eat_comment(&mut self) -> Result<bool, Error>
         ensures text { self.new.text ≡ self.old.text }
         ensures comment { spec.EatsComment self.old.text self.old.at result self.new.at }

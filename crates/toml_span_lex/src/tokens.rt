@@ -4,15 +4,15 @@ ghost use Rattle.toml_span_lex.specs.Tokens.{lexeme, words};
 
 use std::borrow::CowStr;
 
-/// A token of a TOML document. Tokens are equal if and only if their contents are.
+/// A token of a TOML document. Two tokens are equal if they are of the same kind and have equal contents.
 #[derive(PartialEq, Eq, Debug, Drop)]
 pub enum Token<'a> {
     /// A maximal run of spaces and tabs.
     Whitespace(&'a str),
     /// A line feed, alone or after a carriage return.
     Newline,
-    /// A comment: its `#`, and what follows up to, but not including, the next ASCII control character other than a
-    /// tab, such as a line feed, or up to the end of the text.
+    /// A comment, from its `#` to the end of the line, without the line end. An ASCII control character other than a
+    /// tab ends it earlier.
     Comment(&'a str),
     Equals,
     Period,
@@ -31,13 +31,13 @@ pub enum Token<'a> {
         /// The value. It is borrowed if and only if it equals the text between the quotes, not counting a line end
         /// directly after three opening quotes.
         val: CowStr<'a>,
-        /// Whether it is a multi-line string.
+        /// Whether the string is multi-line.
         multiline: bool,
     },
 }
 
-/// Why the next token could not be read, or is not the expected one. Values of type `usize` are byte offsets, except
-/// where stated otherwise.
+/// Why the next token could not be read, or is not the expected token. A `usize` is a byte offset, except where stated
+/// otherwise.
 #[derive(PartialEq, Eq, Debug, Drop)]
 pub enum Error {
     /// A character that may not occur in a string.

@@ -28,7 +28,7 @@ impl From<AllocError> for Unwritten {
 }
 
 /// If the buffer `held` has at least 64 KiB, writes and empties it. Fails if a write fails; a prefix of the buffer has
-/// then been written. No earlier write may have failed.
+/// then been written, and `held` is unchanged. No earlier write may have failed.
 pub fn write_held<W: Sink>(writer: &mut W, held: &mut Vec<u8>) -> Result<(), Unwritten>
     requires { W.failed writer.old ≡ false }
     ensures { Streams result (W.contents writer.old) (W.contents writer.new) (W.failed writer.new)

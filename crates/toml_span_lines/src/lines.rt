@@ -13,7 +13,7 @@ use std::alloc::{AllocError, Global};
 use toml_span::value::{Table, Value, ValueInner};
 use toml_span::{Error, Span};
 
-/// Appends a number in decimal. Fails if an allocation fails.
+/// Appends a number in decimal to `out`. If an allocation fails, `out` may have a part of the number.
 fn push_number(out: &mut Vec<u8>, number: usize) -> Result<(), AllocError>
     ensures { OnOk result (out.new.items ≡ out.old.items ++ decimal number) }
 {
@@ -24,7 +24,7 @@ fn push_number(out: &mut Vec<u8>, number: usize) -> Result<(), AllocError>
     Ok(())
 }
 
-/// Appends a span as `start..end`. Fails if an allocation fails.
+/// Appends a span to `out` as `start..end`. If an allocation fails, `out` may have a part of the span.
 fn push_span(out: &mut Vec<u8>, span: Span) -> Result<(), AllocError>
     ensures { OnOk result (out.new.items ≡ out.old.items ++ spec.shown_span span.start span.end) }
 {
@@ -33,7 +33,7 @@ fn push_span(out: &mut Vec<u8>, span: Span) -> Result<(), AllocError>
     push_number(out, span.end)
 }
 
-/// Appends a line and a column as `line:column`. Fails if an allocation fails.
+/// Appends a line and a column to `out` as `line:column`. If an allocation fails, `out` may have a part of them.
 fn push_place(out: &mut Vec<u8>, place: (usize, usize)) -> Result<(), AllocError>
     ensures { OnOk result (out.new.items ≡ out.old.items ++ spec.shown_place place) }
 {
@@ -42,8 +42,8 @@ fn push_place(out: &mut Vec<u8>, place: (usize, usize)) -> Result<(), AllocError
     push_number(out, place.1)
 }
 
-/// Returns whether a byte of a key is written unescaped in a path: it must be printable ASCII other than space, `/` and
-/// `%`.
+/// Returns whether a byte of a key is written unescaped in a path: a printable ASCII character other than a space, `/`
+/// and `%`.
 fn is_plain(byte: u8) -> bool
     ensures { result ≡ spec.stands_for_itself byte }
 {
@@ -62,7 +62,7 @@ fn hex_digit(number: u8) -> u8
     }
 }
 
-/// Appends a byte of a key, as it is or as `%` and two hexadecimal digits. Fails if an allocation fails.
+/// Appends a byte of a key to `out`: unescaped if `is_plain`, otherwise as `%` and two hexadecimal digits.
 fn push_byte(out: &mut Vec<u8>, byte: u8) -> Result<(), AllocError>
     ensures { OnOk result (out.new.items ≡ out.old.items ++ spec.shown_byte byte) }
 {
@@ -73,7 +73,7 @@ fn push_byte(out: &mut Vec<u8>, byte: u8) -> Result<(), AllocError>
     out.extend_from_slice(&[b'%', hex_digit(byte / 16), hex_digit(byte % 16)])
 }
 
-/// Appends `/` and a key to a path. Fails if an allocation fails.
+/// Appends `/` and the key `name` to `path`. If an allocation fails, `path` may have a part of them.
 fn push_key(path: &mut Vec<u8>, name: &str) -> Result<(), AllocError>
     ensures { OnOk result (path.new.items ≡ path.old.items ++ spec.key_segment name.now) }
 {
@@ -84,7 +84,7 @@ fn push_key(path: &mut Vec<u8>, name: &str) -> Result<(), AllocError>
     Ok(())
 }
 
-/// Appends `/` and a position to a path. Fails if an allocation fails.
+/// Appends `/` and a position to `path`. If an allocation fails, `path` may have a part of them.
 fn push_position(path: &mut Vec<u8>, position: usize) -> Result<(), AllocError>
     ensures { OnOk result (path.new.items ≡ path.old.items ++ spec.position_segment position) }
 {
@@ -92,8 +92,8 @@ fn push_position(path: &mut Vec<u8>, position: usize) -> Result<(), AllocError>
     push_number(path, position)
 }
 
-/// Appends the line of a value: its path, or `root` if that is empty, its kind and its span. Fails if an allocation
-/// fails.
+/// Appends the line of a value to `out`: its path (`root` if the path is empty), its kind and its span. If an
+/// allocation fails, `out` may have a part of the line.
 fn push_line(out: &mut Vec<u8>, path: &[u8], kind: &str, span: Span) -> Result<(), AllocError>
     ensures { OnOk result (out.new.items ≡ out.old.items ++ spec.line path.now kind.now span.start span.end) }
 {
@@ -110,8 +110,8 @@ fn push_line(out: &mut Vec<u8>, path: &[u8], kind: &str, span: Span) -> Result<(
     Ok(())
 }
 
-/// Appends the line of a value to the buffer `held`, and writes the buffer if it has at least 64 KiB. Fails if a write
-/// or an allocation fails.
+/// Appends the line of a value to the buffer `held`, and writes the buffer if it has at least 64 KiB. If an allocation
+/// fails, `held` may have a part of the line.
 fn write_line<W: Sink>(
     writer: &mut W,
     held: &mut Vec<u8>,
@@ -127,9 +127,8 @@ fn write_line<W: Sink>(
     write_held(writer, held)
 }
 
-/// Writes, through the buffer `held`, the line of the value at `path`, and the lines of the values inside it. A value
-/// that has been taken has no line. Changes `path` on the way, and restores it. Fails if a write or an allocation
-/// fails; `path` is then unspecified.
+/// Writes, through the buffer `held`, the line of the value at `path`, and the lines of the values inside it. A taken
+/// value has no line. Fails if a write fails. After a failure, `path` is unspecified.
 #[cycle(write_value)]
 fn write_value<W: Sink>(
     writer: &mut W,
@@ -155,7 +154,7 @@ fn write_value<W: Sink>(
 }
 
 /// Writes, through the buffer `held`, the lines of the elements of the array at `path`, and of the values inside them.
-/// Fails if a write or an allocation fails.
+/// Fails if a write fails. After a failure, `path` is unspecified.
 #[cycle(write_value)]
 fn write_elements<W: Sink>(
     writer: &mut W,
@@ -178,7 +177,7 @@ fn write_elements<W: Sink>(
 }
 
 /// Writes, through the buffer `held`, the lines of the entries of the table at `path`, and of the values inside them.
-/// Fails if a write or an allocation fails.
+/// Fails if a write fails. After a failure, `path` is unspecified.
 #[cycle(write_value)]
 fn write_entries<W: Sink>(
     writer: &mut W,
@@ -200,9 +199,9 @@ fn write_entries<W: Sink>(
     Ok(())
 }
 
-/// Writes the buffer `held`, and then the lines of a tree: one for each value, before the lines of the values inside
-/// it, entries in the order of their names. The end of the output, less than 64 KiB, stays in the buffer. Fails if a
-/// write or an allocation fails; a prefix of the output has then been written.
+/// Writes the buffer `held`, and then the lines of a tree: one for each value that is not taken, before the lines of
+/// the values inside it, entries in the order of their names. The end of the output stays in the buffer. Fails if a
+/// write or an allocation fails; a prefix of the output has then been written. No earlier write may have failed.
 pub fn write_lines<W: Sink>(
     alloc: Global,
     writer: &mut W,
@@ -216,8 +215,8 @@ pub fn write_lines<W: Sink>(
     write_value(writer, held, &mut Vec::new(alloc), root)
 }
 
-/// Returns the lines of a tree: one for each value, before the lines of the values inside it, entries in the order of
-/// their names. Fails only if an allocation fails.
+/// Returns the lines of a tree: one for each value that is not taken, before the lines of the values inside it, entries
+/// in the order of their names. Fails if an allocation fails.
 pub fn tree_lines(alloc: Global, root: &Value<'_>) -> Result<Vec<u8>, AllocError>
     ensures { IfOk result (λ out. out.items ≡ spec.tree_lines (view root.now)) }
 {
@@ -231,8 +230,7 @@ pub fn tree_lines(alloc: Global, root: &Value<'_>) -> Result<Vec<u8>, AllocError
     Ok(out)
 }
 
-/// Returns the line of an error: `error`, its code, its span, and its line and column, which are `0:0` if the error
-/// does not have them. Fails if an allocation fails.
+/// Returns the line of an error: `error`, its code, its span, and its line and column (`0:0` if they are not known).
 pub(crate) fn error_line(alloc: Global, error: &Error<'_>) -> Result<Vec<u8>, AllocError>
     ensures { IfOk result (λ out. out.items ≡ spec.error_line (content_of error.now)) }
 {

@@ -26,8 +26,8 @@ pub enum Cut {
     Failed(io::Error),
 }
 
-/// Reads the whole input or, if it is longer, its first `BOUND + 1` bytes. Fails if a read or an allocation fails; the
-/// bytes read so far are then lost.
+/// Reads the whole input or, if it is longer than `BOUND`, its first `BOUND + 1` bytes. Fails if a read or an
+/// allocation fails; the bytes read so far are then lost. No earlier read may have failed.
 pub fn read_bytes<R: Source>(alloc: Global, reader: &mut R) -> Result<Vec<u8>, Cut>
     requires { R.failed reader.old ≡ false }
     ensures ok { IfOk result (λ v. HasReadAll (R.remaining reader.old) (R.remaining reader.new) v.items
@@ -51,7 +51,7 @@ pub fn read_bytes<R: Source>(alloc: Global, reader: &mut R) -> Result<Vec<u8>, C
     Ok(bytes)
 }
 
-/// Writes the bytes, until a write fails. Returns whether all of them were written.
+/// Writes the bytes, until a write fails. Returns whether all bytes were written. No earlier write may have failed.
 pub fn write_bytes<W: Sink>(writer: &mut W, text: &[u8]) -> bool
     requires { W.failed writer.old ≡ false }
     ensures { WritesOut (W.contents writer.old) (W.contents writer.new) text.now (W.failed writer.new) result }
@@ -68,7 +68,7 @@ pub fn write_bytes<W: Sink>(writer: &mut W, text: &[u8]) -> bool
 }
 
 /// Returns the exit status and the output for a text: 0 and the lines of its tree, or 1 and the line of its error.
-/// `limit` is the limit on the depth of values and on the number of parts of a key. Fails if an allocation fails.
+/// `limit` is the limit on the depth of values and on the number of parts of a key.
 fn answer_text(alloc: Global, text: &str, limit: usize) -> Result<(u8, Vec<u8>), AllocError>
     requires some { 1 ≤ limit }
     requires small { limit ≤ depth_limit }
@@ -81,10 +81,9 @@ fn answer_text(alloc: Global, text: &str, limit: usize) -> Result<(u8, Vec<u8>),
     }
 }
 
-/// Returns the exit status and the output for the bytes of an input: 2 and a line that says so if the input is longer
-/// than `BOUND` or not valid UTF-8, 1 and the line of its error if it is not valid TOML, otherwise 0 and the lines of
-/// its tree. `limit` is the limit on the depth of values and on the number of parts of a key. Fails if an allocation
-/// fails.
+/// Returns the exit status and the output for an input. Returns 2 and a line that says so if the input is longer than
+/// `BOUND` or not valid UTF-8, otherwise what `answer_text` returns. `limit` is the limit on the depth of values and on
+/// the number of parts of a key.
 fn answer(alloc: Global, bytes: &[u8], limit: usize) -> Result<(u8, Vec<u8>), AllocError>
     requires some { 1 ≤ limit }
     requires small { limit ≤ depth_limit }
@@ -137,7 +136,7 @@ pub fn run_with_limit<R: Source, W: Sink>(
     }
 }
 
-/// Like `run_with_limit`, with a limit of 128 on the depth of values and on the number of parts of a key.
+/// Does the same as `run_with_limit` with the limit 128.
 pub fn run<R: Source, W: Sink>(alloc: Global, reader: &mut R, writer: &mut W) -> u8
     requires reader { R.failed reader.old ≡ false }
     requires writer { W.failed writer.old ≡ false }

@@ -8,7 +8,7 @@ use crate::source::Source;
 use std::io;
 use std::io::{ErrorKind, Read, Write};
 
-/// A reader or writer of std that records whether a call has failed. Calls that a signal interrupts are repeated.
+/// A reader or writer of std that records whether a call has failed. It repeats a call that a signal interrupts.
 #[derive(Drop)]
 pub struct Tracked<T> {
     inner: T,

@@ -8,10 +8,14 @@ use Rattle.toml_span_read.specs.Gaps.{MaximalGap}
 use Rattle.toml_span_read.specs.Keys.{SpellsKey}
 use Rattle.toml_span_read.specs.Grammar.{SpellsLines, AssignmentWith, AssignmentsWith, SpellsScalar}
 use Rattle.toml_span_read.specs.code.Sections.{first_sections}
-use Rattle.toml_span_read.specs.Reading.{HoldsForm, OnlyFormsTakeMemory}
+use Rattle.toml_span_read.specs.Reading.{OnlyFormsTakeMemory}
 use Rattle.toml_span_read.proofs.InsideLemmas.{ascend_forward, tail_inside}
 use Rattle.toml_span_read.proofs.KeyOrder.{dotted_ascend}
 use Rattle.toml_span_read.proofs.SpanLaws.{value_lies}
+
+-- From i on there is something other than comments and blank lines.
+abbrev pub HoldsForm : List ℕ → ℕ → Type 0
+HoldsForm text i = (k : ℕ) × MaximalGap text i k × (k < length text)
 
 -- a key begins before the end of the text
 key_within : (ps : List SimpleKey) (text : List ℕ) (i j : ℕ) → SpellsKey ps text i j → (i < length text) × (i ≤ j)

@@ -6,11 +6,10 @@ use Rattle.toml_span_read.specs.declared.value.Assignment.{Assignment}
 use Rattle.toml_span_read.specs.Borrowed.{AreWrittenRight, assignments_written, section_written, sections_written}
 use Rattle.toml_span_read.specs.Data.{parsed_section}
 use Rattle.toml_span_read.specs.Read as read
-use Rattle.toml_span_read.specs.Reading.{HoldsForm}
 use Rattle.toml_span_read.specs.code.Sections.{first_sections}
 use Rattle.toml_span_read.proofs.BorrowLemmas.{all_append}
 use Rattle.toml_span_read.proofs.LineRead.{DocumentFrom, document_begins}
-use Rattle.toml_span_read.proofs.MemoryLemmas.{Begun, begun_by_lines, lines_keep}
+use Rattle.toml_span_read.proofs.MemoryLemmas.{Begun, HoldsForm, begun_by_lines, lines_keep}
 use Rattle.toml_span_read.proofs.ReadSound.{first_sound}
 
 pub first_right : (text : List ℕ) (o : Option Section) (vs : List Assignment) → IfSome o (λ s. section_written s ≡ assignments_written vs) → AreWrittenRight text (assignments_written vs) → IfSome o (λ s. AreWrittenRight text (section_written s))

@@ -1,5 +1,5 @@
 -- How values are read, step by step.
-use Rattle.toml_span_lex.proofs.Common.{common_steps, nat_tests, ◌≡◌, ℕ, zero, suc, ◌+◌, ◌-◌, ◌<◌, ◌≤◌, ◌⊎◌, Bool, true, false, List, [], ◌∷◌, ◌++◌, map, get_or, arith, inl, inr, refl, ap, Result, Ok, Err, cow_str_bytes, ◌==◌, ◌||◌, or_parts, or_right, slice_range, codes, is_some, bytes_eq, cases_lt, map-append, bytes_eq-Decides}
+use Rattle.toml_span_lex.proofs.Common.{common_steps, nat_tests, ◌≡◌, ℕ, zero, suc, ◌+◌, ◌-◌, ◌<◌, ◌≤◌, ◌⊎◌, Bool, true, false, List, [], ◌∷◌, ◌++◌, map, get_or, arith, inl, inr, ◌∙◌, refl, sym, ap, Result, Ok, Err, cow_str_bytes, ◌==◌, ◌||◌, or_parts, or_right, slice_range, codes, is_some, bytes_eq, cases_lt, map-append, bytes_eq-Decides}
 use Rattle.toml_span_lex.specs.declared.stop.Stop.{Stop}
 use Rattle.toml_span_lex.specs.declared.stop.Stop.TheVariants as stops
 use Rattle.toml_span_lex.specs.Bytes.{is_keylike, MaximalRun}
@@ -42,7 +42,9 @@ number_first text i t = rw t refl
 
 pub number_bare : (r : Result (ValKind × ℕ) (Stop Fault)) (text : List ℕ) (i : ℕ) → begins_date text i ≡ false → (begins_number (get_or text i 0) || is_some (special false (read.run_at text i))) ≡ true
     → ScalarGives (λ x. x ≡ number text i) r → ScalarGives (read.bare text i) r
-number_bare r text i d t h = grind (arith, nat_tests, common_steps)
+number_bare (Ok (kind, j)) text i d t (s, same, is) = (s, same, inr (d, is ∙ sym (number_first text i t)))
+number_bare (Err (stops.Memory e)) text i d t h = tt
+number_bare (Err (stops.Fault fault)) text i d t is = inr (d, is ∙ sym (number_first text i t))
 
 special_word : (word : List ℕ) → (word ≡ codes "inf") ⊎ (word ≡ codes "nan") → is_some (special false word) ≡ true
 unfolding special

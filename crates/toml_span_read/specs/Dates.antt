@@ -22,8 +22,8 @@ abbrev pub continues_date : List ℕ → ℕ → Bool
 continues_date text i = slice_index text i == space && is_ascii_digit (slice_index text (i + 1))
 
 -- The text from i to j is read as a date or time: all bytes of `is_date_byte` from i on and, if there are exactly ten
--- of them before a space and a digit, also the space and those from that digit on. `IsDateText` of toml_span_tree says
--- which of these texts are valid.
+-- of them before a space and a digit, also the space and those from that digit on. `is_date_text` of toml_span_tree
+-- says which of these texts are valid.
 abbrev pub IsCandidate : List ℕ → ℕ → ℕ → Type 0
 IsCandidate text i j =
     (MaximalRun is_date_byte text i j × (((j == i + 10) && continues_date text j) ≡ false))

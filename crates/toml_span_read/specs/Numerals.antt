@@ -13,9 +13,9 @@ use Rattle.std.specs.Prelude.{if◌then◌else◌, List, map, filter, drop, slic
 use Rattle.std.specs.Prelude.{codes, Option, Some, None, is_some, Result, Ok, Err}
 use Rattle.std.specs.Str.{bytes_eq}
 use Rattle.std.specs.Str.Parse.{digits_value}
-use Rattle.toml_span_lex.specs.Bytes.{is_keylike, plus, dash, period, digit_zero, underscore, small_e}
+use Rattle.toml_span_lex.specs.Bytes.{is_keylike, plus, dash, period, digit_zero, underscore}
 use Rattle.toml_span_tree.specs.Node as scalars
-use Rattle.toml_span_tree.specs.Node.{Scalar, float, infinite, not_a_number}
+use Rattle.toml_span_tree.specs.Node.{Scalar, float, finite, infinite, not_a_number}
 use Rattle.toml_span_read.specs.declared.fault.Fault.{Fault}
 use Rattle.toml_span_read.specs.declared.fault.FaultKind.TheVariants as kinds
 use Rattle.toml_span_read.specs.declared.numbers.Numeral.{Numeral}
@@ -28,11 +28,6 @@ Err e >>= f = Err e
 
 abbrev pub invalid_number : ℕ → ℕ → Fault
 invalid_number start end = record { kind = kinds.InvalidNumber; span = record { start = start; end = end } }
-
--- ---- letters
-
-abbrev pub capital_e : ℕ
-capital_e = 69
 
 -- ---- digits
 
@@ -114,9 +109,9 @@ radix_integer radix text start end =
 
 -- ---- floats
 
--- `"e"`, of either case
+-- `"e"`, of either case: %x65 or %x45
 abbrev pub is_exponent : ℕ → Bool
-is_exponent c = c == small_e || c == capital_e
+is_exponent c = c == 0x65 || c == 0x45
 
 -- the digits of an exponent, which must extend to the end of their piece
 unfoldable pub exponent_digits : List ℕ → ℕ → ℕ → ℕ → ℕ → ℕ → Result ℕ Fault
@@ -141,16 +136,14 @@ fraction text i a b =
     else if is_exponent (slice_index text m) then exponent text a b m (run_end text (b + 1))
     else Err (invalid_number a b))
 
-abbrev pub finite : Result ℕ Fault → Result (Numeral × ℕ) Fault
-finite end = end >>= (λ j. Ok (numerals.Finite, j))
-
 -- `dec-int`, or `float-int-part ( exp / frac [ exp ] )`
 unfoldable pub decimal : List ℕ → ℕ → ℕ → ℕ → Result (Numeral × ℕ) Fault
 decimal text i a b =
     integer_part text a (after_sign text a) b >>= (λ m.
     if nat_lt m b
-    then (if is_exponent (slice_index text m) then finite (exponent text a b m b) else Err (invalid_number a b))
-    else if slice_index text b == period then finite (fraction text i a b)
+    then (if is_exponent (slice_index text m) then exponent text a b m b >>= (λ j. Ok (numerals.Finite, j))
+    else Err (invalid_number a b))
+    else if slice_index text b == period then fraction text i a b >>= (λ j. Ok (numerals.Finite, j))
     else integer 10 text (is_negative text a) a (after_sign text a) b >>= (λ n. Ok (numerals.Integer n, b)))
 
 -- `inf / nan`
@@ -188,15 +181,15 @@ numeral text i =
     then Err (invalid_number i (run_end text (i + 1)))
     else unsigned text i (i + 1) (run_end text (i + 1))
 
--- The text that is stored for a float: its literal without plus signs and underscores, and with a capital `E`.
+-- The text that is stored for a float: its literal without plus signs and underscores, and with `E` for `e`.
 abbrev pub cleaned : List ℕ → List ℕ
 cleaned literal =
-    map (λ c. if c == small_e then capital_e else c) (filter (λ c. not (c == plus || c == underscore)) literal)
+    map (λ c. if c == 0x65 then 0x45 else c) (filter (λ c. not (c == plus || c == underscore)) literal)
 
 -- the number read, given its literal
 abbrev pub scalar_of : Numeral → List ℕ → Scalar
 scalar_of (numerals.Integer n) literal = scalars.integer n
-scalar_of numerals.Finite literal = float (scalars.finite (cleaned literal))
+scalar_of numerals.Finite literal = float (finite (cleaned literal))
 scalar_of (numerals.Infinite negative) literal = float (infinite negative)
 scalar_of (numerals.NotANumber negative) literal = float (not_a_number negative)
 

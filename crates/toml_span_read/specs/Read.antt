@@ -15,7 +15,7 @@ use Rattle.toml_span_lex.specs.declared.span.Span.{Span}
 use Rattle.toml_span_lex.specs.declared.tokens.Error.{Error}
 use Rattle.toml_span_lex.specs.Text.{FirstPlace}
 use Rattle.toml_span_lex.specs.Tokens.{Lexeme, keylike, string, IsLexeme, IsNoToken}
-use Rattle.toml_span_tree.specs.Date.{IsDateText}
+use Rattle.toml_span_tree.specs.Date.{is_date_text}
 use Rattle.toml_span_tree.specs.Node.{Scalar, boolean, datetime, text as text_scalar}
 use Rattle.toml_span_read.specs.Data.{ParsedValue, parsed, ParsedInner, scalar, array as array_node, no_items, onto}
 use Rattle.toml_span_read.specs.Data.{headerless_section, from_to, last_end, inline as inline_node, no_pairs}
@@ -137,9 +137,8 @@ key in_header text (suc left) ps i =
 abbrev pub date : List ℕ → ℕ → Reading (Scalar × ℕ)
 date text i r =
     (j : ℕ) × IsCandidate text i j
-    × ((IsDateText (slice_range text i j) × (r ≡ Ok (datetime (slice_range text i j), j)))
-    ⊎ ((IsDateText (slice_range text i j) → ⊥)
-    × (r ≡ Err (record { kind = kinds.InvalidDatetime; span = from_to i j }))))
+    × choice (is_date_text (slice_range text i j)) (gives (Ok (datetime (slice_range text i j), j)))
+    (gives (Err (record { kind = kinds.InvalidDatetime; span = from_to i j }))) r
 
 -- the letters, digits, dashes and underscores from i on
 abbrev pub run_at : List ℕ → ℕ → List ℕ
@@ -163,7 +162,7 @@ number_or_word text i =
 -- a value without brackets, braces or quotes, of
 -- `val = string / boolean / array / inline-table / date-time / float / integer`
 abbrev pub bare : List ℕ → ℕ → Reading (Scalar × ℕ)
-bare text i = choice (begins_date text i) (date text i) (λ r. r ≡ number_or_word text i)
+bare text i = choice (begins_date text i) (date text i) (gives (number_or_word text i))
 
 -- a value and the offset after it
 abbrev pub ValueEnd : Type 0

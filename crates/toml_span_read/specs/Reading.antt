@@ -32,12 +32,8 @@ AreRead bs (Ok found) = map parsed_section found.items ≡ bs
 AreRead bs (Err (stops.Memory e)) = Unit {0}
 AreRead bs (Err (stops.Fault error)) = ⊥
 
--- From i on there is something other than comments and blank lines.
-abbrev pub HoldsForm : List ℕ → ℕ → Type 0
-HoldsForm text i = (k : ℕ) × MaximalGap text i k × (k < length text)
-
--- An allocation can fail only if there is something to allocate for.
+-- An allocation can fail only if something other than comments and blank lines follows from i on.
 abbrev pub OnlyFormsTakeMemory : {A E : Type 0} → List ℕ → ℕ → Result A (Stop E) → Type 0
-OnlyFormsTakeMemory text i (Err (stops.Memory e)) = HoldsForm text i
+OnlyFormsTakeMemory text i (Err (stops.Memory e)) = (k : ℕ) × MaximalGap text i k × (k < length text)
 OnlyFormsTakeMemory text i (Err (stops.Fault fault)) = Unit {0}
 OnlyFormsTakeMemory text i (Ok found) = Unit {0}

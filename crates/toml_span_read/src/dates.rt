@@ -14,7 +14,7 @@ use toml_span_lex::bytes::is_keylike;
 use toml_span_lex::span::Span;
 use toml_span_tree::DateText;
 
-/// Returns whether the byte at `at` is a decimal digit.
+/// Returns whether there is a decimal digit at the byte offset `at`.
 #[inline]
 fn is_decimal_at(text: &str, at: usize) -> bool
     ensures { result ≡ is_ascii_digit (slice_index text.now at) }
@@ -22,8 +22,8 @@ fn is_decimal_at(text: &str, at: usize) -> bool
     byte_at(text, at).is_ascii_digit()
 }
 
-/// Returns whether a value at `at` is read as a date or time: it begins with four digits and a dash, or with two digits
-/// and a colon.
+/// Returns whether there are four digits and a dash, or two digits and a colon, at the byte offset `at`. A value that
+/// begins with these is read as a date or time.
 ///
 /// `date-fullyear = 4DIGIT`, `time-hour = 2DIGIT` (TOML 1.1, Local Date, Local Time)
 #[inline]
@@ -47,8 +47,8 @@ fn is_date_byte(byte: u8) -> bool
     is_keylike(byte) || byte == b':' || byte == b'.' || byte == b'+'
 }
 
-/// Returns the offset after the run of bytes, beginning at the byte offset `from`, that can be part of a date or time
-/// (`is_date_byte`); `from` itself if the run is empty.
+/// Skips the bytes from `from` that can be part of a date or time (`is_date_byte`). Returns the offset after them, or
+/// `from` if there are none.
 fn date_run_end(text: &str, from: usize) -> usize
     requires { IsCharBoundary text.now from }
     ensures run { MaximalRun spec.is_date_byte text.now from result }
@@ -63,9 +63,9 @@ fn date_run_end(text: &str, from: usize) -> usize
     bytes.len()
 }
 
-/// Returns the offset after the bytes that are read as the date or time at `at`: the run of bytes that can be part of a
-/// date or time (`is_date_byte`). If this run has ten bytes, and a space and a digit follow, the run after the space is
-/// read too.
+/// Returns the offset after the date or time at `at`, valid or not. It extends to the first byte that is not a date
+/// byte (`is_date_byte`). If it has ten bytes, and a space and a digit follow, the date bytes after the space belong to
+/// it.
 fn date_end(text: &str, at: usize) -> usize
     requires { IsCharBoundary text.now at }
     ensures candidate { IsCandidate text.now at result }
@@ -80,9 +80,10 @@ fn date_end(text: &str, at: usize) -> usize
     }
 }
 
-/// Reads the date or time at the byte offset `at`, where `begins_date` must hold. Returns it with the offset after it.
+/// Reads the date or time at the byte offset `at`, where `begins_date` must hold. Returns the date or time with the
+/// offset after it.
 ///
-/// Fails with `InvalidDatetime` if it is not valid. The fault spans all bytes that are read as part of it.
+/// Fails with `InvalidDatetime` if the date or time is not valid. The fault spans all bytes that were read.
 ///
 /// `date-time = offset-date-time / local-date-time / local-date / local-time` (TOML 1.1, Offset Date-Time)
 #[inline(never)]

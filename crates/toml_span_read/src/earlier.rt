@@ -14,11 +14,11 @@ use toml_span_lex::key::Key;
 use toml_span_lex::span::Span;
 use toml_span_lex::stop::Stop;
 
-/// A node of the tree of paths, for one path: whether a value is assigned to that path, and the nodes of the paths that
-/// are one part longer.
+/// A node of the tree of paths. Each node stands for one path; `below` has the nodes of the paths that are one part
+/// longer.
 #[derive(Drop)]
 struct Node<'de> {
-    /// If values are assigned to this path, the span of the last part of the key that assigned the first of them.
+    /// The span of the last part of the first key that assigns a value to this path, or `None` if no key does.
     value: Option<Span>,
     below: BTreeMap<Key<'de>, Node<'de>>,
 }
@@ -33,8 +33,8 @@ fn empty<'de>(alloc: Global) -> Node<'de>
     }
 }
 
-/// Records that a value is assigned to the path that leads from `node` through the parts `inner` to `last`. Changes
-/// nothing if that is recorded already. Fails if an allocation fails.
+/// Records that a value is assigned to the path that leads from `node` through the parts `inner` to `last`. Does
+/// nothing if a value is recorded there already.
 fn put<'de>(
     alloc: Global,
     node: &mut Node<'de>,
@@ -57,8 +57,8 @@ fn put<'de>(
     }
 }
 
-/// Records that a value is assigned to the path that leads from `node` to `last`. Changes nothing if that is recorded
-/// already. Fails if an allocation fails.
+/// Records that a value is assigned to the path that leads from `node` to `last`. Does nothing if a value is recorded
+/// there already.
 fn put_last<'de>(alloc: Global, node: &mut Node<'de>, last: &Key<'de>) -> Result<(), AllocError>
     ensures { OnOk result (code.Puts (cow_str_bytes last.now.name ∷ []) last.now.span (code.holds node.old)
         (code.holds node.new)) }
@@ -78,7 +78,7 @@ fn put_last<'de>(alloc: Global, node: &mut Node<'de>, last: &Key<'de>) -> Result
     }
 }
 
-/// Adds `child` to `node` under `key`, where `node` has no child yet. Fails if an allocation fails.
+/// Adds `child` to `node` under `key`. `node` must have no child under `key` yet.
 fn put_child<'de>(
     alloc: Global,
     node: &mut Node<'de>,
@@ -93,9 +93,8 @@ fn put_child<'de>(
     Ok(())
 }
 
-/// Follows the parts `inner` below `node`, up to the first part that ends the path of an assigned value. Returns the
-/// byte offset at which that part starts, and the span of the last part of the key that assigned the value. Returns
-/// `None` if there is no such part.
+/// Follows the parts `inner` from `node` to the first node with a value. Returns the byte offset at which the part that
+/// leads to this node starts, and the node's `value`. Returns `None` if no node on the way has a value.
 fn crossing<'de>(node: &Node<'de>, inner: &[Key<'de>]) -> Option<(usize, Span)>
     ensures { (last : SimpleKey)
         → result ≡ spec.crossed (code.holds node.now) (map simple_key inner.now ++ (last ∷ [])) }
@@ -128,14 +127,14 @@ fn value_end<'de>(next: &Assignment<'de>) -> usize
     next.value.span.end
 }
 
-/// The values that have been assigned in a section or an inline table so far, by path. A key can go through an earlier
-/// value only if it has more inner parts (parts before the last) than the key of that value. So the tree is brought up
-/// to date only for a key that has more inner parts than some earlier key.
+/// The paths of the values that have been assigned in a section or an inline table so far. Assignments are added to
+/// `tree` only when a key has more inner parts (parts before the last) than an earlier key, since no other key can go
+/// through an earlier value.
 #[derive(Drop)]
 pub(crate) struct Earlier<'de> {
     /// The lowest number of inner parts of any key so far.
     fewest: usize,
-    /// How many of the values have been added to the tree.
+    /// The number of assignments that have been added to the tree.
     known: usize,
     tree: Node<'de>,
 }
@@ -152,8 +151,8 @@ impl<'de> Earlier<'de> {
         }
     }
 
-    /// Adds to the tree the assignments that are not in it yet. `values` are all assignments so far. Fails if an
-    /// allocation fails.
+    /// Adds the assignments that are missing in the tree. `values` are all assignments so far. If an allocation fails,
+    /// some may have been added.
     #[inline(never)]
     fn catch_up(&mut self, alloc: Global, values: &[Assignment<'de>]) -> Result<(), AllocError>
         requires { code.Knows self.now (map parsed_assignment values.now) }
@@ -170,7 +169,7 @@ impl<'de> Earlier<'de> {
     }
 
     /// Returns the fault of the assignment `next` if its key goes through the value of an earlier assignment, otherwise
-    /// `None`. `values` are all earlier assignments. Fails if an allocation fails.
+    /// `None`. `values` are all earlier assignments.
     fn fault(
         &mut self,
         alloc: Global,
@@ -200,8 +199,8 @@ impl<'de> Earlier<'de> {
     }
 }
 
-/// Appends the assignment `next` to `values`, which are all assignments so far. Fails if its key goes through the value
-/// of one of them, or if an allocation fails.
+/// Appends the assignment `next` to `values`, which are all assignments so far. Fails if the key of `next` goes through
+/// the value of an earlier assignment.
 #[inline(always)]
 pub(crate) fn add_clear<'de>(
     alloc: Global,

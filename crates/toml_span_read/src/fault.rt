@@ -92,7 +92,7 @@ impl FoundToken {
     }
 }
 
-/// What is wrong. `ErrorKind` describes the variants, which have the same names there.
+/// What is wrong. `ErrorKind` has variants with the same names, and describes them.
 #[derive(Clone, Copy, Debug)]
 pub enum FaultKind {
     UnexpectedEof,
@@ -116,14 +116,14 @@ pub enum FaultKind {
     },
 }
 
-/// Why a text can't be read, and the span of the bytes at fault.
+/// Why a text can't be read, and where. The span may end after the text, or inside a character.
 #[derive(Clone, Copy, Debug)]
 pub struct Fault {
     pub kind: FaultKind,
     pub span: Span,
 }
 
-/// Returns a fault whose span is the byte at `at`.
+/// Returns a fault of this kind with the span `at..at + 1`.
 pub(crate) fn fault_at(kind: FaultKind, at: usize) -> Fault
     requires { at < usize.MAX }
     ensures { result ≡ spec.fault_at kind at }
@@ -135,7 +135,7 @@ pub(crate) fn fault_at(kind: FaultKind, at: usize) -> Fault
     Fault { kind, span }
 }
 
-/// Returns the fault `InvalidNumber`, which says that the bytes `start..end` are not a valid number.
+/// Returns the fault `InvalidNumber` with the span `start..end`.
 pub(crate) fn invalid_number(start: usize, end: usize) -> Fault
     ensures { result ≡ numerals.invalid_number start end }
 {
@@ -146,8 +146,7 @@ pub(crate) fn invalid_number(start: usize, end: usize) -> Fault
     }
 }
 
-/// Returns the fault for an error that the tokenizer reports when it reads a token. `Wanted` and `MultilineStringKey`
-/// are errors of other methods of the tokenizer, and do not occur here.
+/// Converts an error of `token_at` or `string_at` into a fault.
 pub(crate) fn token_fault(error: TokenError) -> Fault
     requires { Bounded usize.MAX error }
     ensures { result ≡ spec.token_fault error }
@@ -174,7 +173,7 @@ pub(crate) fn token_fault(error: TokenError) -> Fault
     }
 }
 
-/// Returns the kind of error that reports this kind of fault.
+/// Converts the kind of a fault into the kind of an error.
 fn error_kind<'s>(kind: FaultKind) -> ErrorKind<'s>
     ensures { kind_of result ≡ spec.error_kind kind }
 {
@@ -199,8 +198,8 @@ fn error_kind<'s>(kind: FaultKind) -> ErrorKind<'s>
     }
 }
 
-/// Returns the error that reports a fault, with the line and column in `text` at which its span starts, both counted
-/// from 0, the column in bytes. The span must not start after the end of the text.
+/// Converts a fault of `text` into an error. The error has the line and the column at which the fault's span starts,
+/// both counted from 0, the column in bytes. The span must not start after the end of the text.
 pub fn error_of<'s>(text: &str, fault: Fault) -> Error<'s>
     requires { fault.span.start ≤ length text.now }
     ensures { content_of result ≡ fault_content text.now fault }

@@ -19,7 +19,8 @@ pub fn byte_at(text: &str, at: usize) -> u8
     if at < bytes.len() { bytes[at] } else { 0 }
 }
 
-/// Returns the offset after the space, tab, line end or comment at `at`, or `None` if something else is there.
+/// Returns the offset after the space, tab, line end or comment at `at`. Returns `None` at anything else, and at the
+/// end of the text.
 ///
 /// `wschar = %x20 / %x09`, `newline = %x0A / %x0D.0A`, `comment = comment-start-symbol *non-eol` (TOML 1.1, Comment)
 #[inline]
@@ -51,8 +52,8 @@ pub fn gap_end(text: &str, from: usize) -> usize
     at
 }
 
-/// Skips the rest of a line, which may have spaces, tabs and a comment, from the byte offset `from`. Returns the offset
-/// after the line end, or the end of the text. Fails at anything else, with the offset of its first byte.
+/// Skips the rest of a line from the byte offset `from`: spaces, tabs, perhaps a comment, and the line end or the end
+/// of the text. Returns the offset after them. If there is anything else, fails with the offset of its first byte.
 ///
 /// `ws [ comment ] ( newline / end of text )` (TOML 1.1, Overall Structure)
 pub fn line_rest(text: &str, from: usize) -> Result<usize, usize>
@@ -103,7 +104,8 @@ pub(crate) fn after_byte(text: &str, at: usize) -> usize
     at + 1
 }
 
-/// Returns the offset after the ASCII byte at `at`, such as a bracket or a comma, and after the gap that follows it.
+/// Skips the ASCII byte at `at`, such as a bracket or a comma, and the gap after the byte. Returns the offset after
+/// both.
 ///
 /// `array-open = %x5B`, `inline-table-open = %x7B` (TOML 1.1, Array, Inline Table)
 pub(crate) fn opened(text: &str, at: usize) -> usize
@@ -117,11 +119,11 @@ pub(crate) fn opened(text: &str, at: usize) -> usize
 
 /// What follows an element of an array or a pair of an inline table.
 pub(crate) enum AfterElement {
-    /// A comma. The number is the offset after it and after the gap that follows it.
+    /// A comma, with the offset after the comma and the gap that follows the comma.
     Comma(usize),
-    /// The closing bracket or brace. The number is the offset after it.
+    /// The closing bracket or brace, with the offset after it.
     Closed(usize),
-    /// Something else, or the end of the text. The number is its offset.
+    /// Something else, or the end of the text, with its offset.
     Neither(usize),
 }
 

@@ -23,8 +23,8 @@ use toml_span_lex::key::Key;
 use toml_span_lex::span::Span;
 use toml_span_lex::stop::Stop;
 
-/// Reads the quoted key at `at`. Returns it with the offset after it. Fails with `MultilineStringKey` at a multi-line
-/// string, with the fault of a string that is not valid, or if an allocation fails.
+/// Reads the quoted key at `at`. Returns the key with the offset after it. Fails with `MultilineStringKey` at a
+/// multi-line string, and with the tokenizer's fault at an invalid string.
 ///
 /// `quoted-key = basic-string / literal-string` (TOML 1.1, Keys)
 #[tactic(auto, using(crate::proofs::KeyLemmas::string_stops))]
@@ -58,10 +58,10 @@ fn quoted_key<'de>(
     Ok((key, token.end))
 }
 
-/// Reads the simple key at the byte offset `at`. Returns it with the offset after it.
+/// Reads the simple key at the byte offset `at`. Returns the key with the offset after it.
 ///
-/// Fails with `Wanted` at another token or at the end of the text, with `MultilineStringKey` at a multi-line string,
-/// with the fault of a string that is not valid, or if an allocation fails.
+/// Fails with `MultilineStringKey` at a multi-line string, with `Wanted` at another token or the end of the text, and
+/// with the tokenizer's fault if no token can be read.
 ///
 /// `simple-key = quoted-key / unquoted-key` (TOML 1.1, Keys)
 #[tactic(auto, using(crate::proofs::KeyLemmas::wanted_stops))]
@@ -89,8 +89,8 @@ pub(crate) fn simple_key<'de>(
     }
 }
 
-/// Returns the fault for a dotted key with more parts than the limit allows. `key` is the first part beyond the limit,
-/// at `at`. In a header, the fault spans this part, elsewhere only its first byte.
+/// Returns the fault for a key with too many parts. `key`, at the byte offset `at`, is the first part beyond the limit.
+/// The fault spans `key.span` in a header, otherwise the byte at `at`.
 fn one_too_many(key: &Key<'_>, at: usize, in_header: bool) -> Fault
     requires { at < usize.MAX }
     ensures { result ≡ spec.one_too_many in_header at (read_data.simple_key key.now) }
@@ -104,10 +104,9 @@ fn one_too_many(key: &Key<'_>, at: usize, in_header: bool) -> Fault
     }
 }
 
-/// Reads the part of a dotted key at `at`, which comes after `others` other parts. Returns the part, the offset after
-/// it, and the offset of the next part, or `None` if no dot follows. Fails with the fault of the part, with
-/// `ExceededDepthLimit` if `others` is not below `limit`, or if an allocation fails. `in_header` says whether the key
-/// is in a header, where `ExceededDepthLimit` spans the whole part instead of its first byte.
+/// Reads the part of a key at `at`, which comes after `others` other parts. Returns the part, the offset after it, and
+/// the offset of the next part (`None` if no dot follows). Fails with the fault of the part, or with the fault of
+/// `one_too_many` if `others` is `limit` or more.
 ///
 /// `dot-sep simple-key` (TOML 1.1, Keys)
 #[tactic(auto, using(crate::proofs::KeyLemmas::part_stops))]
@@ -131,10 +130,9 @@ fn part<'de>(
     Ok((key, end, dot(text, end)))
 }
 
-/// Reads the key of an assignment or pair at `at`. Returns it with the offset after it.
+/// Reads the key of an assignment or pair at `at`. Returns the key with the offset after it.
 ///
-/// Fails with the fault of a part, with `ExceededDepthLimit` if the key has more than `limit` parts, or if an
-/// allocation fails.
+/// Fails with the fault of a part, or with `ExceededDepthLimit` if the key has more than `limit` parts.
 ///
 /// `key = simple-key / dotted-key`, `dotted-key = simple-key 1*( dot-sep simple-key )` (TOML 1.1, Keys)
 #[tactic(auto, using(crate::proofs::KeyLemmas::part_placed, crate::proofs::KeyLemmas::none_after))]
@@ -166,8 +164,8 @@ pub(crate) fn dotted_key<'de>(
     }
 }
 
-/// Reads the key of a header at `at`. Returns its parts with the offset after them. Fails with the fault of a part,
-/// with `ExceededDepthLimit` if there are more than `limit` parts, or if an allocation fails.
+/// Reads the key of a header at `at`. Returns its parts with the offset after them. Fails with the fault of a part, or
+/// with `ExceededDepthLimit` if there are more than `limit` parts.
 ///
 /// `key = simple-key / dotted-key`, in `std-table = std-table-open key std-table-close` (TOML 1.1, Table)
 #[tactic(auto, using(crate::proofs::KeyLemmas::part_placed, crate::proofs::KeyLemmas::none_after))]

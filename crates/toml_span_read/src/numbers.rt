@@ -26,7 +26,7 @@ use toml_span_lex::span::Span;
 use toml_span_lex::stop::Stop;
 use toml_span_tree::FloatText;
 
-/// A number, as it was read. The text of a finite float is not kept here.
+/// A number that was read. `Finite` is a finite float, without its text.
 #[derive(Clone, Copy)]
 pub enum Numeral {
     Integer(i64),
@@ -35,8 +35,8 @@ pub enum Numeral {
     NotANumber { negative: bool },
 }
 
-/// Returns the offset after the run of letters, digits, dashes and underscores that begins at `from`; `from` itself if
-/// the run is empty.
+/// Returns the offset after the run of letters, digits, dashes and underscores that begins at `from`, or `from` if the
+/// run is empty.
 #[inline]
 fn run_end(text: &str, from: usize) -> usize
     requires { IsCharBoundary text.now from }
@@ -46,7 +46,7 @@ fn run_end(text: &str, from: usize) -> usize
     keylike_end(text, from)
 }
 
-/// Returns the value of a digit in this radix, or `None` if the byte is not such a digit.
+/// Returns the value of a digit in this radix, or `None` if the byte is not a digit in this radix.
 #[inline]
 fn digit(byte: u8, radix: u8) -> Option<u8>
     ensures { DigitGives radix byte result }
@@ -60,11 +60,11 @@ fn digit(byte: u8, radix: u8) -> Option<u8>
     if value < radix { Some(value) } else { None }
 }
 
-/// Returns the offset after the digits in this radix that begin at `from`. Single underscores may separate them.
-/// `piece` spans the run of letters, digits, dashes and underscores that contains them.
+/// Returns the offset after the digits in this radix that begin at `from`, `piece.end` at most. Single underscores may
+/// separate the digits.
 ///
-/// Fails with `InvalidNumber` if there is no digit at `from`, or an underscore is not between two digits. The fault
-/// spans the piece or, if there is an underscore at `from`, only `from..piece.end`.
+/// Fails with `InvalidNumber` if there is no digit at `from`, or if an underscore is not between two digits. The fault
+/// spans `piece` or, if there is an underscore at `from`, `from..piece.end`.
 ///
 /// `zero-prefixable-int = DIGIT *( DIGIT / underscore DIGIT )` (TOML 1.1, Float)
 fn digits_end(text: &str, piece: Span, from: usize, radix: u8) -> Result<usize, Fault>
@@ -97,7 +97,7 @@ fn digits_end(text: &str, piece: Span, from: usize, radix: u8) -> Result<usize, 
     }
 }
 
-/// Returns the number with one more digit in this radix, or `None` if that is 2^64 or more.
+/// Returns `number * radix + digit`, or `None` if the result is 2^64 or more.
 #[inline]
 fn with_digit(number: u64, radix: u8, digit: u8) -> Option<u64>
     ensures { WithinGives (number * radix + digit) result }
@@ -107,8 +107,8 @@ fn with_digit(number: u64, radix: u8, digit: u8) -> Option<u64>
         .checked_add(u64::from(digit))
 }
 
-/// Returns the number that the digits spell in this radix, with or without underscores, or `None` if it is 2^64 or
-/// more.
+/// Returns the number that `digits`, which may have underscores between them, spell in this radix. Returns `None` if
+/// the number is 2^64 or more.
 fn magnitude(digits: &[u8], radix: u8) -> Option<u64>
     ensures { WithinGives (digits_value radix (filter (is_digit_in radix) digits.now)) result }
 {
@@ -138,8 +138,8 @@ fn signed(negative: bool, magnitude: u64) -> Option<i64>
     }
 }
 
-/// Returns the integer that the digits from `from` to the end of `piece` spell in this radix, negated if `negative`.
-/// Fails if it does not fit into an `i64`; the fault spans `piece`.
+/// Returns the integer that the digits from `from` to `piece.end` spell in this radix, negated if `negative`. Fails if
+/// the integer does not fit into an `i64`; the fault spans `piece`.
 #[tactic(auto, unfolding(crate::specs::Numerals::integer))]
 fn integer(text: &str, piece: Span, from: usize, radix: u8, negative: bool) -> Result<i64, Fault>
     requires forward { from ≤ piece.end }
@@ -175,8 +175,8 @@ fn radix_of(text: &str, run: usize) -> Option<u8>
     }
 }
 
-/// Returns the integer in this radix that is written, with its prefix, at the span `run`. Fails if the digits are not
-/// valid, or if the integer is out of range.
+/// Returns the integer that `run` spans, a prefix and digits in this radix. Fails if the digits are not valid, or if
+/// the integer is out of range.
 ///
 /// `hex-int`, `oct-int`, `bin-int` (TOML 1.1, Integer)
 #[tactic(auto, unfolding(crate::specs::Numerals::radix_integer))]
@@ -197,8 +197,8 @@ fn radix_integer(text: &str, run: Span, radix: u8) -> Result<i64, Fault>
     integer(text, piece, piece.start, radix, false)
 }
 
-/// Returns the offset after the integer part of a decimal number. Its digits begin at `from` in the run `run`. Fails if
-/// the digits are invalid or have a leading zero.
+/// Returns the offset after the integer part of a decimal number, whose digits begin at `from` in the span `run`. Fails
+/// if the digits are invalid or have a leading zero.
 ///
 /// `dec-int = [ minus / plus ] unsigned-dec-int` (TOML 1.1, Integer)
 #[tactic(auto, unfolding(crate::specs::Numerals::integer_part))]
@@ -229,9 +229,9 @@ fn is_exponent(byte: u8) -> bool
     byte == b'e' || byte == b'E'
 }
 
-/// Returns the offset after the exponent whose letter is at `letter`, in a run that ends at `end`. `first` spans the
-/// run with which the number begins, after a plus sign if there is one; the fault may span it. Fails if the digits of
-/// the exponent are not valid.
+/// Returns the offset after the exponent whose `e` is at `letter`. The run with the `e` ends at `end`; after `e+`, the
+/// digits are in the next run. Fails if the digits are missing or not valid. `first` is the first run of the number,
+/// without a leading plus sign; it is the span of some faults.
 ///
 /// `exp = "e" float-exp-part`, `float-exp-part = [ minus / plus ] zero-prefixable-int` (TOML 1.1, Float)
 #[tactic(auto, unfolding(crate::specs::Numerals::exponent))]
@@ -263,9 +263,9 @@ fn exponent_end(text: &str, first: Span, letter: usize, end: usize) -> Result<us
     exponent_digits(text, first, piece, start)
 }
 
-/// Returns the offset after the digits of an exponent, which begin at `from` in the run `piece`. `first` spans the run
-/// with which the number begins, without a leading plus sign. Fails unless the digits are valid and extend to the end of
-/// `piece`; the span of some faults is `first`.
+/// Returns the offset after the digits of an exponent, which begin at `from` in the run `piece`. Fails unless the
+/// digits are valid and extend to the end of `piece`. `first`, which some faults span, is the first run of the number,
+/// without a leading plus sign.
 #[tactic(auto, unfolding(crate::specs::Numerals::exponent_digits))]
 fn exponent_digits(text: &str, first: Span, piece: Span, from: usize) -> Result<usize, Fault>
     requires within { piece.end ≤ length text.now }
@@ -279,9 +279,8 @@ fn exponent_digits(text: &str, first: Span, piece: Span, from: usize) -> Result<
     Ok(piece.end)
 }
 
-/// Returns the offset after the float at `start`. `first` spans the run with which it begins, after a plus sign if
-/// there is one; a decimal point follows this run. Fails if the digits after the point, or those of an exponent, are
-/// not valid.
+/// Returns the offset after the float at `start`. `first` is its first run, without a leading plus sign; the decimal
+/// point follows this run. Fails if the digits after the point, or the digits of an exponent, are not valid.
 ///
 /// `frac = decimal-point zero-prefixable-int` (TOML 1.1, Float)
 #[tactic(auto, unfolding(crate::specs::Numerals::fraction))]
@@ -308,7 +307,7 @@ fn fraction_end(text: &str, start: usize, first: Span) -> Result<usize, Fault>
     }
 }
 
-/// Returns the offset after the minus sign at `at`, or `at` if there is none.
+/// Returns the offset after the minus sign at `at`, or `at` if there is no minus sign.
 #[inline]
 fn after_minus(text: &str, at: usize) -> usize
     requires within { at < length text.now }
@@ -322,8 +321,8 @@ fn after_minus(text: &str, at: usize) -> usize
     }
 }
 
-/// Reads the decimal number at `start` (no `0x`, `0o` or `0b`). `first` spans its first run, without a leading plus
-/// sign. Returns the number with the offset after it. Fails if the number is invalid or out of range.
+/// Reads the decimal number at `start`. `first` is its first run, without a leading plus sign. Returns the number with
+/// the offset after it. Fails if the number is invalid or out of range.
 ///
 /// `float = float-int-part ( exp / frac [ exp ] )` (TOML 1.1, Float)
 #[tactic(auto, unfolding(crate::specs::Numerals::decimal))]
@@ -350,7 +349,7 @@ fn decimal_number(text: &str, start: usize, first: Span) -> Result<(Numeral, usi
     ))
 }
 
-/// Returns the float that the word `inf` or `nan` denotes, with this sign, or `None` for any other word.
+/// Returns the float that the word `inf` or `nan` denotes, negated if `negative`, or `None` for any other word.
 ///
 /// `special-float = [ minus / plus ] ( inf / nan )` (TOML 1.1, Float)
 #[tactic(auto, unfolding(crate::specs::Numerals::special))]
@@ -364,8 +363,8 @@ fn special_float(word: &[u8], negative: bool) -> Option<Numeral>
     }
 }
 
-/// Returns `numeral`, the `inf` or `nan` that was read in the run `first`, with the offset after it. `start` is the
-/// offset of the number, sign included. Fails if a dot follows, as in `inf.5`.
+/// Returns `numeral`, the `inf` or `nan` that was read in the run `first`, with the offset after it. Fails if a dot
+/// follows, as in `inf.5`. `start` is the offset of the number, sign included.
 #[tactic(auto, unfolding(crate::specs::Numerals::special_end))]
 fn special_end(
     text: &str,
@@ -387,7 +386,7 @@ fn special_end(
     }
 }
 
-/// Reads the number at `start`. `first` spans its first run, without a leading plus sign. Returns the number with the
+/// Reads the number at `start`. `first` is its first run, without a leading plus sign. Returns the number with the
 /// offset after it. Fails if the number is invalid or out of range.
 #[tactic(auto, unfolding(crate::specs::Numerals::unsigned))]
 fn unsigned(text: &str, start: usize, first: Span) -> Result<(Numeral, usize), Fault>
@@ -409,7 +408,8 @@ fn unsigned(text: &str, start: usize, first: Span) -> Result<(Numeral, usize), F
     }
 }
 
-/// Reads the number at `at`. Returns it with the offset after it. Fails if the number is invalid or out of range.
+/// Reads the number at `at`. Returns the number with the offset after it. Fails if the number is invalid or out of
+/// range.
 ///
 /// `integer = dec-int / hex-int / oct-int / bin-int`, `float = float-int-part ( exp / frac [ exp ] )`,
 /// `float =/ special-float` (TOML 1.1, Integer, Float)
@@ -461,9 +461,8 @@ fn few_digits(text: &str, from: usize) -> (u64, usize)
     (value, bytes.len())
 }
 
-/// Returns the integer at `at`, with the offset after it, if it consists of a few digits only, without a sign, prefix
-/// or underscore. Otherwise returns `None`: there may be another number, which `number` reads, a date or something
-/// else.
+/// Reads the integer at `at` if it has few digits, and no sign, prefix, leading zero or underscore. Returns the integer
+/// with the offset after it. Returns `None` at anything else.
 pub(crate) fn short_integer<'de>(text: &'de str, at: usize) -> Option<(ValKind<'de>, usize)>
     requires { IsCharBoundary text.now at }
     ensures scalar { IfSome result (λ found. ScalarGives (read.bare text.now at) (Ok found)) }
@@ -483,7 +482,7 @@ pub(crate) fn short_integer<'de>(text: &'de str, at: usize) -> Option<(ValKind<'
     }
 }
 
-/// Returns whether the stored text of a float contains this byte of its literal unchanged.
+/// Returns whether the stored text of a float keeps this byte of the literal: any byte except `_`, `+` and `e`.
 #[inline]
 fn is_clean(byte: u8) -> bool
     ensures { result ≡ not ((byte == underscore || byte == plus) || byte == small_e) }
@@ -491,7 +490,7 @@ fn is_clean(byte: u8) -> bool
     byte != b'_' && byte != b'+' && byte != b'e'
 }
 
-/// Returns whether `literal`, the literal of a float without a leading plus sign, is stored as it is.
+/// Returns whether `literal`, the literal of a float without a leading plus sign, is stored unchanged.
 fn is_kept(literal: &str) -> bool
     ensures { result ≡ true → numerals.cleaned literal.now ≡ literal.now }
 {
@@ -504,7 +503,7 @@ fn is_kept(literal: &str) -> bool
 }
 
 /// Returns the text to store for a float: its literal without plus signs and underscores, and with `E` before the
-/// exponent. Fails if an allocation fails.
+/// exponent.
 fn cleaned(alloc: Global, literal: &str) -> Result<String, AllocError>
     requires ascii { (k : ℕ) → slice_index literal.now k < 128 }
     ensures { IfOk result (λ kept. string_bytes kept ≡ numerals.cleaned literal.now) }
@@ -539,7 +538,7 @@ fn float_kind<'de>(text: FloatText) -> ValKind<'de>
     ValKind::Float(text)
 }
 
-/// Returns the literal of the float that spans `at..end`, without its leading plus sign if it has one.
+/// Returns the literal of the float at `at..end`, without a leading plus sign.
 fn float_literal<'a>(text: &'a str, at: usize, end: usize) -> &'a str
     requires start { IsCharBoundary text.now at }
     requires end { IsCharBoundary text.now end }
@@ -554,7 +553,7 @@ fn float_literal<'a>(text: &'a str, at: usize, end: usize) -> &'a str
     }
 }
 
-/// Converts `numeral`, the number that was read at `at..end`, into a value. Fails if an allocation fails.
+/// Converts `numeral`, the number that was read at `at..end`, into a `ValKind`.
 fn number_kind<'de>(
     alloc: Global,
     text: &str,
@@ -579,8 +578,8 @@ fn number_kind<'de>(
     }
 }
 
-/// Reads the number at `at`. Returns it as a value, with the offset after it. Fails if the number is invalid or out of
-/// range, or if an allocation fails.
+/// Reads the number at `at`. Returns the number with the offset after it. Fails if the number is invalid or out of
+/// range.
 pub(crate) fn number<'de>(
     alloc: Global,
     text: &'de str,

@@ -4,18 +4,17 @@ use smallvec::SmallVec;
 use toml_span_lex::key::Key;
 use toml_span_lex::span::Span;
 
-/// A header and the assignments after it. The assignments before the first header are a section too, whose header has
-/// no parts.
+/// A header and the assignments after it. The assignments before the first header are a section without a header.
 #[derive(Debug, Drop)]
 pub struct Section<'de> {
     pub header: SmallVec<Key<'de>, 3>,
-    /// Whether the header has double brackets. False without a header.
+    /// Whether the header has double brackets; `false` without a header.
     pub array: bool,
-    /// The line of the header, from its first bracket to the end of the line, including the line end. 0..0 without a
+    /// The line of the header, from its first bracket to the end of the line, including the line end; 0..0 without a
     /// header.
     pub header_span: Span,
-    /// From the first bracket of the header or, without a header, the first assignment, to the end of the last
-    /// assignment. Without assignments it is `header_span`.
+    /// From the first bracket of the header (without a header, the first assignment) to the end of the last assignment.
+    /// Without assignments, the same as `header_span`.
     pub extent: Span,
     pub assignments: Vec<Assignment<'de>>,
 }

@@ -35,8 +35,8 @@ use toml_span_lex::stop::Stop;
 use toml_span_lex::tokenizer::first_place;
 use toml_span_tree::Error;
 
-/// Reads the assignment at `at`. Returns it with the offset after it. Fails with its first fault, or if an allocation
-/// fails. `limit` is the limit on the depth of its value and on the number of parts of a key.
+/// Reads the assignment at the byte offset `at`. Returns the assignment with the offset after it. Fails with the first
+/// fault, or if an allocation fails. `limit` is the limit on the depth of values and on the number of parts of a key.
 ///
 /// `keyval = key keyval-sep val`, `keyval-sep = ws %x3D ws` (TOML 1.1, Key/Value Pair)
 pub fn assignment<'de>(
@@ -64,8 +64,8 @@ pub fn assignment<'de>(
     }
 }
 
-/// Returns the offset after the line whose rest begins at `at`. Fails if the rest has anything but spaces, tabs and a
-/// comment, or if an allocation fails.
+/// Skips the rest of a line from the byte offset `at`. Returns the offset after the line. Fails if the rest has
+/// anything but spaces, tabs and a comment, or if an allocation fails.
 ///
 /// `ws [ comment ]` and the line end in `expression =/ ws keyval ws [ comment ]` (TOML 1.1, Overall Structure)
 #[inline(always)]
@@ -80,9 +80,9 @@ pub fn next_line(alloc: Global, text: &str, at: usize) -> Result<usize, Stop<Fau
     }
 }
 
-/// Reads the assignments from `from` up to the next header or the end of the text. Returns them with the offset after
-/// them. Fails with the first fault, or if an allocation fails. `limit` is the limit on the depth of values and on the
-/// number of parts of a key.
+/// Reads the assignments from `from` up to the next header or the end of the text. Returns them with the offset of the
+/// header or the end. Fails with the first fault. `limit` is the limit on the depth of values and on the number of
+/// parts of a key.
 fn assignments<'de>(
     alloc: Global,
     text: &'de str,
@@ -133,8 +133,8 @@ fn header_open(text: &str, at: usize) -> (bool, usize)
     }
 }
 
-/// Skips the spaces and tabs from `at`, and the closing brackets of a header: two brackets if `array`, otherwise one.
-/// Returns the offset after the brackets. Fails if a bracket is missing, or if an allocation fails.
+/// Skips the spaces and tabs from `at`, and the closing brackets of a header: two if `array`, otherwise one. Returns
+/// the offset after the brackets. Fails if a bracket is missing.
 ///
 /// `std-table-close = ws %x5D`, `array-table-close = ws %x5D.5D` (TOML 1.1, Table, Array of Tables)
 fn header_close(alloc: Global, text: &str, at: usize, array: bool) -> Result<usize, Stop<Fault>>
@@ -165,8 +165,8 @@ pub struct Header<'de> {
     pub extent: Span,
 }
 
-/// Reads the header whose first bracket is at `at`, and the rest of its line. Fails with the first fault, or if an
-/// allocation fails. `limit` is the limit on the number of parts.
+/// Reads the header whose first bracket is at the byte offset `at`, and the rest of its line. Fails with the first
+/// fault, or if an allocation fails. `limit` is the limit on the number of parts.
 ///
 /// `table = std-table / array-table` (TOML 1.1, Table)
 pub fn read_header<'de>(
@@ -271,10 +271,10 @@ pub fn read_first<'de>(
     Ok((first_section(alloc, before), end))
 }
 
-/// Reads the section whose header begins at the byte offset `at`. Returns it with the offset of the next header, or of
-/// the end of the text.
+/// Reads the section whose header begins at the byte offset `at`. Returns the section with the offset of the next
+/// header, or of the end of the text.
 ///
-/// Fails with its first fault, or if an allocation fails. `limit`, which must be at most 128, is the limit on the depth
+/// Fails with the first fault, or if an allocation fails. `limit`, which must be at most 128, is the limit on the depth
 /// of values and on the number of parts of a key.
 #[inline(never)]
 pub fn read_section<'de>(
@@ -293,8 +293,8 @@ pub fn read_section<'de>(
     Ok((section_of(header, after), end))
 }
 
-/// Reads all sections of a text. Fails with the first fault, or if an allocation fails. `limit` is the limit on the
-/// depth of values and on the number of parts of a key.
+/// Reads all sections of a text. Fails with the first fault. `limit` is the limit on the depth of values and on the
+/// number of parts of a key.
 fn sections<'de>(
     alloc: Global,
     text: &'de str,

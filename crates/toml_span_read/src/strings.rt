@@ -15,7 +15,7 @@ use toml_span_lex::stop::Stop;
 use toml_span_lex::strings::string_at;
 use toml_span_lex::tokens::Token;
 
-/// A string, as it was read, with the offset after it.
+/// A string that was read. `end` is the byte offset after its closing quotes.
 #[derive(Drop)]
 pub struct StringToken<'de> {
     pub content: CowStr<'de>,
@@ -32,8 +32,8 @@ pub(crate) fn opens_string(byte: u8) -> bool
     byte == b'"' || byte == b'\''
 }
 
-/// Reads the single-line string at `at` if it is not empty and has no escapes. Otherwise returns `None`:
-/// `pieced_string` then reads the string, or finds its fault.
+/// Reads the string at `at` if it is single-line, not empty and without escapes. Returns `None` for any other string,
+/// and for an invalid string.
 #[inline(always)]
 pub(crate) fn short_string<'de>(text: &'de str, at: usize) -> Option<StringToken<'de>>
     requires within { at < length text.now }
@@ -55,7 +55,7 @@ pub(crate) fn short_string<'de>(text: &'de str, at: usize) -> Option<StringToken
     })
 }
 
-/// Reads the string at `at` piece by piece. Fails if it is not valid, or if an allocation fails.
+/// Reads the string at `at` piece by piece. Fails with the tokenizer's fault if the string is not valid.
 #[inline(never)]
 fn pieced_string<'de>(
     alloc: Global,
@@ -87,7 +87,7 @@ fn pieced_string<'de>(
     }
 }
 
-/// Reads the string at `at`. Fails with the fault of the tokenizer if it is not valid, or if an allocation fails.
+/// Reads the string at `at`. Fails with the tokenizer's fault if the string is not valid.
 ///
 /// `string = ml-basic-string / basic-string / ml-literal-string / literal-string` (TOML 1.1, String)
 #[inline(always)]

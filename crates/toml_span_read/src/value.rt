@@ -4,13 +4,13 @@ use toml_span_lex::key::Key;
 use toml_span_lex::span::Span;
 use toml_span_tree::{DateText, FloatText};
 
-/// A value as it was read, with its span in bytes.
+/// A value as it was read, with its span.
 #[cycle(val)]
 #[derive(Debug, Drop)]
 pub struct Val<'de> {
     pub kind: ValKind<'de>,
-    /// The bytes of the value, with brackets and a sign. For a string, its content without the quotes or, if it is
-    /// empty and on a single line, the opening quote.
+    /// The bytes of the value, with brackets, braces and a sign. The span of a string excludes its quotes; an empty
+    /// single-line string has the span of its opening quote.
     pub span: Span,
 }
 
@@ -28,7 +28,7 @@ pub enum ValKind<'de> {
     Inline(Vec<Assignment<'de>>),
 }
 
-/// A dotted key and its value, on a line or in an inline table.
+/// A key and its value, on a line or in an inline table.
 #[cycle(val)]
 #[derive(Debug, Drop)]
 pub struct Assignment<'de> {
@@ -38,7 +38,7 @@ pub struct Assignment<'de> {
     pub extent: Span,
 }
 
-/// A dotted key, or a simple key as its only part. Nothing is allocated for a key of one part.
+/// The parts of a key. If the key is simple, `last` is the only part.
 #[derive(Debug, Drop)]
 pub struct DottedKey<'de> {
     /// The parts before the last, in order.

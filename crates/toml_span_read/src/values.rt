@@ -36,11 +36,11 @@ use toml_span_lex::span::Span;
 use toml_span_lex::stop::Stop;
 use toml_span_tree::DateText;
 
-/// Reads the value at the byte offset `at`, which is nested inside `depth` brackets, braces and parts of keys. Returns
-/// it with the offset after it.
+/// Reads the value at the byte offset `at`. Returns the value with the offset after it. `depth` is the number of
+/// brackets, braces and key parts around the value.
 ///
-/// Fails with the first fault of the value, with `ExceededDepthLimit` if it is nested more than `limit` levels deep, or
-/// if an allocation fails.
+/// Fails with the first fault in the value, or with `ExceededDepthLimit` if a value is nested more than `limit` levels
+/// deep.
 ///
 /// `val = string / boolean / array / inline-table / date-time / float / integer` (TOML 1.1, Key/Value Pair)
 #[cycle(read)]
@@ -67,7 +67,7 @@ pub(crate) fn value<'de>(
     }
 }
 
-/// Returns the fault of a value at `at` that is nested too deep.
+/// Returns the fault `ExceededDepthLimit` at `at`.
 fn too_deep(text: &str, at: usize) -> Stop<Fault>
     requires { at ≤ length text.now }
     ensures fault { IsTooDeep at result }
@@ -77,9 +77,8 @@ fn too_deep(text: &str, at: usize) -> Stop<Fault>
     Stop::Fault(fault_at(FaultKind::ExceededDepthLimit, at))
 }
 
-/// Reads the string at `at`, which is nested inside `depth` brackets, braces and parts of keys. Returns it with the
-/// offset after it. Fails with its fault, with `ExceededDepthLimit` if `depth` exceeds `limit`, or if an allocation
-/// fails.
+/// Reads the string at `at`, which is nested `depth` levels deep. Returns the string with the offset after it. Fails if
+/// the string is not valid, and with `ExceededDepthLimit` if `depth` exceeds `limit`.
 ///
 /// `string = ml-basic-string / basic-string / ml-literal-string / literal-string` (TOML 1.1, String)
 #[inline(always)]
@@ -103,9 +102,8 @@ fn string_value<'de>(
     Ok((string_of(token.content, token.span), token.end))
 }
 
-/// Reads the value at `at`, which begins with neither a quote, a bracket nor a brace, and is nested inside `depth`
-/// brackets, braces and parts of keys. Returns it with the offset after it. Fails with its fault, with
-/// `ExceededDepthLimit` if `depth` exceeds `limit`, or if an allocation fails.
+/// Reads the number, boolean, date or time at `at`, which is nested `depth` levels deep. Returns the value with the
+/// offset after it. Fails if there is no valid value, and with `ExceededDepthLimit` if `depth` exceeds `limit`.
 fn scalar<'de>(
     alloc: Global,
     text: &'de str,
@@ -130,8 +128,8 @@ fn scalar<'de>(
     Ok((scalar_of(kind, at, end), end))
 }
 
-/// Reads the date, number or boolean at `at`. Returns it with the offset after it. Fails if it is not valid, or if an
-/// allocation fails.
+/// Reads the number, boolean, date or time at `at`. Returns the value with the offset after it. Fails if the value is
+/// not valid.
 ///
 /// `val =/ boolean / date-time / float / integer` (TOML 1.1, Key/Value Pair)
 fn bare<'de>(alloc: Global, text: &'de str, at: usize) -> Result<(ValKind<'de>, usize), Stop<Fault>>
@@ -157,7 +155,7 @@ fn bare<'de>(alloc: Global, text: &'de str, at: usize) -> Result<(ValKind<'de>, 
     }
 }
 
-/// What a run of letters, digits, dashes and underscores spells: one of these words, or something else.
+/// The word that a run of letters, digits, dashes and underscores spells.
 pub(crate) enum Run {
     True,
     False,
@@ -166,7 +164,7 @@ pub(crate) enum Run {
     Other,
 }
 
-/// Returns what the bytes of a run spell.
+/// Returns the word that the bytes of a run spell.
 fn run_of(bytes: &[u8]) -> Run
     ensures { IsRunOf bytes.now result }
 {
@@ -180,8 +178,8 @@ fn run_of(bytes: &[u8]) -> Run
     }
 }
 
-/// Reads the boolean, or `inf` or `nan`, at `at`. Returns it with the offset after it. Fails with `UnquotedString` at
-/// any other word, and with `InvalidNumber` if a dot follows `inf` or `nan`.
+/// Reads `true`, `false`, `inf` or `nan` at `at`. Returns the value with the offset after it. Fails with
+/// `UnquotedString` at any other word, and with `InvalidNumber` if a dot follows `inf` or `nan`.
 ///
 /// `boolean = true / false` (TOML 1.1, Boolean)
 fn word<'de>(alloc: Global, text: &'de str, at: usize) -> Result<(ValKind<'de>, usize), Stop<Fault>>
@@ -204,9 +202,8 @@ fn word<'de>(alloc: Global, text: &'de str, at: usize) -> Result<(ValKind<'de>, 
     }
 }
 
-/// Reads the array at `at`, which is nested inside `depth` brackets, braces and parts of keys. Returns it with the
-/// offset after it. Fails with its first fault, or if an allocation fails. `limit` is the limit on the depth of values
-/// and on the number of parts of a key.
+/// Reads the array at `at`, which is nested `depth` levels deep. Returns the array with the offset after it. Fails with
+/// the first fault. `limit` is the limit on the depth of values and on the number of parts of a key.
 ///
 /// `array = array-open [ array-values ] ws-comment-newline array-close` (TOML 1.1, Array)
 #[cycle(read)]
@@ -252,12 +249,11 @@ fn array<'de>(
     }
 }
 
-/// Reads the inline table at `at`, which is nested inside `depth` brackets, braces and parts of keys. Returns it with
-/// the offset after it. Fails with its first fault, or if an allocation fails. `limit` is the limit on the depth of
-/// values and on the number of parts of a key.
+/// Reads the inline table at `at`, which is nested `depth` levels deep. Returns the table with the offset after it.
+/// Fails with the first fault. `limit` is the limit on the depth of values and on the number of parts of a key.
 ///
-/// `inline-table = inline-table-open [ inline-table-keyvals ] ws-comment-newline inline-table-close`
-/// (TOML 1.1, Inline Table)
+/// `inline-table = inline-table-open [ inline-table-keyvals ] ws-comment-newline inline-table-close` (TOML 1.1, Inline
+/// Table)
 #[cycle(read)]
 fn inline_table<'de>(
     alloc: Global,
@@ -302,9 +298,9 @@ fn inline_table<'de>(
     }
 }
 
-/// Reads the pair of an inline table at `at`, which is nested inside `depth` brackets, braces and parts of keys.
-/// Returns it with the offset after it. Fails with its first fault, or if an allocation fails. `limit` is the limit on
-/// the depth of values and on the number of parts of a key.
+/// Reads the pair of an inline table at `at`, which is nested `depth` levels deep. Returns the pair with the offset
+/// after it. Fails with the first fault. `limit` is the limit on the depth of values and on the number of parts of a
+/// key.
 ///
 /// `keyval = key keyval-sep val` (TOML 1.1, Inline Table)
 #[cycle(read)]

@@ -1,4 +1,4 @@
-//! Faults for a token where another one is expected.
+//! Faults for a token where another token is expected.
 ghost use Rattle.std.specs.Prelude.{◌≡◌, if◌then◌else◌, slice_index, false};
 ghost use Rattle.std.specs.Str.{IsCharBoundary};
 ghost use Rattle.toml_span_lex.specs.Tokens.{lexeme};
@@ -15,7 +15,7 @@ use toml_span_lex::stop::Stop;
 use toml_span_lex::tokenizer::token_at;
 use toml_span_lex::tokens::Token;
 
-/// Returns what `Wanted` reports for a token that was found where another one is expected.
+/// Converts a token to the `found` of the fault `Wanted`.
 fn found_of(token: &Token<'_>) -> FoundToken
     ensures { result ≡ faults.found_of (lexeme token.now) }
 {
@@ -37,7 +37,7 @@ fn found_of(token: &Token<'_>) -> FoundToken
     }
 }
 
-/// Returns what `Wanted` reports for a string that was found where another token is expected.
+/// Returns the `found` of the fault `Wanted` for a string.
 fn string_found(is_multiline: bool) -> FoundToken
     ensures { result ≡ (if is_multiline then FoundToken.MultilineString else FoundToken.OneLineString) }
 {
@@ -48,8 +48,8 @@ fn string_found(is_multiline: bool) -> FoundToken
     }
 }
 
-/// Returns what is at `at`, a token or the end of the text, with the offset after it. Fails with the fault of the
-/// tokenizer, or if an allocation fails.
+/// Returns the token, or the end of the text, that is at `at`, with the offset after it. Fails with the tokenizer's
+/// fault if no token can be read.
 fn found_at(alloc: Global, text: &str, at: usize) -> Result<(FoundToken, usize), Stop<Fault>>
     requires { IsCharBoundary text.now at }
     ensures found { FoundGives text.now at result }
@@ -70,9 +70,9 @@ fn found_at(alloc: Global, text: &str, at: usize) -> Result<(FoundToken, usize),
     }
 }
 
-/// Returns the fault `Wanted` at `at`, where there is a token other than the expected one, or the end of the text. Its
-/// span is as long as the name of what was found, so it may end after the text. If no token can be read at `at`,
-/// returns the fault of the tokenizer instead, and if an allocation fails, `Stop::Memory`.
+/// Returns the fault `Wanted` for the token, or the end of the text, that is at `at`. The fault's span is as long as
+/// the name of the found token, so the span may end after the text. If no token can be read at `at`, returns the
+/// tokenizer's fault.
 #[cold]
 pub(crate) fn wanted(alloc: Global, text: &str, at: usize, expected: ExpectedToken) -> Stop<Fault>
     requires { IsCharBoundary text.now at }
@@ -95,7 +95,7 @@ pub(crate) fn wanted(alloc: Global, text: &str, at: usize, expected: ExpectedTok
 }
 
 /// Returns the fault for a missing value at `at`: `UnexpectedEof` at the end of the text, otherwise `Wanted`. If no
-/// token can be read at `at`, returns the fault of the tokenizer instead, and if an allocation fails, `Stop::Memory`.
+/// token can be read at `at`, returns the tokenizer's fault.
 #[cold]
 pub(crate) fn no_value(alloc: Global, text: &str, at: usize) -> Stop<Fault>
     requires boundary { IsCharBoundary text.now at }

@@ -17,7 +17,7 @@ pub struct DateText<'de> {
 impl<'de> DateText<'de> {
     ghost use Rattle.toml_span_tree.specs.Value.{date_bytes};
 
-    /// Checks the text, and wraps it without copying. Returns `None` if it is not a valid date, time, or date and time.
+    /// Wraps a valid date, time, or date and time, without copying it. Returns `None` if the text is not valid.
     pub fn new(text: &'de str) -> Option<Self>
         ensures found { IsSome result ↔ IsDateText text.now }
         ensures text { IfSome result (λ date. date_bytes date ≡ text.now) }
@@ -38,15 +38,15 @@ impl<'de> DateText<'de> {
     }
 }
 
-/// Returns the byte at the offset `at`, or 0 if the text ends before it.
+/// Returns the byte at the offset `at`, or 0 at or after the end of the text.
 fn byte_at(text: &[u8], at: usize) -> u8
     ensures { result ≡ slice_index text.now at }
 {
     text.get(at).copied().unwrap_or(0)
 }
 
-/// Returns the number that the two digits at the byte offset `at` spell. Without two digits there, the number means
-/// nothing.
+/// Returns the number that the two digits at the byte offset `at` spell. The result is meaningless if there are no two
+/// digits.
 fn two_digits(text: &[u8], at: usize) -> u32
     requires { at < 100 }
     ensures value { result ≡ spec.two_digits text.now at }
@@ -77,7 +77,7 @@ fn is_leap_year(year: u32) -> bool
     (year % 4 == 0 && year % 100 != 0) || year % 400 == 0
 }
 
-/// Returns the number of days that a month, from 1 to 12, has in this year.
+/// Returns the number of days of a month in this year. `month` counts from 1.
 fn last_day(year: u32, month: u32) -> u32
     ensures { result ≡ spec.last_day year month }
 {
@@ -88,8 +88,8 @@ fn last_day(year: u32, month: u32) -> u32
     }
 }
 
-/// Returns the number that the first four digits of the text spell. Without four digits there, the number means
-/// nothing.
+/// Returns the number that the first four digits of the text spell. The result is meaningless if the text does not
+/// begin with four digits.
 fn year_of(text: &[u8]) -> u32
     ensures { result ≡ spec.year_of text.now }
 {

@@ -18,16 +18,16 @@ pub struct Diagnostic<F> {
     pub code: String,
     /// What is wrong, or an empty string if the labels say it.
     pub message: String,
-    /// The primary label, at the error's own span, and then secondary labels. For duplicate keys and tables, the
-    /// secondary label, at the earlier key or table, comes first. For unexpected keys, all labels are secondary: one
-    /// for each key.
+    /// The primary label, at the error's own span, then the secondary labels. For a duplicate key or table, the label
+    /// of the earlier key or table comes first. For unexpected keys, there is one secondary label for each key, and no
+    /// primary label.
     pub labels: Vec<Label<F>>,
 }
 
 /// A span in a file, and a text to show there.
 #[derive(Debug, Drop)]
 pub struct Label<F> {
-    /// Whether this is the place of the error. The other labels mark places related to it, such as the first of two
+    /// Whether this label is at the place of the error. Other labels mark related places, such as the first of two
     /// equal keys.
     pub primary: bool,
     /// The file, as the caller of `to_diagnostic` identified it.
@@ -39,8 +39,7 @@ pub struct Label<F> {
 }
 
 impl ErrorKind<'_> {
-    /// Returns the message of the diagnostic, or an empty string if the label says everything. Fails if an allocation
-    /// fails.
+    /// Returns the message of the diagnostic, or an empty string if the label replaces it.
     fn message(&self, alloc: Global) -> Result<String, AllocError>
         ensures { IfOk result (λ text. string_bytes text ≡ message_of (kind_of self.now)) }
     {
@@ -71,7 +70,7 @@ impl ErrorKind<'_> {
         }
     }
 
-    /// Returns the text of the label at the error's own span, or an empty string. Fails if an allocation fails.
+    /// Returns the text of the label at the error's own span, or an empty string.
     fn label_text(&self, alloc: Global) -> Result<String, AllocError>
         ensures { IfOk result (λ text. string_bytes text ≡ label_text_of (kind_of self.now)) }
     {
@@ -109,7 +108,7 @@ impl ErrorKind<'_> {
     }
 }
 
-/// Returns `before`, the character and `after` as one string. Fails if an allocation fails.
+/// Returns `before`, the character and `after` as one string.
 fn around(alloc: Global, before: &str, c: char, after: &str) -> Result<String, AllocError>
     ensures { IfOk result (λ text. string_bytes text ≡ before.now ++ char_text c ++ after.now) }
 {
@@ -117,7 +116,7 @@ fn around(alloc: Global, before: &str, c: char, after: &str) -> Result<String, A
     format!(in alloc; "{before}{c}{after}")
 }
 
-/// Returns the message for `count` unexpected keys. It lists the expected names. Fails if an allocation fails.
+/// Returns the message for `count` unexpected keys. It lists the expected names.
 fn unexpected_keys(alloc: Global, count: usize, expected: &[String]) -> Result<String, AllocError>
     ensures { IfOk result (λ text. string_bytes text
         ≡ unexpected_keys_message count (map string_bytes expected.now)) }
@@ -126,7 +125,7 @@ fn unexpected_keys(alloc: Global, count: usize, expected: &[String]) -> Result<S
     format!(in alloc; "found {count} unexpected keys, expected: {expected}")
 }
 
-/// Returns a secondary label without text at the span of each key. Fails if an allocation fails.
+/// Returns a secondary label without text at the span of each key.
 fn key_labels<F: Copy>(
     alloc: Global,
     file: F,
@@ -148,7 +147,7 @@ fn key_labels<F: Copy>(
 }
 
 /// Returns a primary label without text at `span`, followed by a secondary label for each of `places`, with its text
-/// and its span. Fails if an allocation fails.
+/// and its span.
 fn marked_labels<F: Copy>(
     alloc: Global,
     file: F,
@@ -175,7 +174,7 @@ impl Error<'_> {
     /// Converts the error into a diagnostic that an editor or a terminal can show. `fid` identifies the file in the
     /// labels.
     ///
-    /// Fails only if an allocation fails.
+    /// Fails if an allocation fails.
     pub fn to_diagnostic<F: Copy + PartialEq>(
         &self,
         alloc: Global,
@@ -195,7 +194,7 @@ impl Error<'_> {
         })
     }
 
-    /// Returns the labels of the error, in the order that `Diagnostic::labels` describes. Fails if an allocation fails.
+    /// Returns the labels of the error, in the order that `Diagnostic::labels` describes.
     fn labels<F: Copy>(&self, alloc: Global, file: F) -> Result<Vec<Label<F>>, AllocError>
         ensures { IfOk result (λ labels. map label_content labels.items
             ≡ labels_of file self.now.span (kind_of self.now.kind)) }
@@ -230,7 +229,7 @@ impl Error<'_> {
     }
 }
 
-/// Returns a secondary label with a copy of the message. Fails if an allocation fails.
+/// Returns a secondary label with a copy of the message.
 fn secondary<F: Copy>(
     alloc: Global,
     file: F,
@@ -247,7 +246,7 @@ fn secondary<F: Copy>(
     })
 }
 
-/// Returns a list that has only this label. Fails if an allocation fails.
+/// Returns a list that has only this label.
 fn one<F: Copy>(alloc: Global, label: Label<F>) -> Result<Vec<Label<F>>, AllocError>
     ensures { IfOk result (λ labels. labels.items ≡ label ∷ []) }
 {
@@ -256,7 +255,7 @@ fn one<F: Copy>(alloc: Global, label: Label<F>) -> Result<Vec<Label<F>>, AllocEr
     Ok(labels)
 }
 
-/// Returns a list of the two labels, in this order. Fails if an allocation fails.
+/// Returns a list of the two labels, in this order.
 fn two<F: Copy>(
     alloc: Global,
     first: Label<F>,

@@ -10,8 +10,8 @@ use toml_span_lex::stop::Stop;
 // Toolchain: `'static` strings in errors would make the check refuse a generic function with `T: Deserialize<'de>` ("a
 // call goes by a bound that names a lifetime of the function, whose signature names `'static`"). So they have the
 // lifetime of the text.
-/// What is wrong. Kinds marked "typed reads" come from reading a tree as a type. The others come from `parse`, except
-/// `Wanted` and `DuplicateKey`, which come from both. Spans are byte offsets, end exclusive.
+/// What is wrong. Kinds marked "typed reads" come from reading a tree as a type. The others come from `parse`; `Wanted`
+/// and `DuplicateKey` come from both. Spans are byte offsets, end exclusive.
 #[derive(Debug, Drop)]
 pub enum ErrorKind<'s> {
     /// The input ends where a value is expected.
@@ -30,13 +30,14 @@ pub enum ErrorKind<'s> {
     Unexpected(char),
     /// The input ends inside a string.
     UnterminatedString,
-    /// A malformed number.
+    /// A malformed number, or an integer that does not fit into an `i64`.
     InvalidNumber,
-    /// A malformed date or time.
+    /// An invalid date or time.
     InvalidDatetime,
     /// A number that the type with this name can't represent (typed reads).
     OutOfRange(&'s str),
-    /// A token other than the expected one or, in typed reads, a value of another kind than the expected one.
+    /// A token other than the expected one, or the end of the input instead of it. In typed reads, a value of another
+    /// kind than the expected one.
     Wanted {
         expected: &'s str,
         found: &'s str,
@@ -77,14 +78,14 @@ pub enum ErrorKind<'s> {
         old: &'s str,
         new: &'s str,
     },
-    /// A value that is not one of the expected ones (typed reads). `value` is its text, if that is known.
+    /// A value that is not one of the expected values (typed reads). `value` is its text, if the text is known.
     UnexpectedValue {
         expected: &'s [&'s str],
         value: Option<String>,
     },
     /// An error with a code and message of its own, and more places with their labels (typed reads).
-    /// `TableHelper::keep_repeated` makes it with the code `duplicate-name`, and reads of `InRange` with
-    /// `out-of-range`; `toml_span_serde` and callers use other codes.
+    /// `TableHelper::keep_repeated` uses the code `duplicate-name`, and reads of `InRange` use `out-of-range`.
+    /// `toml_span_serde` and callers use other codes.
     Marked {
         code: &'s str,
         message: CowStr<'s>,
@@ -96,9 +97,9 @@ pub enum ErrorKind<'s> {
 #[derive(Debug, Drop)]
 pub struct Error<'s> {
     pub kind: ErrorKind<'s>,
-    /// The bytes of the document that the error is about.
+    /// The bytes of the document that the error is about. The span may end after the document, or inside a character.
     pub span: Span,
-    /// The line and the column of `span.start`, both counted from 0, the column in bytes; `None` if they are not known,
+    /// The line and the column of `span.start`, both counted from 0, the column in bytes. `None` if they are not known,
     /// as in typed reads.
     pub line_info: Option<(usize, usize)>,
 }
@@ -130,7 +131,7 @@ impl<'s, E: From<Error<'s>>> From<Error<'s>> for Stop<E> {
     }
 }
 
-/// Returns a copy of a list of keys with their spans. Fails if an allocation fails.
+/// Returns a copy of a list of keys with their spans.
 #[tactic(auto, using(crate::proofs::Clones::keys_cloned))]
 fn clone_keys(keys: &Vec<(String, Span)>) -> Result<Vec<(String, Span)>, AllocError>
     ensures { IfOk result (λ copy. marked_keys copy.items ≡ marked_keys keys.now.items) }
@@ -138,7 +139,7 @@ fn clone_keys(keys: &Vec<(String, Span)>) -> Result<Vec<(String, Span)>, AllocEr
     keys.clone()
 }
 
-/// Returns a copy of a list of names. Fails if an allocation fails.
+/// Returns a copy of a list of names.
 #[tactic(auto, using(crate::proofs::Clones::names_cloned))]
 fn clone_names(names: &Vec<String>) -> Result<Vec<String>, AllocError>
     ensures { IfOk result (λ copy. map string_bytes copy.items ≡ map string_bytes names.now.items) }
@@ -147,7 +148,7 @@ fn clone_names(names: &Vec<String>) -> Result<Vec<String>, AllocError>
 }
 
 impl<'s> ErrorKind<'s> {
-    /// Returns a copy. Fails only if an allocation fails.
+    /// Returns a copy. Fails if an allocation fails.
     pub fn clone(&self, alloc: Global) -> Result<Self, AllocError>
         ensures { IfOk result (λ copy. kind_of copy ≡ kind_of self.now) }
     {
@@ -212,7 +213,7 @@ impl<'s> ErrorKind<'s> {
 }
 
 impl<'s> Error<'s> {
-    /// Returns a copy. Fails only if an allocation fails.
+    /// Returns a copy. Fails if an allocation fails.
     pub fn clone(&self, alloc: Global) -> Result<Self, AllocError>
         ensures { IfOk result (λ copy. content_of copy ≡ content_of self.now) }
     {

@@ -3,7 +3,7 @@
 /// A float, kept as text. Two floats are equal if and only if their texts are: `1.0` and `1.00` differ.
 #[derive(PartialEq, Eq, Debug, Drop)]
 pub enum FloatText {
-    /// The literal, without `+` and underscores, and with `E` before the exponent.
+    /// The literal, without plus signs and underscores, and with `E` before the exponent.
     Finite(String),
     /// `inf`, or `-inf` if `negative`.
     Infinite { negative: bool },

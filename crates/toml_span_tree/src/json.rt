@@ -15,7 +15,7 @@ use toml_span_lex::key::Key;
 impl Value<'_> {
     /// Converts the value to a JSON value of the same shape, without spans. Floats and dates become strings.
     ///
-    /// Callers must prove that nothing has been taken from the value (`is_whole`). Fails only if an allocation fails.
+    /// Callers must prove that nothing has been taken from the value (`is_whole`). Fails if an allocation fails.
     pub fn to_json(&self, alloc: Global) -> Result<Json, AllocError>
         requires { is_whole (view self.now) ≡ true }
         ensures { IfOk result (λ json. json_view json ≡ json_of (view self.now)) }
@@ -24,7 +24,7 @@ impl Value<'_> {
     }
 }
 
-/// Converts a value and all values inside it. A value that has been taken becomes `null`. Fails if an allocation fails.
+/// Converts a value and all values inside it. A taken value becomes `null`.
 #[cycle(json)]
 fn json_of_value(alloc: Global, value: &Value<'_>) -> Result<Json, AllocError>
     ensures { IfOk result (λ json. json_view json ≡ json_of (view value.now)) }
@@ -35,7 +35,7 @@ fn json_of_value(alloc: Global, value: &Value<'_>) -> Result<Json, AllocError>
     }
 }
 
-/// Converts the content of a value. Fails if an allocation fails.
+/// Converts the content of a value.
 #[cycle(json)]
 fn json_of_inner(alloc: Global, inner: &ValueInner<'_>) -> Result<Json, AllocError>
     ensures { IfOk result (λ json. json_view json ≡ json_in (inner_view inner.now)) }
@@ -51,14 +51,14 @@ fn json_of_inner(alloc: Global, inner: &ValueInner<'_>) -> Result<Json, AllocErr
     }
 }
 
-/// Returns a JSON string with a copy of the text. Fails if an allocation fails.
+/// Returns a JSON string with a copy of the text.
 fn json_of_text(alloc: Global, text: &str) -> Result<Json, AllocError>
     ensures { IfOk result (λ json. json_view json ≡ string text.now) }
 {
     Ok(Json::String(String::from_str(alloc, text)?))
 }
 
-/// Converts the elements of an array. Fails if an allocation fails.
+/// Converts the elements of an array.
 #[cycle(json)]
 fn json_of_elements(alloc: Global, array: &Array<'_>) -> Result<Vec<Json>, AllocError>
     ensures { IfOk result (λ made. json_items_view made.items ≡ json_items (items_view array.now.items)) }
@@ -68,7 +68,7 @@ fn json_of_elements(alloc: Global, array: &Array<'_>) -> Result<Vec<Json>, Alloc
     Ok(made)
 }
 
-/// Converts the elements, and appends them to `made`. Fails if an allocation fails.
+/// Converts the elements, and appends them to `made`. If an allocation fails, `made` has some of them.
 #[cycle(json)]
 fn push_elements(
     alloc: Global,
@@ -85,7 +85,7 @@ fn push_elements(
     Ok(())
 }
 
-/// Appends a JSON value. Fails if an allocation fails.
+/// Appends `json` to `made`.
 fn push(made: &mut Vec<Json>, json: Json) -> Result<(), AllocError>
     ensures { OnOk result (made.new.items ≡ made.old.items ++ json ∷ []) }
 {
@@ -93,7 +93,7 @@ fn push(made: &mut Vec<Json>, json: Json) -> Result<(), AllocError>
     Ok(())
 }
 
-/// Converts the entries of a table. Fails if an allocation fails.
+/// Converts the entries of a table.
 #[cycle(json)]
 fn json_of_entries(alloc: Global, table: &Table<'_>) -> Result<Map<String, Json>, AllocError>
     ensures { IfOk result (λ made. json_members_view made.entries ≡ json_members (members_view table.now.entries)) }
@@ -105,7 +105,7 @@ fn json_of_entries(alloc: Global, table: &Table<'_>) -> Result<Map<String, Json>
     Ok(made)
 }
 
-/// Converts the value of an entry, and inserts it under the name of the key. Fails if an allocation fails.
+/// Converts the value of an entry, and inserts it into `made` under the name of the key.
 #[cycle(json)]
 fn put_entry(
     alloc: Global,
@@ -121,7 +121,7 @@ fn put_entry(
     insert(made, name, json)
 }
 
-/// Inserts a JSON value under a name, in place of an earlier value with this name. Fails if an allocation fails.
+/// Inserts `json` into `made` under `name`, in place of an earlier value with this name.
 fn insert(made: &mut Map<String, Json>, name: String, json: Json) -> Result<(), AllocError>
     ensures { OnOk result (json_members_view made.new.entries
         ≡ put (string_bytes name) (json_view json) (json_members_view made.old.entries)) }

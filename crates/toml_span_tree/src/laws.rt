@@ -11,7 +11,8 @@ ghost use Rattle.toml_span_tree.specs.Value.{inner_of, span_of, is_taken, date_b
 use crate::date::DateText;
 use crate::float::FloatText;
 
-/// Every date text is a date, a time, or a date, a separator, a time and perhaps a time offset.
+/// A text is a date text if and only if it is a date, or a time, or a date and a time with a separator between them and
+/// perhaps a time offset after them.
 pub fn date_texts()
     ensures { (text : List ℕ) → IsDateText text ↔ IsDateOrTime text }
 {}
@@ -28,32 +29,31 @@ pub fn equal_floats()
         → IsTrue (⟦<FloatText as PartialEq>⟧.eq x y) ↔ (float_value x ≡ float_value y) }
 {}
 
-/// After a value is put at a path at which there was a value, the new value is at that path.
+/// If there is a value at a path, and another value is put there, then the new value is at that path.
 pub fn put_stands()
     ensures { (path : Path) (n m w : Node) → node_at path n ≡ Some m → node_at path (put path w n) ≡ Some w }
 {}
 
-/// After a value is put at a path at which there was a value, the new value is there with its own kind and span, and
-/// with the key span of the old value.
+/// A value that is put in place of an old value keeps its own kind and span, and gets the key span of the old value.
 pub fn put_keeps_the_key()
     ensures { (path : Path) (n w : Node) (p : Place) → place_at path n ≡ Some p
         → place_at path (put path w n)
         ≡ Some (record { shape = shape_of (inner_of w); key_span = p.key_span; span = span_of w }) }
 {}
 
-/// After a value is put at a path, each path that does not begin with that path has the same place as before.
+/// If a value is put at `path`, then all paths that do not begin with `path` keep their places.
 pub fn put_keeps_the_rest()
     ensures { (path other : Path) (n w : Node) → (BeginsWith path other → ⊥)
         → place_at other (put path w n) ≡ place_at other n }
 {}
 
-/// A pointer finds a value if and only if the value is at a path whose steps the segments of the pointer name, and
-/// either the path is empty or the content of the value has not been taken.
+/// A pointer finds a value if and only if its segments name the steps of the value's path, and the path is empty or the
+/// value's content has not been taken.
 pub fn pointer_names_a_path()
     ensures { (pointer : List ℕ) (n m : Node) → (pointed pointer n ≡ Some m) ↔ IsPointed pointer n m }
 {}
 
-/// A segment denotes a position if and only if it is the decimal form of that position.
+/// A segment denotes a position below 2^64 if and only if it is the decimal form of that position.
 pub fn positions_are_decimal()
     ensures { (i : ℕ) (segment : List ℕ) → i < 2 ^ 64 → (position_of segment ≡ Some i) ↔ (segment ≡ decimal i) }
 {}
@@ -70,7 +70,8 @@ pub fn pointer_names_what_was_put()
         → pointed pointer (put_pointed pointer w n) ≡ Some w }
 {}
 
-/// After a value is put at a pointer, each pointer that diverges from it finds the same value as before.
+/// After a value is put at a pointer, a pointer that differs from it in a segment, and not only in the number of
+/// segments, finds the same value as before.
 pub fn other_pointers_keep()
     ensures { (pointer other : List ℕ) (n m w : Node) → pointed pointer n ≡ Some m → pointers_part pointer other ≡ true
         → pointed other (put_pointed pointer w n) ≡ pointed other n }

@@ -10,7 +10,7 @@ use std::fmt;
 use std::fmt::{Display, Formatter, Write};
 use toml_span_lex::span::Span;
 
-/// Writes white space or a control character as an escape. A space is written as it is.
+/// Writes white space or a control character as an escape, except a space, which it writes as it is.
 pub(crate) fn write_escaped<W: Write>(f: &mut Formatter<W>, c: char) -> fmt::Result
     ensures { WritesOnOk W.write_str_gives f.old result (escaped_char c) f.new }
 {
@@ -26,8 +26,8 @@ pub(crate) fn write_escaped<W: Write>(f: &mut Formatter<W>, c: char) -> fmt::Res
     }
 }
 
-/// Writes a character of a quoted name: a quotation mark, a backslash, white space other than a space, or a control
-/// character as an escape, any other character as it is.
+/// Writes a character of a quoted name. Escapes quotation marks, backslashes, control characters, and white space other
+/// than spaces.
 fn write_quoted_char<W: Write>(f: &mut Formatter<W>, c: char) -> fmt::Result
     ensures { WritesOnOk W.write_str_gives f.old result (quoted_char c) f.new }
 {

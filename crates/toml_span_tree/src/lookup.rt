@@ -11,8 +11,8 @@ use crate::pointer::{array_entry, cut};
 use crate::value::{Table, Value, ValueInner};
 pub use compiled::Pointer;
 
-/// Returns the value of the entry with this name, or `None` if the table lacks it. Compares the name with each entry in
-/// turn.
+/// Returns the value of the entry with this name, or `None` if the table has no such entry. Compares the names one by
+/// one.
 fn entry_named<'v, 'de>(table: &'v Table<'de>, name: &str) -> Option<&'v Value<'de>>
     ensures { option_map (λ v. view v.now) result ≡ get_member name.now (members_view table.now.entries) }
 {
@@ -51,7 +51,7 @@ impl<'de> Value<'de> {
     }
 
     /// Follows the segments of `path`, a pointer without its first `/`, from this value. Returns the value to which
-    /// they lead, or `None` if they lead nowhere, or through or to a value whose content has been taken.
+    /// they lead. Returns `None` if they lead to no value, or if a value on the way or at the end is taken.
     fn found_by(&self, path: &str) -> Option<&Self>
         ensures { option_map (λ v. view v.now) result ≡ value_named (segments path.now) (view self.now) }
     {
@@ -63,12 +63,11 @@ impl<'de> Value<'de> {
         }
     }
 
-    /// Returns the value that the pointer names, or `None` if it names no value, like the method `pointer`. Unlike with
-    /// `pointer`, the string need not live as long as the document, so it can be built at run time.
+    /// Returns the value that the pointer names, or `None` if it names no value, as the method `pointer` does. Here the
+    /// string need not live as long as the document, so it can be built at run time.
     ///
-    /// In each table on the way, the name is compared with one entry after the other, whereas `pointer` searches the
-    /// map. So the time is linear in the number of entries of these tables. For large tables, or for a pointer that is
-    /// looked up many times, use a `Pointer` and `at`.
+    /// Takes time linear in the number of entries of the tables on the way, since it compares names one by one. For
+    /// large tables or repeated look-ups, use a `Pointer` and `at`.
     pub fn look_up(&self, pointer: &str) -> Option<&Self>
         ensures { option_map (λ v. view v.now) result ≡ pointed pointer.now (view self.now) }
     {

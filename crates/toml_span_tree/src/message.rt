@@ -85,7 +85,7 @@ fn deprecated<W: Write>(f: &mut Formatter<W>, old: &str, new: &str) -> fmt::Resu
     write!(f, "' is deprecated, '{new}' has replaced it")
 }
 
-/// Writes the message that the table has unexpected `keys`, with the names of the `expected` ones.
+/// Writes the message that a table has unexpected `keys`, and lists the `expected` names.
 fn unexpected_keys<W: Write>(
     f: &mut Formatter<W>,
     keys: &[(String, Span)],

@@ -14,7 +14,8 @@ pub enum Step<'t> {
     Position(usize),
 }
 
-/// A value of a tree, with the path from the root and, for an entry of a table, its key.
+/// A value that `nodes` lists. `path` leads to it from the value given to `nodes`. `key` is the key of an entry of a
+/// table; it is `None` for an element of an array and for the given value.
 #[derive(Drop)]
 pub struct Visited<'t, 'de> {
     pub path: Vec<Step<'t>>,
@@ -38,7 +39,7 @@ pub fn nodes<'t, 'de>(
     Ok(list)
 }
 
-/// Returns a copy of the path with the step at its end. Fails if an allocation fails.
+/// Returns a copy of `path` with `step` appended.
 fn with_step<'t>(
     alloc: Global,
     path: &[Step<'t>],
@@ -51,7 +52,7 @@ fn with_step<'t>(
     Ok(steps)
 }
 
-/// Appends a value with a copy of its path. Fails if an allocation fails.
+/// Appends `value`, with its key and a copy of its path, to `list`.
 fn push_visited<'t, 'de>(
     alloc: Global,
     value: &'t Value<'de>,
@@ -71,7 +72,7 @@ fn push_visited<'t, 'de>(
     Ok(())
 }
 
-/// Appends a value at this path, and all values inside it. Fails if an allocation fails.
+/// Appends the value at `path`, and all values inside it, to `list`. If an allocation fails, `list` has some of them.
 #[cycle(push_node)]
 fn push_node<'t, 'de>(
     alloc: Global,
@@ -94,7 +95,8 @@ fn push_node<'t, 'de>(
     }
 }
 
-/// Appends the elements of the array at this path, and all values inside them. Fails if an allocation fails.
+/// Appends the elements of the array at `path`, and all values inside them, to `list`. If an allocation fails, `list`
+/// has some of them.
 #[cycle(push_node)]
 fn push_elements<'t, 'de>(
     alloc: Global,
@@ -112,7 +114,8 @@ fn push_elements<'t, 'de>(
     Ok(())
 }
 
-/// Appends the entries of the table at this path, and all values inside them. Fails if an allocation fails.
+/// Appends the entries of the table at `path`, and all values inside them, to `list`. If an allocation fails, `list`
+/// has some of them.
 #[cycle(push_node)]
 fn push_entries<'t, 'de>(
     alloc: Global,

@@ -1,4 +1,4 @@
-//! The entries of a table in the order of the text.
+//! The entries of a table, sorted by the spans of their keys.
 ghost use Rattle.std.specs.Prelude.{◌≡◌, IfOk, map};
 ghost use Rattle.std.specs.List.Sorted.{IsNonDecreasingBy, IsPermutation};
 ghost use Rattle.toml_span_tree.specs.Order.{entry_of, start_of};
@@ -7,8 +7,7 @@ use crate::value::{Table, Value};
 use std::alloc::{AllocError, Global};
 use toml_span_lex::key::Key;
 
-/// Returns the entries of a table, sorted by the starts of their keys' spans: the order in which the keys appear in the
-/// text. Fails if an allocation fails.
+/// Returns the entries of a table, sorted by the starts of their keys' spans. Fails if an allocation fails.
 pub fn in_text_order<'t, 'de>(
     alloc: Global,
     table: &'t Table<'de>,
@@ -21,7 +20,7 @@ pub fn in_text_order<'t, 'de>(
     Ok(entries)
 }
 
-/// Returns the entries of a table in the order of their names. Fails if an allocation fails.
+/// Returns the entries of a table in the order of their names.
 fn listed<'t, 'de>(
     alloc: Global,
     table: &'t Table<'de>,

@@ -47,7 +47,7 @@ pub(crate) fn cut<'p>(path: &'p str) -> (&'p str, Option<&'p str>)
     }
 }
 
-/// Returns the value of the entry with this name, or `None` if there is none.
+/// Returns the value of the entry with this name, or `None` if the table has no such entry.
 fn table_entry<'v, 'de>(table: &'v Table<'de>, name: &'de str) -> Option<&'v Value<'de>>
     ensures { option_map (λ v. view v.now) result ≡ get_member name.now (members_view table.now.entries) }
 {
@@ -97,7 +97,7 @@ impl<'de> Value<'de> {
     }
 
     /// Follows the segments of `path`, a pointer without its first `/`, from this value. Returns the value to which
-    /// they lead, or `None` if they lead nowhere, or through or to a value whose content has been taken.
+    /// they lead. Returns `None` if they lead to no value, or if a value on the way or at the end is taken.
     fn found(&self, path: &'de str) -> Option<&Self>
         ensures { option_map (λ v. view v.now) result ≡ value_named (segments path.now) (view self.now) }
     {
@@ -109,7 +109,7 @@ impl<'de> Value<'de> {
         }
     }
 
-    /// Returns the value that the pointer names, or `None` if there is no such value.
+    /// Returns the value that the pointer names, or `None` if it names no value.
     ///
     /// The empty pointer names `self`, even if its content has been taken. Any other pointer begins with `/`, and `/`
     /// separates its segments. A segment is the name of a key in a table. In an array it is a position, from 0 and in
@@ -126,8 +126,9 @@ impl<'de> Value<'de> {
 }
 
 impl<'de> ValueInner<'de> {
-    /// Puts `new` in place of the value to which `segment` and, after it, the segments of `rest` lead. Returns the old
-    /// value, or `Err(new)` if they lead nowhere, or through or to a value whose content has been taken.
+    /// Puts `new` in place of the value that `segment` selects or, if `rest` is given, of the value to which its
+    /// segments lead from there. Returns the old value. Returns `Err(new)` if there is no such value, or if it or a
+    /// value on the way is taken.
     #[cycle(replace)]
     fn replace_found(
         &mut self,
@@ -148,8 +149,9 @@ impl<'de> ValueInner<'de> {
     }
 }
 
-/// Puts `new` in place of the value to which `name`, the name of an entry, and after it the segments of `rest` lead.
-/// Returns the old value, or `Err(new)` if they lead nowhere, or through or to a value whose content has been taken.
+/// Puts `new` in place of the value of the entry `name` or, if `rest` is given, of the value to which its segments lead
+/// from there. Returns the old value. Returns `Err(new)` if there is no such value, or if it or a value on the way is
+/// taken.
 #[cycle(replace)]
 fn replace_entry<'de>(
     table: &mut Table<'de>,
@@ -168,9 +170,9 @@ fn replace_entry<'de>(
     }
 }
 
-/// Puts `new` in place of the value to which `segment`, the position of an element, and after it the segments of `rest`
-/// lead. Returns the old value, or `Err(new)` if they lead nowhere, or through or to a value whose content has been
-/// taken.
+/// Puts `new` in place of the element at the position that `segment` spells or, if `rest` is given, of the value to
+/// which its segments lead from there. Returns the old value. Returns `Err(new)` if there is no such value, or if it or
+/// a value on the way is taken.
 #[cycle(replace)]
 fn replace_element<'de>(
     array: &mut Array<'de>,
@@ -194,10 +196,8 @@ fn replace_element<'de>(
 }
 
 impl<'de> Value<'de> {
-    /// Returns a mutable reference to the value that the pointer names, or `None` if it names no value. Pointers are
-    /// described at `pointer`.
-    ///
-    /// Nothing changes except what is written through the reference.
+    /// Returns a mutable reference to the value that the pointer names, or `None` if it names no value. The method
+    /// `pointer` describes pointers.
     pub fn pointer_mut(&mut self, pointer: &'de str) -> Option<&mut Self>
         ensures* writes_back { sem 𝓛 (lends_pointed self.entry pointer.now result) }
         ensures value { option_map (λ v. view v.now) result ≡ pointed pointer.now (view self.old) }
@@ -209,9 +209,9 @@ impl<'de> Value<'de> {
         None
     }
 
-    /// Puts `new` in place of this value or, if `rest` is given, of the value to which the segments of `rest` lead from
-    /// this value. Returns the old value, or `Err(new)` if the segments lead nowhere, or if the content of this value,
-    /// or of a value through or to which they lead, has been taken.
+    /// Puts `new` in place of this value or, if `rest` is given, of the value to which its segments lead from this
+    /// value. Returns the old value. Returns `Err(new)` if they lead to no value, or if this value, a value on the way,
+    /// or the value at the end is taken.
     #[cycle(replace)]
     fn replace_here(&mut self, rest: Option<&'de str>, new: Self) -> Result<Self, Self>
         ensures { Exchanged result new.entry (segments_after (option_map (λ r. r.now) rest.entry))
@@ -227,8 +227,8 @@ impl<'de> Value<'de> {
     }
 
     /// Puts `new` in place of the value to which the segments of `path`, a pointer without its first `/`, lead from
-    /// this value. Returns the old value, or `Err(new)` if they lead nowhere, or through or to a value whose content
-    /// has been taken.
+    /// this value. Returns the old value. Returns `Err(new)` if they lead to no value, or if a value on the way or at
+    /// the end is taken.
     #[cycle(replace)]
     fn replace_found(&mut self, path: &'de str, new: Self) -> Result<Self, Self>
         ensures { Exchanged result new.entry (segments path.now) (Some (view self.old)) (λ w. view self.new ≡ w)
@@ -296,8 +296,8 @@ fn item_of<'v, 'de>(array: &'v mut Array<'de>, position: usize) -> &'v mut Value
     &mut array[position]
 }
 
-/// Returns a mutable reference to the value that the name of `key` selects, which must exist: an entry of a table, or
-/// an element of an array, whose position the name spells.
+/// Returns a mutable reference to the value that the name of `key` selects: the entry with this name, or the element at
+/// the position that the name spells. The value must exist.
 fn entry_of<'v, 'de, 'k>(inner: &'v mut ValueInner<'de>, key: &'k Key<'de>) -> &'v mut Value<'de>
     requires { IsSome (entry (cow_str_bytes key.now.name) (inner_view inner.old)) }
     ensures* writes_back { sem 𝓛 (lends_entry inner.entry (cow_str_bytes key.now.name) result) }
@@ -327,9 +327,8 @@ fn position_named<'k, 'de>(key: &'k Key<'de>) -> usize
     }
 }
 
-/// Returns a mutable reference to the value that the name of `key` selects in `value`: an entry of a table, or an
-/// element of an array, whose position the name spells. That value must exist. Its content, and the content of `value`,
-/// must not have been taken.
+/// Returns a mutable reference to the entry or element that the name of `key` selects in `value`. It must exist, and
+/// its content and the content of `value` must not have been taken.
 fn child_of<'v, 'de, 'k>(value: &'v mut Value<'de>, key: &'k Key<'de>) -> &'v mut Value<'de>
     requires { IsSome (untaken_entry (cow_str_bytes key.now.name) (view value.old)) }
     ensures* writes_back { sem 𝓛 (lends_child value.entry (cow_str_bytes key.now.name) result) }
@@ -342,8 +341,8 @@ fn child_of<'v, 'de, 'k>(value: &'v mut Value<'de>, key: &'k Key<'de>) -> &'v mu
 /// Drops a key.
 fn release(key: Key<'_>) {}
 
-/// Returns a mutable reference to the value that `segment` selects in `value`. That value must exist. Its content, and
-/// the content of `value`, must not have been taken.
+/// Returns a mutable reference to the entry or element that `segment` selects in `value`. It must exist, and its
+/// content and the content of `value` must not have been taken.
 fn step_to<'v, 'de>(value: &'v mut Value<'de>, segment: &'de str) -> &'v mut Value<'de>
     requires { IsSome (untaken_entry segment.now (view value.old)) }
     ensures* writes_back { sem 𝓛 (lends_child value.entry segment.now result) }
@@ -373,7 +372,8 @@ fn is_last<'p>(path: &'p str) -> bool
     }
 }
 
-/// Returns the path without its first segment and the `/` after that, or the same path if it has only one segment.
+/// Returns the path without its first segment and the `/` after that segment, or the whole path if it has only one
+/// segment.
 fn after<'p>(path: &'p str) -> &'p str
     ensures { 0 < length (drop 1 (segments path.now))
         → (segments result.now ≡ drop 1 (segments path.now)) × (length result.now < length path.now) }
@@ -384,8 +384,8 @@ fn after<'p>(path: &'p str) -> &'p str
     }
 }
 
-/// Follows the segments of `path`, a pointer without its first `/`, from `value`. Returns a mutable reference to the
-/// value to which they lead. That value must exist.
+/// Returns a mutable reference to the value to which the segments of `path`, a pointer without its first `/`, lead from
+/// `value`. The value must exist.
 fn at_path<'v, 'de>(value: &'v mut Value<'de>, path: &'de str) -> &'v mut Value<'de>
     requires { IsSome (value_named (segments path.now) (view value.old)) }
     ensures* writes_back { sem 𝓛 (lends_named value.entry path.now result) }
@@ -408,7 +408,7 @@ fn is_end<'p>(pointer: &'p str) -> bool
     pointer.is_empty()
 }
 
-/// Returns the pointer without the `/` at its beginning, or the same pointer if it has none.
+/// Returns the pointer without the `/` at its beginning, or the whole pointer if it begins otherwise.
 fn after_slash<'p>(pointer: &'p str) -> &'p str
     ensures { (path : List ℕ) → pointer.now ≡ slash ∷ path → result.now ≡ path }
 {

@@ -38,9 +38,10 @@ pub enum ValueInner<'de> {
 #[derive(Drop)]
 pub struct Value<'de> {
     pub(crate) value: Option<ValueInner<'de>>,
-    /// The bytes of the value in the document, end exclusive: for a string, its content without the quotes or, if it is
-    /// empty and on a single line, the opening quote; for a table or array of tables that headers open or pass through,
-    /// the section of the first such header.
+    /// The bytes of the value in the document, end exclusive. The span of a string excludes its quotes; an empty
+    /// single-line string has the span of its opening quote. A table or array of tables that headers open or pass
+    /// through has the span of the first such header's section. A table that only dotted keys define has the span of
+    /// the first value that they assign. The root spans the whole text.
     pub span: Span,
 }
 
@@ -87,7 +88,7 @@ impl<'de> Value<'de> {
         drop(self.value.replace(value));
     }
 
-    /// Returns whether the content has been taken. The values inside are not looked at.
+    /// Returns whether the content has been taken. Does not look at the values inside.
     pub fn is_taken(&self) -> bool
         ensures { result ≡ is_taken_node (view self.now) }
     {
@@ -292,7 +293,7 @@ impl<'de> ValueInner<'de> {
         }
     }
 
-    /// Returns the string, or `None` if this is not one.
+    /// Returns the string, or `None` if the content is of another kind.
     pub fn as_str(&self) -> Option<&str>
         ensures { option_map (λ s. s.now) result ≡ text_in (inner_view self.now) }
     {
@@ -302,7 +303,7 @@ impl<'de> ValueInner<'de> {
         }
     }
 
-    /// Returns the entries, or `None` if this is not a table.
+    /// Returns the entries, or `None` if the content is not a table.
     pub fn as_table(&self) -> Option<&Table<'de>>
         ensures { option_map (λ table. members_view table.now.entries) result ≡ members_in (inner_view self.now) }
     {
@@ -312,7 +313,7 @@ impl<'de> ValueInner<'de> {
         }
     }
 
-    /// Returns the elements, or `None` if this is not an array.
+    /// Returns the elements, or `None` if the content is not an array.
     pub fn as_array(&self) -> Option<&Array<'de>>
         ensures { option_map (λ array. items_view array.now.items) result ≡ items_in (inner_view self.now) }
     {
@@ -322,7 +323,7 @@ impl<'de> ValueInner<'de> {
         }
     }
 
-    /// Returns the number, or `None` if this is not an integer.
+    /// Returns the number, or `None` if the content is not an integer.
     pub fn as_integer(&self) -> Option<i64>
         ensures { result ≡ integer_in (inner_view self.now) }
     {
@@ -332,7 +333,7 @@ impl<'de> ValueInner<'de> {
         }
     }
 
-    /// Returns the float, or `None` if this is not one.
+    /// Returns the float, or `None` if the content is of another kind.
     pub fn as_float(&self) -> Option<&FloatText>
         ensures { option_map (λ x. float_value x.now) result ≡ float_in (inner_view self.now) }
     {
@@ -342,7 +343,7 @@ impl<'de> ValueInner<'de> {
         }
     }
 
-    /// Returns the boolean, or `None` if this is not one.
+    /// Returns the boolean, or `None` if the content is of another kind.
     pub fn as_bool(&self) -> Option<bool>
         ensures { result ≡ boolean_in (inner_view self.now) }
     {
@@ -352,7 +353,7 @@ impl<'de> ValueInner<'de> {
         }
     }
 
-    /// Returns the date or time, or `None` if this is not one.
+    /// Returns the date or time, or `None` if the content is of another kind.
     pub fn as_datetime(&self) -> Option<&DateText<'de>>
         ensures { option_map (λ date. date_bytes date.now) result ≡ datetime_in (inner_view self.now) }
     {
@@ -364,7 +365,7 @@ impl<'de> ValueInner<'de> {
 }
 
 #[cycle(whole)]
-/// Returns whether all of the values, and all values inside them, still have their contents.
+/// Returns whether all values, and all values inside them, still have their contents.
 fn all_whole(values: &[Value<'_>]) -> bool
     ensures { result ≡ all_whole_items (items_view values.now) }
 {

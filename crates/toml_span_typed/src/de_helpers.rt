@@ -36,9 +36,7 @@ pub fn expected<'s>(expected: &'s str, found: ValueInner, span: Span) -> Error<'
     ))
 }
 
-/// Returns `Stop::Fault` with one error, `Wanted` at `span`, for a read that expected a value of another kind. `wanted`
-/// describes the expected value, and `found` is the value that is there instead; the error contains the name of its
-/// kind.
+/// Returns the error `expected(wanted, found, span)` as a `Stop::Fault`.
 pub(crate) fn refused<'s>(wanted: &'s str, found: ValueInner, span: Span) -> Stop<DeserError<'s>>
     ensures { result ≡ Fault (one (wrong_kind wanted.now (node (inner_view found.entry) span))) }
 {
@@ -74,8 +72,7 @@ pub fn parse<'de, T: FromStr<Err = E>, E: Display + Drop>(
     }
 }
 
-/// Returns the error `Custom` at `span` for a string that could not be read because of the error `refusal`. Fails if an
-/// allocation fails.
+/// Returns the error `Custom` at `span` for a string that could not be read because of the error `refusal`.
 fn unparsed<'s, E: Display + Drop>(
     alloc: Global,
     refusal: E,

@@ -69,7 +69,7 @@ impl Display for DeserError<'_> {
 
 impl std::error::Error for DeserError<'_> {}
 
-/// What a failed `merge` returns: the errors that could not be appended, because an allocation failed.
+/// The error of `merge` if an allocation fails, with the errors that were not appended.
 #[derive(Debug, Drop)]
 pub struct Unmerged<'s> {
     pub other: DeserError<'s>,
@@ -87,7 +87,7 @@ impl<'s> DeserError<'s> {
         }
     }
 
-    /// Returns the error at this position, counted from 0, or `None` if there are not that many.
+    /// Returns the error at `index`, counted from 0, or `None` if there are at most `index` errors.
     pub fn get(&self, index: usize) -> Option<&Error<'s>>
         ensures { option_map (λ e. content_of e.now) result ≡ slice_get (all self.now) index }
     {

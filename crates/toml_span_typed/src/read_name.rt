@@ -1,15 +1,15 @@
 //! Reads of enums whose variants have no data.
 
-/// Reads an enum by the names of its variants. Use it as the body of a function that returns `Result<_,
-/// Stop<DeserError>>`, such as `deserialize`:
+/// Reads an enum by the names of its variants. Use it as the body of a function that returns
+/// `Result<_, Stop<DeserError>>`, such as `deserialize`:
 ///
 /// ```text
 /// read_name!(alloc, value, { "low" => Level::Low, "high" => Level::High })
 /// ```
 ///
-/// Fails with `UnexpectedValue` if the string is not one of the names; a report lists them, and suggests the nearest
-/// one. Fails with `Wanted` if the value is not a string, and with `Stop::Memory` if an allocation fails. No two names
-/// may be equal.
+/// Fails with `UnexpectedValue` if the string is not one of the names. A report lists the names, and suggests the
+/// nearest name. Fails with `Wanted` if the value is not a string, and with `Stop::Memory` if an allocation fails. No
+/// two names may be equal.
 #[macro_export]
 macro_rules! read_name {
     ($alloc:expr, $value:expr, { $first:literal => $variant:expr $(, $name:literal => $other:expr)* $(,)? }) => {

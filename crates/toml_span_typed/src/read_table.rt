@@ -9,11 +9,11 @@
 /// - `port: u16 = "listen-port";`: read from another key;
 /// - `tags: Option<Vec<String>>;`: `None` if the key is absent. If the type is an alias of an `Option`, write
 ///   `tags: Vec<String>, optional;`
-/// - `port: u16, or(80);`: this value if the key is absent. It is evaluated only then;
+/// - `port: u16, or(80);`: the value `80` if the key is absent; it is evaluated only then;
 /// - `port: u16, range(1..=65535);`: an error for an integer outside this range (`InRange`). The type may also be an
-///   `Option`, a `Spanned` or an `Option` of a `Spanned`. After any other type, `or(..)` may follow;
+///   `Option`, a `Spanned` or an `Option` of a `Spanned`. With any other type, `or(..)` may follow;
 /// - `level: Level, parsed;`: a string that `FromStr` reads. As with `range`, the type may also be an `Option`, a
-///   `Spanned` or an `Option` of a `Spanned`. After any other type, `or(..)` may follow;
+///   `Spanned` or an `Option` of a `Spanned`. With any other type, `or(..)` may follow;
 /// - `max_body: u64 = "max-body", alias("max_body");`: read from the key or from an old name
 ///   (`TableHelper::read_either`). Other options may follow;
 /// - `servers: Vec<Server>, unique(name);`: an error for each server whose field `name`, a `Spanned<String>`, equals

@@ -14,10 +14,12 @@
 /// another type, such as `Target::Server(Server)`, reads that type from the other keys. A variant without data allows
 /// no other keys.
 ///
-/// Fails with `UnexpectedValue`, which lists the expected tags, if no variant has this tag, with `Wanted` if the value
-/// is not a table or the tag is not a string, and with `MissingField` if the tag is absent. Then no other error of the
-/// table is reported. The form with a list of warnings, `read_tagged!(alloc, value, warnings, "kind", { .. })`, is the
-/// body of a `deserialize_with_warnings`.
+/// Fails with `Wanted` if the value is not a table or the tag is not a string, with `MissingField` if the tag is
+/// absent, and with `UnexpectedValue`, which lists the expected tags, if no variant has this tag. In these cases, no
+/// other error of the table is reported.
+///
+/// The form with a list of warnings, `read_tagged!(alloc, value, warnings, "kind", { .. })`, is the body of a
+/// `deserialize_with_warnings`.
 #[macro_export]
 macro_rules! read_tagged {
     ($alloc:expr, $value:expr, $name:literal, { $($arms:tt)* }) => {{

@@ -15,18 +15,17 @@ use std::alloc::{AllocError, Global};
 use toml_span_lex::stop::Stop;
 use toml_span_tree::{Error, Value};
 
-/// A type whose read can warn. It does not implement `Deserialize`, which has no list for the warnings, so that no read
-/// can lose them.
+/// A type whose reads can warn. It does not implement `Deserialize`, so that no read loses the warnings.
 ///
 /// An implementation can state facts about its reads, for proofs about callers: `reads` relates the value before, the
-/// result (the read value or all errors), the warnings before and the warnings after. By default it leaves everything
-/// open.
+/// result (the read value or all errors), the warnings before and the warnings after. By default, `reads` says nothing.
 pub trait DeserializeWithWarnings<'de>: Sized + Drop {
     ghost reads: { Node → Result Self Errors → List ErrorContent → List ErrorContent → Type 0 } = { λ _ _ _ _. Unit {0} };
 
-    /// Reads the value, and appends the warnings to the list, even if the read fails. Earlier warnings stay, even if an
-    /// allocation fails. Callers must prove that nothing has been taken from the value (`is_whole`). Fails with all
-    /// errors, in the order in which they were found, or with `Stop::Memory` if an allocation fails.
+    /// Reads the value, and appends the warnings to `warnings`, even if the read fails. Earlier warnings stay, even if
+    /// an allocation fails. Callers must prove that nothing has been taken from the value (`is_whole`).
+    ///
+    /// Fails with all errors, in the order in which they were found, or with `Stop::Memory` if an allocation fails.
     fn deserialize_with_warnings(
         alloc: Global,
         value: &mut Value<'de>,

@@ -3,8 +3,8 @@ use Rattle.std.specs.Option.{option_or}
 use Rattle.std.specs.Box.{box_value}
 use Rattle.std.specs.Global.{Box}
 use Rattle.toml_span.specs.declared.claims.Clash as code
-use Rattle.std.specs.Prelude.{◌≡◌, ⊤, ℕ, Bool, nat_eq, if◌then◌else◌, List, [], ◌∷◌, ◌++◌, Option, Some, None}
-use Rattle.std.specs.Prelude.{string_bytes}
+use Rattle.std.specs.Prelude.{◌≡◌, ⊤, ℕ, Bool, nat_eq, if◌then◌else◌, List, [], ◌∷◌, ◌++◌, Option, Some}
+use Rattle.std.specs.Prelude.{None, option_map, string_bytes}
 use Rattle.std.specs.List.{list_any}
 use Rattle.toml_span_read.specs.Places.{IsInside}
 use Rattle.toml_span.specs.declared.claims.ClaimKind.{ClaimKind}
@@ -15,7 +15,7 @@ use Rattle.toml_span.specs.declared.claims.ClashInfo.{ClashInfo}
 use Rattle.toml_span_lex.specs.declared.stop.Stop.{Stop}
 use Rattle.toml_span_lex.specs.declared.stop.Stop.TheVariants.{Memory, Fault}
 use Rattle.toml_span.specs.Flat.{by_header}
-use Rattle.toml_span.specs.Clashes.{clash_info_between}
+use Rattle.toml_span.specs.Clashes.{NamedClash, clash_kind, clash_info}
 
 abbrev pub kind_number : ClaimKind → ℕ
 kind_number Passed = 0
@@ -35,6 +35,13 @@ has_kind infos kind = list_any (λ info. same_kind info.kind kind) infos
 -- the claims with one more, unless one of its kind is there already
 abbrev pub remember : List ClaimInfo → ClaimInfo → List ClaimInfo
 remember infos info = if has_kind infos info.kind then infos else infos ++ info ∷ []
+
+-- the clash of two claims on the same path
+abbrev pub clash_info_between : ClaimInfo → ClaimInfo → Option ClashInfo
+clash_info_between earlier later = option_map (clash_info earlier later) (clash_kind earlier.kind later.kind)
+
+abbrev pub with_name : List ℕ → ClashInfo → NamedClash
+with_name name m = record { info = m; name = name }
 
 -- the clash of a claim with the first of these claims that it clashes with
 abbrev pub earliest_clash_info : List ClaimInfo → ClaimInfo → Option ClashInfo

@@ -17,10 +17,11 @@ use Rattle.toml_span_tree.specs.Value.{view, inner_view, inner_of as tree_inner}
 use Rattle.toml_span_tree.specs.declared.value.Value.{Value}
 use Rattle.toml_span_tree.specs.Node as tree
 use Rattle.toml_span_tree.specs.declared.value.ValueInner.TheVariants.{Table as table_inner}
-use Rattle.toml_span_read.specs.Data.{ParsedValue as Read, parsed_span, ParsedSection, parsed_assignment, simple_key}
+use Rattle.toml_span_read.specs.Data.{ParsedValue as Read, parsed_span, ParsedAssignment, ParsedSection}
+use Rattle.toml_span_read.specs.Data.{parsed_assignment, simple_key}
 use Rattle.toml_span_read.specs.declared.value.Assignment.{Assignment}
 use Rattle.toml_span.specs.declared.branch.Branch.{Branch}
-use Rattle.toml_span.specs.Claims.{Claims, value_claims, value_shape, parsed_inner, shape_claimed, claims}
+use Rattle.toml_span.specs.Claims.{Claims, key_claims, value_claims, value_shape, shape_claimed, claims}
 use Rattle.toml_span.specs.Claims.{part_info, assignments_claims}
 use Rattle.toml_span.specs.code.Machine.{OkOrClash, clash_found, put_all, no_cells, show_all, Cell, CellMap}
 use Rattle.toml_span.specs.code.Machine.{named_clash}
@@ -70,6 +71,10 @@ Opens kind n = Sound n × ((kind ≡ StandardTable) ⊎ ((kind ≡ TableElement)
 
 -- ---- keys and headers
 
+-- the claims of an assignment in the table at p
+abbrev pub assignment_claims : ParsedAssignment → Path → Claims
+assignment_claims e p = key_claims p e.parts e.value (value_claims e.value)
+
 -- the claims of these assignments, as paths below their table
 abbrev pub claims_of : List Assignment → Claims
 claims_of pairs = assignments_claims (map parsed_assignment pairs) []
@@ -108,7 +113,7 @@ PassesTable old new r h part rest pairs =
 abbrev pub IsFinished : Read → Value → Type 0
 IsFinished v x =
     ((at : Option Span)
-    → tree_place (at, view x) ≡ record { shape = value_shape (parsed_inner v); key_span = at; span = parsed_span v })
+    → tree_place (at, view x) ≡ record { shape = value_shape v; key_span = at; span = parsed_span v })
     × ((s : Step) (p : Path) → value_shows None (view x) (s ∷ p)
     ≡ (show_all no_cells (value_claims v []) (s ∷ p)).shown)
     × IsOrdered (view x)

@@ -18,7 +18,7 @@ use Rattle.toml_span_tree.specs.Value.{span_of, view}
 use Rattle.toml_span.specs.declared.claims.ClaimInfo.{ClaimInfo}
 use Rattle.toml_span.specs.declared.branch.Branch.{Branch}
 use Rattle.toml_span.specs.declared.branch.Branch.TheViews.{out-Branch}
-use Rattle.toml_span.specs.Claims.{place_claimed, pair_info}
+use Rattle.toml_span.specs.Claims.{pair_info, shape_claimed, key_span_of}
 use Rattle.toml_span.specs.Flat.{by_header}
 use Rattle.toml_span.specs.code.Machine.{Decided, CellMap, no_cell, with_span, Cell}
 use Rattle.toml_span.specs.declared.claims.ClaimKind.TheVariants.{Assigned, ArrayOfTables, TableElement}
@@ -62,6 +62,10 @@ child_infos None = []
 child_infos (Some n) = infos n
 
 -- ---- what a branch keeps and shows
+
+-- The place at a path that this claim of a table or of an array of tables determines.
+abbrev pub place_claimed : ClaimInfo → Place
+place_claimed m = record { shape = shape_claimed m.kind; key_span = key_span_of m.kind m.key; span = m.extent }
 
 abbrev pub by_info : ClaimInfo → Decided
 by_info m = record { header = by_header m.kind; place = place_claimed m; key = m.key }

@@ -1,9 +1,10 @@
 //! Laws about which clash `parse` reports.
-ghost use Rattle.std.specs.Prelude.{◌≡◌, ◌≢◌, ◌↔◌, ◌++◌, ◌∷◌, ℕ, List, [], Some};
+ghost use Rattle.std.specs.Prelude.{◌≡◌, ◌≢◌, ◌↔◌, ◌++◌, ◌∷◌, ℕ, List, [], Some, filter};
 ghost use Rattle.toml_span_tree.specs.Path.{Path, position};
 ghost use Rattle.toml_span.specs.declared.claims.ClaimKind.TheVariants.{Assigned, Dotted, Passed};
-ghost use Rattle.toml_span.specs.Flat.{all_claims, claims_at, deciding_claim};
+ghost use Rattle.toml_span.specs.Flat.{all_claims, deciding_claim};
 ghost use Rattle.toml_span.specs.Claims.{Claim, claims};
+ghost use Rattle.toml_span.specs.Paths.{same_path};
 ghost use Rattle.toml_span.specs.Clashes.{NamedClash, Resolves, first_clash, clash};
 ghost use Rattle.toml_span_read.specs.Data.{ParsedSection};
 ghost use Rattle.toml_span_read.specs.Grammar.{SpellsDocument};
@@ -11,7 +12,7 @@ ghost use Rattle.toml_span_laws.specs.Clashing.{IsFirstPair, IsIn, ShareScope};
 
 /// The clash that is reported is the first by its offsets. Its later claim starts before every other claim of the
 /// document that clashes with an earlier one in its scope (the document, an array in brackets or an inline table). Its
-/// earlier claim starts before every other one that clashes with the later one.
+/// earlier claim starts before every other claim that clashes with the later claim.
 pub fn reported_is_first_by_place()
     ensures { (text : List ℕ) (limit : ℕ) (sections : List ParsedSection) (reported : NamedClash)
         → SpellsDocument sections text limit
@@ -24,7 +25,8 @@ pub fn reported_is_first_by_place()
 pub fn no_header_through_an_element_decides()
     ensures { (text : List ℕ) (limit : ℕ) (sections : List ParsedSection) (path : Path) (index : ℕ) (c : Claim)
         → SpellsDocument sections text limit
-        → deciding_claim (claims_at (path ++ (position index ∷ [])) (all_claims (claims sections))) ≡ Some c
+        → deciding_claim
+        (filter (λ d. same_path d.path (path ++ (position index ∷ []))) (all_claims (claims sections))) ≡ Some c
         → c.info.kind ≢ Passed }
 {}
 

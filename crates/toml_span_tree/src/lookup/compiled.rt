@@ -23,10 +23,10 @@ pub struct Pointer<'de> {
 }
 
 impl<'de> Pointer<'de> {
-    /// Splits a pointer into segments, and copies them. Returns `None` if the text is not a pointer, that is, if it is
-    /// not empty and does not begin with `/`.
+    /// Splits a pointer into segments, and copies them. Returns `None` if `pointer` is not empty and does not begin
+    /// with `/`.
     ///
-    /// Fails only if an allocation fails.
+    /// Fails if an allocation fails.
     pub fn new(alloc: Global, pointer: &str) -> Result<Option<Self>, AllocError>
         ensures { IfOk result (λ made. option_map (λ p. names_in p.names) made ≡ pointer_segments pointer.now) }
     {
@@ -44,8 +44,8 @@ impl<'de> Pointer<'de> {
     }
 }
 
-/// Appends each segment of `path`, a pointer without its first `/`, as a key that owns its name. Fails if an allocation
-/// fails.
+/// Appends each segment of `path`, a pointer without its first `/`, to `names`. If an allocation fails, `names` has
+/// some of them.
 fn push_segments<'de>(
     alloc: Global,
     path: &str,
@@ -61,7 +61,7 @@ fn push_segments<'de>(
     }
 }
 
-/// Appends a key that owns a copy of the name. Fails if an allocation fails.
+/// Appends a key with a copy of `name` to `names`.
 fn push_name<'de>(alloc: Global, name: &str, names: &mut Vec<Key<'de>>) -> Result<(), AllocError>
     ensures { OnOk result (names_in names.new ≡ names_in names.old ++ name.now ∷ []) }
 {
@@ -72,7 +72,7 @@ fn push_name<'de>(alloc: Global, name: &str, names: &mut Vec<Key<'de>>) -> Resul
     Ok(())
 }
 
-/// Returns the value of the entry with this name, or `None` if the table lacks it.
+/// Returns the value of the entry with this name, or `None` if the table has no such entry.
 fn table_at<'v, 'de>(table: &'v Table<'de>, name: &Key<'de>) -> Option<&'v Value<'de>>
     ensures { option_map (λ v. view v.now) result ≡ get_member (name_in name.now) (members_view table.now.entries) }
 {
@@ -106,7 +106,8 @@ impl<'de> Value<'de> {
     }
 
     /// Follows the names from this value, one step for each name. Returns the value to which they lead, or `None` if
-    /// they lead nowhere, or through or to a value whose content has been taken. Without names, returns this value.
+    /// they lead to no value, or if a value on the way or at the end is taken. Without names, returns this value, taken
+    /// or not.
     fn found_at(&self, names: &[Key<'de>]) -> Option<&Self>
         ensures { option_map (λ v. view v.now) result ≡ value_named (map name_in names.now) (view self.now) }
     {
@@ -116,10 +117,9 @@ impl<'de> Value<'de> {
         }
     }
 
-    /// Returns the value that the pointer names, or `None` if it names no value: the same as the method `pointer` with
-    /// the text of the pointer.
+    /// Returns the value that the pointer names, or `None` if it names no value, as the method `pointer` does.
     ///
-    /// In each table on the way, the look-up takes logarithmic time. Allocates nothing.
+    /// Takes logarithmic time in each table on the way. Allocates nothing.
     pub fn at(&self, pointer: &Pointer<'de>) -> Option<&Self>
         ensures { option_map (λ v. view v.now) result ≡ value_named (names_in pointer.now.names) (view self.now) }
     {

@@ -13,9 +13,7 @@ use std::str::FromStr;
 use toml_span_lex::stop::Stop;
 use toml_span_tree::Value;
 
-/// Reads a value's string with `FromStr`, like `parse`: takes the value in every case, and fails with `Wanted` or
-/// `Custom` at its span, or with `Stop::Memory`. The error is in a `DeserError`, so that `deserialize` can pass it on
-/// with `?`.
+/// Does the same as `parse`, but returns the error in a `DeserError`, so that `deserialize` can pass it on with `?`.
 pub fn parsed<'de, T: FromStr<Err = E>, E: Display + Drop>(
     alloc: Global,
     value: &mut Value<'de>,
@@ -31,14 +29,13 @@ pub fn parsed<'de, T: FromStr<Err = E>, E: Display + Drop>(
     }
 }
 
-/// Reads a value's string with a function. Use it as the body of `deserialize` for a type that owns text, because
-/// `FromStr` has no allocator to copy the text with.
+/// Reads a value's string with the function `make`. Use it as the body of `deserialize` for a type that owns text,
+/// because `FromStr` has no allocator to copy the text with.
 ///
 /// Takes the value in every case. Callers must prove that it has not been taken already (`is_taken`). Fails with
-/// `Wanted`, which expects "a string", if the value is of another kind; the function is not called then. If the
-/// function fails with `Stop::Fault`, the error is `Custom`: `failed to parse string: ` and the text of the function's
-/// error. Both errors are at the value's span. Fails with `Stop::Memory` if the function does, or if an allocation
-/// fails.
+/// `Wanted`, which expects "a string", if the value is of another kind; `make` is not called then. If `make` fails with
+/// `Stop::Fault`, the error is `Custom`: `failed to parse string: ` and the text of the error of `make`. Both errors
+/// are at the value's span. Fails with `Stop::Memory` if `make` does, or if an allocation fails.
 pub fn parse_with<'de, T: Drop, E: Display + Drop, F: FnOnce(&str) -> Result<T, Stop<E>> + Drop>(
     alloc: Global,
     value: &mut Value<'de>,

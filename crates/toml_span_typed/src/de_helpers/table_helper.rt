@@ -26,12 +26,13 @@ use toml_span_tree::{Error, ErrorKind, Table, Value, ValueInner};
 
 /// Reads the entries of a table one by one.
 ///
-/// It keeps the errors until the end, and it records the names that it was asked for: the error `UnexpectedKeys` lists
-/// these names as the expected ones. A name is recorded even if the table has no such key. For methods that read
-/// values, callers must prove that nothing has been taken from the entries that have not been read (`is_whole`).
+/// The helper keeps errors until the end. It records the name of each field that a method reads or takes, even if the
+/// table has no such key; deprecated names are not recorded. The error `UnexpectedKeys` lists the recorded names as
+/// expected. Callers of methods that read values must prove that nothing has been taken from the entries that remain
+/// (`is_whole`).
 #[derive(Drop)]
 pub struct TableHelper<'de> {
-    /// The entries that have not been read.
+    /// The entries that remain; reading or taking a field moves its entry out.
     pub table: Table<'de>,
     /// The errors so far, in order.
     pub errors: Vec<Error<'de>>,
@@ -101,7 +102,7 @@ impl<'de> TableHelper<'de> {
         }
     }
 
-    /// Returns whether the table has an entry of this name that has not been read. Does not record the name.
+    /// Returns whether an entry of this name remains in the table. Does not record the name.
     pub fn contains(&self, name: &'de str) -> bool
         ensures { result ≡ is_some (found name.now (state_of self.now)) }
     {
@@ -123,9 +124,9 @@ impl<'de> TableHelper<'de> {
 
     /// Records the name, moves its entry out of the table, and reads the value.
     ///
-    /// If there is no entry, keeps the error `MissingField` at the table's span, and returns a copy of it. If the read
-    /// fails, keeps all its errors, and returns a copy of the last one. If an allocation fails, no error is kept, but
-    /// the name may be recorded and its entry gone.
+    /// If there is no entry, keeps the error `MissingField` at the table's span, and returns a copy of the error. If
+    /// the read fails, keeps all its errors, and returns a copy of the last error. If an allocation fails, no error is
+    /// kept, but the name may be recorded and its entry gone.
     pub fn required<T: Deserialize<'de>>(&mut self, name: &'de str) -> Result<T, Stop<Error<'de>>>
         requires { IfSome (found name.now (state_of self.old)) (λ value. IsTrue (is_whole value)) }
         ensures answer { Requires T.reads name.now (state_of self.old) result (state_of self.new) }
@@ -191,12 +192,12 @@ impl<'de> TableHelper<'de> {
 
     /// Ends the read. Returns `Ok` if no error was kept, otherwise fails with all errors in order.
     ///
-    /// Given the original value, puts the entries that remain back into it, even if there are errors. The span of the
-    /// value stays the same, and nothing is allocated.
+    /// If `original` is a value, puts the entries that remain back into the value, even if there are errors. The value
+    /// keeps its span, and nothing is allocated.
     ///
-    /// Given `None`, also fails if entries remain: the last error is then `UnexpectedKeys` at the table's span. It has
-    /// the keys that remain, in the order of their names, and the recorded names, in the order in which they were asked
-    /// for. If an allocation fails, returns the helper unchanged, in `Unfinished::Memory`.
+    /// If `original` is `None`, also fails if entries remain: the last error is then `UnexpectedKeys` at the table's
+    /// span. This error has the keys that remain, in the order of their names, and the recorded names, in the order in
+    /// which they were recorded. If an allocation fails, returns the helper unchanged, in `Unfinished::Memory`.
     pub fn finalize(self, original: Option<&mut Value<'de>>) -> Result<(), Unfinished<'de>>
         ensures answer { Finalizes (state_of self.entry) original.entry result }
         ensures rest { Leaves (HoldsRest self.entry.table) original.entry original.exit }
@@ -223,8 +224,8 @@ impl<'de> TableHelper<'de> {
         finish(errors)
     }
 
-    /// Ends the read, and reports the entries that remain as an error. Fails with all errors, if there are any, or with
-    /// the helper in `Unfinished::Memory` if an allocation fails.
+    /// Ends the read. If entries remain, keeps the error `UnexpectedKeys`. Fails with all errors that were kept or, if
+    /// an allocation fails, with the unchanged helper in `Unfinished::Memory`.
     fn refuse_rest(mut self) -> Result<(), Unfinished<'de>>
         ensures { Refuses (state_of self.entry) result }
     {
@@ -247,7 +248,7 @@ impl<'de> TableHelper<'de> {
         self.keep(error)
     }
 
-    /// Returns the error `UnexpectedKeys` for the entries that remain. Fails if an allocation fails.
+    /// Returns the error `UnexpectedKeys` for the entries that remain.
     fn unexpected_keys(&self) -> Result<Error<'de>, AllocError>
         ensures { IfOk result (λ e. content_of e ≡ unexpected_entries (state_of self.now)) }
     {
@@ -333,7 +334,7 @@ fn finish<'de>(errors: Vec<Error<'de>>) -> Result<(), Unfinished<'de>>
     }
 }
 
-/// Returns the names and spans of a table's keys, in the order of the names. Fails if an allocation fails.
+/// Returns the names and spans of a table's keys, in the order of the names.
 fn key_names(alloc: Global, table: &Table) -> Result<Vec<(String, Span)>, AllocError>
     ensures { IfOk result (λ names. map key_text names.items ≡ remaining_keys (members_view table.now.entries)) }
 {
@@ -345,7 +346,7 @@ fn key_names(alloc: Global, table: &Table) -> Result<Vec<(String, Span)>, AllocE
     Ok(names)
 }
 
-/// Returns a list of copies of the texts. Fails if an allocation fails.
+/// Returns a list of copies of the texts.
 fn copied_texts(alloc: Global, texts: &[&str]) -> Result<Vec<String>, AllocError>
     ensures { IfOk result (λ copies. map string_bytes copies.items ≡ map (λ text. text.now) texts.now) }
 {

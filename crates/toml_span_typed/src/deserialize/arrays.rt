@@ -25,7 +25,7 @@ impl<'de, T: Deserialize<'de>> Deserialize<'de> for Vec<T> {
     }
 }
 
-/// Reads each element. Fails with the errors of all elements, or if an allocation fails.
+/// Reads each element. Fails with the errors of all elements.
 fn read_all<'de, T: Deserialize<'de>>(
     alloc: Global,
     items: Vec<Value<'de>>,
@@ -47,7 +47,7 @@ fn read_all<'de, T: Deserialize<'de>>(
     }
 }
 
-/// Reads one element, and appends it to `read`, or its errors to `faults`. Fails if an allocation fails.
+/// Reads one element, and appends it to `read`, or its errors to `faults`.
 fn read_next<'de, T: Deserialize<'de>>(
     alloc: Global,
     item: Value<'de>,

@@ -13,7 +13,7 @@ use toml_span_lex::span::Span;
 use toml_span_lex::stop::Stop;
 use toml_span_tree::{Value, ValueInner};
 
-/// Returns the `f64` nearest to a float's text, or `None` if that is not finite.
+/// Returns the `f64` nearest to the float `text`, or `None` if the `f64` is not finite.
 fn double_of(text: &str) -> Option<f64>
     ensures { result ≡ finite_float binary64 text.now }
 {
@@ -25,7 +25,7 @@ fn double_of(text: &str) -> Option<f64>
     }
 }
 
-/// Returns the `f32` nearest to a float's text, or `None` if that is not finite.
+/// Returns the `f32` nearest to the float `text`, or `None` if the `f32` is not finite.
 fn single_of(text: &str) -> Option<f32>
     ensures { result ≡ finite_float binary32 text.now }
 {
@@ -37,7 +37,7 @@ fn single_of(text: &str) -> Option<f32>
     }
 }
 
-/// Returns the number. If it is `None`, fails with `OutOfRange` at `span`, for the number type called `name`.
+/// Returns the number. If `number` is `None`, fails with `OutOfRange` at `span`, for the number type called `name`.
 fn or_out_of_range<'s, T: Drop>(
     number: Option<T>,
     name: &'s str,
@@ -51,8 +51,8 @@ fn or_out_of_range<'s, T: Drop>(
     }
 }
 
-/// Reads a float as the nearest `f64`. If that is not finite, as for `inf`, `nan` and `1e400`, the error is
-/// `OutOfRange`. To accept such floats too, read a `FloatText`.
+/// Reads a float as the nearest `f64`. Fails with `OutOfRange` if the `f64` is not finite, as for `inf`, `nan` and
+/// `1e400`. To accept these floats too, read a `FloatText`.
 impl<'de> Deserialize<'de> for f64 {
     ghost reads = { Gives (read_number (codes "f64") binary64) };
 
@@ -70,7 +70,7 @@ impl<'de> Deserialize<'de> for f64 {
     }
 }
 
-/// Reads a float as the nearest `f32`. If that is not finite, the error is `OutOfRange`.
+/// Reads a float as the nearest `f32`. Fails with `OutOfRange` if the `f32` is not finite.
 impl<'de> Deserialize<'de> for f32 {
     ghost reads = { Gives (read_number (codes "f32") binary32) };
 

@@ -29,8 +29,8 @@ impl<'de, T: Deserialize<'de>> Deserialize<'de> for Box<T> {
     }
 }
 
-/// Reads the value as a `T`, and returns `Some`. This implementation is not used for an absent key: `read_table!` then
-/// sets a field of type `Option<T>` to `None`.
+/// Reads the value as a `T`, and returns it in `Some`. If a key is absent, `read_table!` sets a field of type
+/// `Option<T>` to `None` without this implementation.
 impl<'de, T: Deserialize<'de>> Deserialize<'de> for Option<T> {
     ghost reads = { AsSome T.reads };
 
@@ -55,7 +55,7 @@ impl<'de> Deserialize<'de> for char {
     }
 }
 
-/// A string that is read with `FromStr`, for a type that does not implement `Deserialize`.
+/// A value that is read from a string with `FromStr`. `T` need not implement `Deserialize`.
 #[derive(Debug, Drop)]
 pub struct Parsed<T> {
     pub value: T,

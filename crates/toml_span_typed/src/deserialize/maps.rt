@@ -33,8 +33,8 @@ impl<'de, T: Deserialize<'de>> Deserialize<'de> for BTreeMap<String, T> {
     }
 }
 
-/// Reads the same entries as the implementation for `BTreeMap`. No contract says in which order the map iterates over
-/// them.
+/// Reads the same entries as the implementation for `BTreeMap`. The order in which the map iterates over them is
+/// unspecified.
 impl<'de, T: Deserialize<'de>> Deserialize<'de> for HashMap<String, T> {
     ghost reads = { hashed_reads T.reads };
 
@@ -49,7 +49,7 @@ impl<'de, T: Deserialize<'de>> Deserialize<'de> for HashMap<String, T> {
     }
 }
 
-/// Reads the value of each entry. Fails with the errors of all entries, or if an allocation fails.
+/// Reads the value of each entry. Fails with the errors of all entries.
 fn read_entries<'de, T: Deserialize<'de>>(
     alloc: Global,
     table: Table<'de>,
@@ -71,7 +71,7 @@ fn read_entries<'de, T: Deserialize<'de>>(
     }
 }
 
-/// Reads the value of one entry, and adds it to `read`, or its errors to `faults`. Fails if an allocation fails.
+/// Reads the value of one entry, and adds it to `read`, or its errors to `faults`.
 fn read_entry<'de, T: Deserialize<'de>>(
     alloc: Global,
     key: Key<'de>,
@@ -90,7 +90,7 @@ fn read_entry<'de, T: Deserialize<'de>>(
     }
 }
 
-/// Inserts an element under a copy of the key's name. Fails if an allocation fails.
+/// Inserts an element into `read` under a copy of the key's name.
 #[tactic(auto, using(crate::proofs::Maps::shown_insert))]
 fn put<T: Drop>(
     alloc: Global,

@@ -23,8 +23,8 @@ pub struct InRange<T, const LOW: i64, const HIGH: i64> {
     pub value: T,
 }
 
-/// Reads an integer as a `T`. If it is not in the range, the error is `Marked` with the code `out-of-range`, at the
-/// value, even if `T` can't represent the integer. The message names the range and the integer.
+/// Reads an integer as a `T`. Fails with `Marked`, with the code `out-of-range`, if the integer is not in the range,
+/// even if `T` can't represent it. The error is at the value, and its message names the range and the integer.
 impl<
     'de,
     T: Deserialize<'de> + TryFrom<i64, Error = TryFromIntError>,
@@ -49,8 +49,7 @@ impl<
     }
 }
 
-/// Returns the error of a value that is an integer outside the range `low..=high`, or `None` for any other value. Fails
-/// if an allocation fails.
+/// Returns the error if the value is an integer outside the range `low..=high`, or `None` for any other value.
 fn range_fault<'s>(
     alloc: Global,
     low: i64,
@@ -67,8 +66,7 @@ fn range_fault<'s>(
     }
 }
 
-/// Returns the error of the integer `found`, at `span`, which is not in the range `low..=high`. Fails if an allocation
-/// fails.
+/// Returns the error at `span` for the integer `found`, which is not in the range `low..=high`.
 fn out_of_range<'s>(
     alloc: Global,
     low: i64,
@@ -87,7 +85,7 @@ fn out_of_range<'s>(
     Ok(Error::from((kind, span)))
 }
 
-/// Returns the message for the integer `found`, which is not in the range `low..=high`. Fails if an allocation fails.
+/// Returns the message for the integer `found`, which is not in the range `low..=high`.
 #[tactic(auto, unfolding(crate::specs::Ranges::range_message))]
 fn range_message(alloc: Global, low: i64, high: i64, found: i64) -> Result<String, AllocError>
     ensures { IfOk result (λ message. string_bytes message ≡ spec.range_message low high found) }
@@ -101,7 +99,7 @@ fn range_message(alloc: Global, low: i64, high: i64, found: i64) -> Result<Strin
     Ok(out)
 }
 
-/// Appends an integer in decimal. Fails if an allocation fails.
+/// Appends an integer in decimal to `out`.
 fn push_integer(number: i64, out: &mut String) -> Result<(), AllocError>
     ensures { OnOk result (string_bytes out.new ≡ string_bytes out.old ++ signed_decimal number) }
 {

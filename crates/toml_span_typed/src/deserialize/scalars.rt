@@ -59,7 +59,7 @@ impl<'de> Deserialize<'de> for DateText<'de> {
     }
 }
 
-/// Reads a string without copying it: it is borrowed if and only if it was borrowed in the value.
+/// Reads a string without copying it. The string is borrowed if and only if it was borrowed in the value.
 impl<'de> Deserialize<'de> for CowStr<'de> {
     ghost reads = { λ v r w. Gives read_string v (result_map cow_str_bytes r) w };
 

@@ -15,8 +15,8 @@ use toml_span_tree::{Error, ErrorKind, Value, ValueInner};
 
 // Toolchain: there is no `impl` for `[T; N]` ("a struct that owns memory and names a lifetime has a field that holds a
 // `&mut`, or ..").
-/// Reads an array of two elements. For any other number of elements the error is `Custom` at the array's span, with the
-/// text `expected 2 elements, found` and the number; then no element is read.
+/// Reads an array of two elements. For any other number of elements, reads no element, and fails with `Custom` at the
+/// array's span: `expected 2 elements, found` and the number.
 impl<'de, A: Deserialize<'de>, B: Deserialize<'de>> Deserialize<'de> for (A, B) {
     ghost reads = { pair_reads A.reads B.reads };
 
@@ -44,8 +44,8 @@ impl<'de, A: Deserialize<'de>, B: Deserialize<'de>> Deserialize<'de> for (A, B) 
     }
 }
 
-/// Takes the value, and returns its two elements. Fails with `Wanted` if the value is not an array, with `Custom` if it
-/// does not have two elements, and with `Stop::Memory` if an allocation fails.
+/// Takes the value, and returns its two elements. Fails with `Wanted` if the value is not an array, and with `Custom`
+/// if the array does not have two elements.
 fn two<'de>(
     alloc: Global,
     value: &mut Value<'de>,
@@ -70,8 +70,7 @@ fn two<'de>(
     }
 }
 
-/// Returns the error for an array of `found` elements instead of `wanted`, or `Stop::Memory` if its text can't be
-/// allocated.
+/// Returns the error `Custom` at `span` for an array of `found` elements instead of `wanted`.
 fn miscounted<'s>(alloc: Global, wanted: usize, found: usize, span: Span) -> Stop<DeserError<'s>>
     ensures { StopsWith (other_length wanted found span) result }
 {

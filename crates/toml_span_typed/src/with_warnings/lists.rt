@@ -29,8 +29,7 @@ impl<'de, T: DeserializeWithWarnings<'de>> DeserializeWithWarnings<'de> for Vec<
     }
 }
 
-/// Reads each element, and appends all warnings to `warnings`. Fails with the errors of all elements, or if an
-/// allocation fails.
+/// Reads each element, and appends all warnings to `warnings`. Fails with the errors of all elements.
 fn read_all<'de, T: DeserializeWithWarnings<'de>>(
     alloc: Global,
     items: Vec<Value<'de>>,
@@ -54,8 +53,7 @@ fn read_all<'de, T: DeserializeWithWarnings<'de>>(
     }
 }
 
-/// Reads one element, and appends it to `read`, or its errors to `faults`, and its warnings to `warnings`. Fails if an
-/// allocation fails.
+/// Reads one element, and appends it to `read`, or its errors to `faults`, and its warnings to `warnings`.
 fn read_next<'de, T: DeserializeWithWarnings<'de>>(
     alloc: Global,
     item: Value<'de>,

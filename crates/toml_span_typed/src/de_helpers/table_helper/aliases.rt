@@ -16,9 +16,9 @@ use toml_span_lex::span::Span;
 use toml_span_tree::{Error, ErrorKind, Value};
 
 impl<'de> TableHelper<'de> {
-    /// Reads a field under its name or, if that is absent, under the name `old`. Records both names, `name` first.
-    /// Returns `None` if neither is present or if the read fails, after keeping the error `MissingField` or the errors
-    /// of the read.
+    /// Reads the field `name` or, if `name` is absent, the field `old`. Records both names, `name` first. If neither is
+    /// present, keeps the error `MissingField` for `name`, and returns `None`. If the read fails, keeps its errors, and
+    /// returns `None`.
     ///
     /// If both names are present, reads the value of `name`, and keeps the error `DuplicateKey` at the later of the two
     /// keys. If an allocation fails, at most this error is kept, but the names may be recorded and their entries gone.
@@ -36,10 +36,11 @@ impl<'de> TableHelper<'de> {
         self.read_or_miss(name, value)
     }
 
-    /// Reads an optional field under its name or, if that is absent, under the name `old`. Records both names, `name`
-    /// first. Returns `None` if neither is present. Also returns `None` if the read fails, after keeping its errors. If
-    /// both names are present, reads the value of `name`, and keeps the error `DuplicateKey`, as `read_either` does. If
-    /// an allocation fails, at most this error is kept, but the names may be recorded and their entries gone.
+    /// Reads the optional field `name` or, if `name` is absent, the field `old`. Records both names, `name` first.
+    /// Returns `None` if neither is present. Also returns `None` if the read fails, after keeping its errors.
+    ///
+    /// If both names are present, reads the value of `name`, and keeps the error `DuplicateKey`, as `read_either` does.
+    /// If an allocation fails, at most this error is kept, but the names may be recorded and their entries gone.
     pub fn read_optional_either<T: Deserialize<'de>>(
         &mut self,
         name: &'de str,
@@ -54,11 +55,12 @@ impl<'de> TableHelper<'de> {
         self.read_if_there(value)
     }
 
-    /// Reads a field under its name or, if that is absent, under the deprecated name `old`, as `read_either` does. If
-    /// `old` is present, appends the warning `Deprecated`, at the span of the old key, to `warnings`, even if the read
-    /// fails. Only `name` is recorded, so the error `UnexpectedKeys` does not list the old name as expected.
+    /// Reads the field `name` or, if `name` is absent, the deprecated field `old`, as `read_either` does. Records only
+    /// `name`, so the error `UnexpectedKeys` does not list `old` as expected. If `old` is present, appends the warning
+    /// `Deprecated`, at the span of the old key, to `warnings`, even if the read fails.
     ///
-    /// If an allocation fails, at most the error `DuplicateKey` is kept, and the warning may have been appended.
+    /// If an allocation fails, at most the error `DuplicateKey` is kept. The warning may then have been appended,
+    /// `name` recorded, and the entries removed.
     pub fn read_deprecated<T: Deserialize<'de>>(
         &mut self,
         name: &'de str,
@@ -77,11 +79,12 @@ impl<'de> TableHelper<'de> {
         self.read_or_miss(name, value)
     }
 
-    /// Reads an optional field under its name or, if that is absent, under the deprecated name `old`. Returns `None` if
-    /// neither is present. Also returns `None` if the read fails, after keeping its errors. If `old` is present,
-    /// appends the warning `Deprecated`, at the span of the old key, to `warnings`; if both names are present, also
-    /// keeps the error `DuplicateKey`. Records only `name`. If an allocation fails, at most the error `DuplicateKey` is
-    /// kept, and the warning may have been appended.
+    /// Reads the optional field `name` or, if `name` is absent, the deprecated field `old`. Records only `name`.
+    /// Returns `None` if neither is present. Also returns `None` if the read fails, after keeping its errors.
+    ///
+    /// If `old` is present, appends the warning `Deprecated`, at the span of the old key, to `warnings`. If both names
+    /// are present, also keeps the error `DuplicateKey`. If an allocation fails, the state is as after a failed
+    /// `read_deprecated`.
     pub fn read_optional_deprecated<T: Deserialize<'de>>(
         &mut self,
         name: &'de str,
@@ -145,9 +148,9 @@ impl<'de> TableHelper<'de> {
         }
     }
 
-    /// Records both names, and moves their entries out. Returns the value of `name` or, if that is absent, of `old`,
-    /// and `None` if neither is present. If both are present, keeps the error `DuplicateKey`. Fails if an allocation
-    /// fails.
+    /// Records both names, and moves their entries out. Returns the value of `name` or, if `name` is absent, of `old`,
+    /// and `None` if neither is present. If both are present, keeps the error `DuplicateKey`. If an allocation fails,
+    /// names may be recorded and entries gone.
     fn take_either(
         &mut self,
         name: &'de str,
@@ -167,9 +170,8 @@ impl<'de> TableHelper<'de> {
         self.choose(name, newer, old, older)
     }
 
-    /// Records `name`, and moves the entries of both names out. Returns the value of `name` or, if that is absent, of
-    /// `old`, and `None` if neither is present. Appends a warning if `old` is present. If both are present, keeps the
-    /// error `DuplicateKey`. If an allocation fails, `warnings` is unchanged.
+    /// Does the same as `take_either`, but does not record `old`, and appends a warning to `warnings` if `old` is
+    /// present. If an allocation fails, `warnings` is unchanged.
     fn take_deprecated(
         &mut self,
         name: &'de str,
@@ -195,9 +197,9 @@ impl<'de> TableHelper<'de> {
         Ok(value)
     }
 
-    /// Returns the value of `newer` or, if that is `None`, the value of `older`, and `None` if both are `None`. These
-    /// are the entries of `name` and `old`, each a value with the span of its key. If both are there, keeps the error
-    /// `DuplicateKey` at the later key. If an allocation fails, nothing is kept.
+    /// Returns the value of `newer`, the entry of `name`, or else of `older`, the entry of `old`; `None` if both are
+    /// `None`. An entry is the span of its key, and its value. If there are both, keeps the error `DuplicateKey` at the
+    /// later key. If an allocation fails, nothing is kept.
     fn choose(
         &mut self,
         name: &str,
@@ -272,7 +274,7 @@ impl<'de> TableHelper<'de> {
     }
 }
 
-/// Returns the span of the key of an entry, or `None` without an entry.
+/// Returns the span of the key of an entry, or `None` if `entry` is `None`.
 fn place_of(entry: &Option<(Span, Value)>) -> Option<Span>
     ensures { option_map (λ span. Some span) result ≡ option_map (λ e. e.0) (option_map entry_of entry.now) }
 {
@@ -283,7 +285,7 @@ fn place_of(entry: &Option<(Span, Value)>) -> Option<Span>
 }
 
 /// Returns the error `DuplicateKey` for a field that is present under its name, at `span`, and under its old name, at
-/// `other`. The error is at the later of the two keys. Fails if an allocation fails.
+/// `other`. The error is at the later of the two keys.
 fn both_names_error<'s>(
     alloc: Global,
     name: &str,
@@ -300,8 +302,7 @@ fn both_names_error<'s>(
     }
 }
 
-/// Returns the error `DuplicateKey` at `span` for the key `name`, with `first` as the span of the earlier key. Fails if
-/// an allocation fails.
+/// Returns the error `DuplicateKey` at `span` for the key `name`, with `first` as the span of the earlier key.
 fn duplicate_key<'s>(
     alloc: Global,
     name: &str,

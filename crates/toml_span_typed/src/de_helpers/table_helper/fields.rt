@@ -43,8 +43,8 @@ impl<'de> TableHelper<'de> {
         }
     }
 
-    /// Reads the field of this name, as `optional` does: returns `None` if the table has no such entry, and also if the
-    /// read fails, after keeping its errors. Callers must prove that nothing has been taken from the remaining entries.
+    /// Reads a field as `optional` does. Returns `None` if the table has no entry of this name. Also returns `None` if
+    /// the read fails, after keeping its errors.
     #[tactic(auto, using(crate::proofs::Whole::found_whole))]
     pub fn read_optional<T: Deserialize<'de>>(
         &mut self,
@@ -58,8 +58,9 @@ impl<'de> TableHelper<'de> {
         self.optional(name)
     }
 
-    /// Returns the result of a read that the caller made itself, for example of an entry from `take`. If the read
-    /// failed, keeps its errors, and returns `None`. If an allocation fails, or failed in the read, no error is kept.
+    /// Returns the value of a read that the caller made, for example of an entry from `take`. If the read failed, keeps
+    /// its errors, and returns `None`. If an allocation failed in the read, or fails now, returns `AllocError`, and
+    /// keeps no error.
     pub fn kept<T: Drop>(
         &mut self,
         read: Result<T, Stop<DeserError<'de>>>,
@@ -80,7 +81,8 @@ impl<'de> TableHelper<'de> {
     }
 
     /// Ends the read, as `finalize(None)` does. Returns `Ok` if no error was kept and no entry remains. Otherwise fails
-    /// with all errors, the error for the remaining keys last. Only this error needs an allocation.
+    /// with all errors, the error for the remaining keys last. Only the error for the remaining keys needs an
+    /// allocation.
     pub fn finish(self) -> Result<(), Stop<DeserError<'de>>>
         ensures answer { Finishes (state_of self.entry) result }
         ensures none { OnOk result (kept (state_of self.entry) ≡ 0) }
@@ -100,7 +102,7 @@ impl<'de> TableHelper<'de> {
         Ok(())
     }
 
-    /// Reads the field of this name, as `read` does. Callers must prove that nothing has been taken from its value.
+    /// Does the same as `read`. Callers must prove that nothing has been taken from the field's value.
     fn ask<T: Deserialize<'de>>(&mut self, name: &'de str) -> Result<Option<T>, AllocError>
         requires { IfSome (found name.now (state_of self.old)) (λ value. IsTrue (is_whole value)) }
         ensures answer { Asks T.reads name.now (state_of self.old) result (state_of self.new) }

@@ -23,8 +23,9 @@ impl<'de> TableHelper<'de> {
         Vec::new(self.alloc)
     }
 
-    /// Keeps an error for each name that repeats an earlier one in the list: `Marked` with the code `duplicate-name`,
-    /// at the name. The error also marks the previous occurrence. If an allocation fails, no error is kept.
+    /// Keeps an error for each of `names` that equals an earlier name in the list: `Marked` with the code
+    /// `duplicate-name`, at the name's span. The error also marks the previous occurrence. If an allocation fails, no
+    /// error is kept.
     pub fn keep_repeated(&mut self, names: &[&Spanned<String>]) -> Result<(), AllocError>
         ensures ok { OnOk result (state_of self.new
             ≡ keeping (spec.repeated (map (λ name. named name.now) names.now)) (state_of self.old)) }
@@ -37,7 +38,7 @@ impl<'de> TableHelper<'de> {
     }
 }
 
-/// Returns an error for each name that repeats an earlier one in the list, in order. Fails if an allocation fails.
+/// Returns an error for each name that equals an earlier name in the list, in order.
 fn repeated<'s>(alloc: Global, names: &[&Spanned<String>]) -> Result<Vec<Error<'s>>, AllocError>
     ensures { IfOk result (λ errors. map content_of errors.items
         ≡ spec.repeated (map (λ name. named name.now) names.now)) }
@@ -53,8 +54,8 @@ fn repeated<'s>(alloc: Global, names: &[&Spanned<String>]) -> Result<Vec<Error<'
     Ok(errors)
 }
 
-/// Appends the error of a name that occurs at `span` and, before that, at `before`. Appends nothing if `before` is
-/// `None`. Fails if an allocation fails.
+/// Appends the error of a name that occurs at `before` and again at `span` to `errors`. Appends nothing if `before` is
+/// `None`.
 fn push_repeated<'s>(
     alloc: Global,
     name: &str,
@@ -71,7 +72,7 @@ fn push_repeated<'s>(
     Ok(())
 }
 
-/// Returns the error of a name that occurs at `span` and, before that, at `before`. Fails if an allocation fails.
+/// Returns the error of a name that occurs at `before` and again at `span`.
 fn repeated_name<'s>(
     alloc: Global,
     name: &str,

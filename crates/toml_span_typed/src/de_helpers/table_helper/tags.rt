@@ -19,12 +19,13 @@ use toml_span_lex::stop::Stop;
 use toml_span_tree::{Error, ErrorKind, Table, Value, ValueInner};
 
 impl<'de> TableHelper<'de> {
-    /// Reads the field of this name, whose string must be one of `tags`, and returns that tag: records the name, and
-    /// moves its entry out of the table.
+    /// Reads the field of this name, which must be a string that equals one of `tags`. Returns this tag. Records the
+    /// name, and moves its entry out of the table.
     ///
     /// Returns `None`, and keeps an error, in three cases: `MissingField` at the table's span if there is no entry;
-    /// `Wanted` at the value's span if it is not a string; and `UnexpectedValue` at the value's span if the string is
-    /// not one of the tags. If an allocation fails, no error is kept, but the name may be recorded and its entry gone.
+    /// `Wanted` at the value's span if the value is not a string; and `UnexpectedValue` at the value's span if the
+    /// string is not one of the tags. If an allocation fails, no error is kept, but the name may be recorded and its
+    /// entry gone.
     pub fn read_tag(
         &mut self,
         name: &'de str,
@@ -44,7 +45,7 @@ impl<'de> TableHelper<'de> {
         self.keep_tag(tag)
     }
 
-    /// Returns the tag, or keeps the error and returns `None`. Fails if an allocation fails.
+    /// Returns the tag. If `tag` is an error, keeps the error, and returns `None`.
     fn keep_tag(
         &mut self,
         tag: Result<&'de str, Error<'de>>,
@@ -103,8 +104,8 @@ impl<'de> TableHelper<'de> {
 /// case.
 ///
 /// Fails with `Wanted` if the value is not a string, and with `UnexpectedValue`, which lists the names, if the string
-/// is not one of them. Both errors are at the value's span. Only the second needs an allocation; if that fails, the
-/// call fails with `Stop::Memory`.
+/// is not one of them. Both errors are at the value's span. Only `UnexpectedValue` needs an allocation. Fails with
+/// `Stop::Memory` if this allocation fails.
 pub fn name_of<'de>(
     alloc: Global,
     value: &mut Value<'de>,
@@ -120,8 +121,8 @@ pub fn name_of<'de>(
     }
 }
 
-/// Returns the tag that equals the value's string. As `Ok(Err(..))`, returns the error `Wanted` if the value is not a
-/// string, or `UnexpectedValue` if no tag equals it. Takes the value in every case. Fails if an allocation fails.
+/// Returns the tag that equals the value's string. The inner error is `Wanted` if the value is not a string, and
+/// `UnexpectedValue` if no tag equals the string. Takes the value in every case.
 fn tag_of<'de>(
     alloc: Global,
     value: &mut Value<'de>,
@@ -147,7 +148,7 @@ fn tag_of<'de>(
     Ok(Err(Error::from((kind, span))))
 }
 
-/// Returns the first of the tags that equals the text, or `None` if there is none.
+/// Returns the first tag that equals the text, or `None` if no tag does.
 fn tag_among<'t>(text: &str, tags: &'t [&'t str]) -> Option<&'t str>
     ensures { option_map (λ tag. tag.now) result ≡ among text.now (map (λ t. t.now) tags.now) }
 {
