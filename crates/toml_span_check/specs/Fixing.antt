@@ -1,5 +1,5 @@
 -- The safe replacements of errors.
-use Rattle.std.specs.Prelude.{◌≡◌, ◌<◌, ◌≤◌, ◌⊎◌, ℕ, ◌+◌, Bool, true, false, List, [], ◌∷◌, map, length}
+use Rattle.std.specs.Prelude.{◌≡◌, ◌<◌, ◌≤◌, ◌⊎◌, ℕ, ◌+◌, ◌-◌, Bool, true, false, List, [], ◌∷◌, map, length}
 use Rattle.std.specs.Prelude.{Option, Some, None}
 use Rattle.std.specs.List.{list_all}
 use Rattle.toml_span_lex.specs.declared.stop.Stop.TheVariants as stops
@@ -29,27 +29,32 @@ abbrev pub reach : List Repair → ℕ
 reach [] = 0
 reach (first ∷ more) = first.span.start + length first.text
 
--- whether a source is valid, or its first error is at or after an offset
-abbrev pub Improves : List ℕ → ℕ → Bool → Type 0
-Improves text at true =
+-- whether a source is valid, or its first error is at or after an offset, with fewer than `left` bytes from there on
+unfoldable pub Improves : List ℕ → ℕ → ℕ → Bool → Type 0
+Improves text at left true =
     ((root : Value) × IsTree text depth_limit root)
-    ⊎ ((error : Error) × IsRefusal text depth_limit (stops.Fault error) × (at ≤ error.span.start))
-Improves text at false = (error : Error) × IsRefusal text depth_limit (stops.Fault error) × (error.span.start < at)
+    ⊎ ((error : Error) × IsRefusal text depth_limit (stops.Fault error)
+    × ((at ≤ error.span.start) × (length text - error.span.start < left)))
+Improves text at left false =
+    (error : Error) × IsRefusal text depth_limit (stops.Fault error)
+    × ((error.span.start < at) ⊎ (left ≤ length text - error.span.start))
 
 -- The source with these replacements. `None` if the list is empty, if a replacement is not safe, if they don't fit the
--- source, or if the first error of the result is before the end of the first replacement.
-abbrev pub Repairs : List ℕ → List Repair → Option (List ℕ) → Type 0
-Repairs text repairs (Some new) =
+-- source, or if the first error of the result is before the end of the first replacement or has `left` bytes or more
+-- from there on.
+abbrev pub Repairs : List ℕ → List Repair → ℕ → Option (List ℕ) → Type 0
+Repairs text repairs left (Some new) =
     (is_safe repairs ≡ true) × (first_fault text 0 0 (edits repairs) ≡ None) × (new ≡ edited text 0 (edits repairs))
-    × Improves new (reach repairs) true
-Repairs text repairs None =
+    × Improves new (reach repairs) left true
+Repairs text repairs left None =
     (is_safe repairs ≡ false) ⊎ (¬ (first_fault text 0 0 (edits repairs) ≡ None))
-    ⊎ Improves (edited text 0 (edits repairs)) (reach repairs) false
+    ⊎ Improves (edited text 0 (edits repairs)) (reach repairs) left false
 
 -- the source with this error fixed by the replacements of its report, or `None` if they don't fix it (see `Repairs`)
 abbrev pub FixesError : List ℕ → ErrorContent → Option (List ℕ) → Type 0
 FixesError text error new =
-    (report : ReportContent) × ReportsError severity.Error text error report × Repairs text report.replacements new
+    (report : ReportContent) × ReportsError severity.Error text error report
+    × Repairs text report.replacements (length text - error.span.start) new
 
 -- the source with its first error fixed, or `None` if it is valid or its first error can't be fixed
 abbrev pub NextFix : List ℕ → Option (List ℕ) → Type 0

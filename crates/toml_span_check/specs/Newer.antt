@@ -75,7 +75,7 @@ with_older r text form = repaired r text form form.kind
 abbrev pub with_reason : ReportContent → Bool → ReportContent
 with_reason r is_default =
     if is_default
-    then with_note r (codes "checked as TOML 1.0, which pip reads; `--toml 1.1` checks as TOML 1.1")
+    then with_note r (codes "pip reads TOML 1.0; the option `--toml 1.1` (setting `toml`) allows TOML 1.1")
     else r
 
 -- the report on a newer form, without replacements and notes

@@ -26,32 +26,33 @@ use toml_span_report::Report;
 pub enum Form {
     /// As JSON.
     Plain,
-    /// As JSON, in which each scalar has its type, as in the suite `toml-test`.
+    /// As JSON in which each scalar has its type, as in the test suite `toml-test`.
     Tagged,
     /// As lines, one for each value, with spans.
     Items,
-    /// A string, float or date as its text, anything else as JSON.
+    /// A string, float, date or time as its text, anything else as JSON.
     Raw,
     /// As TOML on one line.
     Toml,
 }
 
-/// What to do with a file.
+/// The task for a file.
 #[derive(Clone, Copy, PartialEq, Eq)]
 pub enum Task {
-    /// Report the errors of the file, read as this version of TOML, and where it does not match the schema that the
-    /// chooser selects.
+    /// Report the errors of the file, read as this version of TOML, and violations of the schema that the chooser
+    /// selects.
     Check(Version, Chooser),
     /// Print the document, or a value in it, in this form.
     Show(Form),
 }
 
-/// How many errors a file has, and why its schema can't be used.
+/// The number of errors of a file, and the reason if its schema can't be used.
 #[derive(Drop)]
 pub(crate) struct Verdict {
     /// The number of errors. A complaint counts as one error.
     pub(crate) errors: usize,
-    /// Lines for standard error that say why the schema of the file can't be used. Otherwise empty.
+    /// Lines for standard error that say why the file's schema can't be used. Empty if nothing is wrong with the
+    /// schema.
     pub(crate) complaint: String,
 }
 
@@ -67,8 +68,7 @@ impl Verdict {
     }
 }
 
-/// Returns the text of a report that marks no place in the file. `name` is the name of the file. Fails if an allocation
-/// fails.
+/// Returns the text of an error report that marks no place in the file `name`.
 fn plain_fault(
     alloc: Global,
     format: Format,
@@ -82,8 +82,7 @@ fn plain_fault(
     Ok(fault_text(alloc, format, &report, name, "")?.into_bytes())
 }
 
-/// Appends the text of each report in this format. `name` is the name of the file, `text` the source. Fails if an
-/// allocation fails.
+/// Appends the text of each report in this format. `text` is the source of the file `name`.
 fn push_reports(
     alloc: Global,
     out: &mut String,
@@ -102,8 +101,8 @@ fn push_reports(
     Ok(())
 }
 
-/// Returns the number of errors of a source, and the text of their reports. `error` is the error that `parse` returns
-/// for the source. Fails if an allocation fails.
+/// Returns the number and the text of the reports on errors of the source `text`, as `every::check` makes them. `error`
+/// is the error that `parse` returns for `text`.
 fn errors_text(
     alloc: Global,
     format: Format,
@@ -120,9 +119,8 @@ fn errors_text(
     Ok((reports.len(), out.into_bytes()))
 }
 
-/// Returns the verdict on a source that `parse` accepts, and the text of its reports: one report for each use of syntax
-/// that this version of TOML lacks, and the reports of the schema check. `root` is the tree of the source. Fails if an
-/// allocation fails.
+/// Returns the verdict on the source `text`, whose tree is `root`, and the text of its reports: first on syntax that
+/// this version of TOML lacks, then those of `schemas`.
 fn document_text<S: Schemas>(
     alloc: Global,
     format: Format,
@@ -157,8 +155,7 @@ fn document_text<S: Schemas>(
     Ok((verdict, out.into_bytes()))
 }
 
-/// Returns the text of the report that the path `pointer` names no value. `name` is the name of the file. Fails if an
-/// allocation fails.
+/// Returns the text of the report that the path `pointer` names no value in the file `name`.
 pub(crate) fn nothing_there(
     alloc: Global,
     format: Format,
@@ -173,7 +170,7 @@ pub(crate) fn nothing_there(
     plain_fault(alloc, format, "nothing-there", message.as_str(), name)
 }
 
-/// Returns the text of the report that the file `name` is longer than `BOUND`. Fails if an allocation fails.
+/// Returns the text of the report that the file `name` is longer than 16 MiB.
 fn too_long(alloc: Global, format: Format, name: &str) -> Result<Vec<u8>, AllocError>
     ensures { IfOk result (λ out. (1, out.items, []) ≡ spec.too_long format name.now) }
 {
@@ -186,8 +183,8 @@ fn too_long(alloc: Global, format: Format, name: &str) -> Result<Vec<u8>, AllocE
     )
 }
 
-/// Returns the text of the report that the file `name` is not valid UTF-8. `at` is the offset of its first invalid
-/// byte. Fails if an allocation fails.
+/// Returns the text of the report that the file `name` is not valid UTF-8. `at` is the byte offset of the first invalid
+/// byte.
 fn not_utf8_fault(
     alloc: Global,
     format: Format,
@@ -204,15 +201,14 @@ fn not_utf8_fault(
 
 /// The result for one file.
 pub(crate) enum Judged<'t> {
-    /// The verdict and the text of the reports, if the file has errors or was only to be checked.
+    /// The verdict and the text of the reports, for a file that has errors or was only to be checked.
     Text(Verdict, Vec<u8>),
     /// A document to print in this form.
     Document(Form, Value<'t>),
 }
 
-/// Parses the text of a file. Returns the document if it is valid and `task` is to print it, otherwise the verdict and
-/// the text of the reports. `name` is the name of the file, and `schemas` finds its schema. Fails if an allocation
-/// fails.
+/// Parses the source `text` of the file `name`. Returns the document if the source is valid and `task` is to print it,
+/// otherwise the verdict and the text of the reports.
 fn judge_text<'t, S: Schemas>(
     alloc: Global,
     format: Format,
@@ -243,9 +239,8 @@ fn judge_text<'t, S: Schemas>(
     }
 }
 
-/// Checks the bytes of a file. Returns the document if it is valid and `task` is to print it, otherwise the verdict and
-/// the text of the reports. A file that is longer than `BOUND` or not valid UTF-8 has one error. `name` is the name of
-/// the file, and `schemas` finds its schema. Fails if an allocation fails.
+/// Parses the bytes of the file `name`. Returns the document if the file is valid and `task` is to print it, otherwise
+/// the verdict and the text of the reports. A file that is longer than `BOUND` or not valid UTF-8 has one error.
 pub(crate) fn judge<'t, S: Schemas>(
     alloc: Global,
     format: Format,

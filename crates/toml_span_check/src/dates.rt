@@ -1,4 +1,4 @@
-//! Dates and times in the form of the suite `toml-test`.
+//! Dates and times in the form of the test suite `toml-test`.
 ghost use Rattle.std.specs.Prelude.{◌≡◌, IfOk, string_bytes};
 ghost use Rattle.std.specs.List.{list_any};
 ghost use Rattle.toml_span_check.specs.Dates as spec;
@@ -12,7 +12,7 @@ fn begins_offset(byte: u8) -> bool
     matches!(byte, b'Z' | b'z' | b'+' | b'-')
 }
 
-/// Returns whether one of the bytes can begin a time offset.
+/// Returns whether any of the bytes can begin a time offset.
 fn has_offset(bytes: &[u8]) -> bool
     ensures { result ≡ list_any spec.begins_offset bytes.now }
 {
@@ -24,14 +24,14 @@ fn has_offset(bytes: &[u8]) -> bool
     false
 }
 
-/// Returns whether a date text is a time alone.
+/// Returns whether the text of a date is a time alone, such as `07:32:00`.
 fn is_time(bytes: &[u8]) -> bool
     ensures { result ≡ spec.is_time bytes.now }
 {
     bytes.get(2).copied() == Some(b':')
 }
 
-/// Returns the type of a date text, as `toml-test` names it.
+/// Returns the type of a date or time, as `toml-test` names it.
 pub(crate) fn date_type(date: &str) -> &'static str
     ensures { result.now ≡ spec.date_type date.now }
 {
@@ -50,7 +50,7 @@ pub(crate) fn date_type(date: &str) -> &'static str
     }
 }
 
-/// Returns whether a time has no seconds. Its minutes end at the offset `at`.
+/// Returns whether a time has no seconds. `at` is the byte offset after its minutes.
 fn lacks_seconds(bytes: &[u8], at: usize) -> bool
     ensures { result ≡ spec.lacks_seconds bytes.now at }
 {
@@ -60,7 +60,7 @@ fn lacks_seconds(bytes: &[u8], at: usize) -> bool
     }
 }
 
-/// Returns a date text, with seconds added if its time has none. Fails if an allocation fails.
+/// Returns the text of a date or time, with `:00` added if its time has no seconds.
 pub(crate) fn with_seconds(alloc: Global, date: &str) -> Result<String, AllocError>
     ensures { IfOk result (λ out. string_bytes out ≡ spec.with_seconds date.now) }
 {

@@ -15,7 +15,7 @@ use toml_span_lines::lines::write_lines;
 use toml_span_lines::sink::Sink;
 use toml_span_places::{path_segments, to_toml, value_at};
 
-/// Appends a text and a line feed. Fails if an allocation fails.
+/// Appends `text` and a line feed to `held`.
 fn push_line(mut text: String, held: &mut Vec<u8>) -> Result<(), AllocError>
     ensures { OnOk result (held.new.items ≡ held.old.items ++ (string_bytes text ++ codes "\n")) }
 {
@@ -24,7 +24,7 @@ fn push_line(mut text: String, held: &mut Vec<u8>) -> Result<(), AllocError>
     Ok(())
 }
 
-/// Prints a value in this form. The end of the output may stay in the buffer `held`. Fails if a write or an allocation
+/// Writes the bytes of `held`, and then a value in this form. The last bytes may stay in `held`. Fails if a write
 /// fails.
 fn write_value<W: Sink>(
     alloc: Global,
@@ -47,8 +47,7 @@ fn write_value<W: Sink>(
     write_held(writer, held)
 }
 
-/// Returns the value at a path, which begins at `root`, or `None` if the path names no value or can't be read. Fails if
-/// an allocation fails.
+/// Returns the value at `path` in the tree `root`, or `None` if the path names no value or can't be read.
 pub(crate) fn place_of<'v, 'de>(
     alloc: Global,
     path: &str,
@@ -63,9 +62,9 @@ pub(crate) fn place_of<'v, 'de>(
     }
 }
 
-/// Writes `place`, the value at the path `pointer` or, if it is `None`, the report that there is no value. The end of
-/// the output may stay in the buffer `held`. Returns the number of errors: 0 or 1. Fails if a write or an allocation
-/// fails.
+/// Writes the bytes of `held`, and then `place`, the value at the path `pointer`. If `place` is `None`, appends the
+/// report that `pointer` names no value to `held`. The last bytes may stay in `held`. Returns the number of errors, 0
+/// or 1. Fails if a write fails.
 pub(crate) fn show<W: Sink>(
     alloc: Global,
     format: Format,

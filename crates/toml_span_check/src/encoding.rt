@@ -21,14 +21,14 @@ enum Encoding {
     Latin1,
 }
 
-/// Returns the byte at an offset, or 0 past the end.
+/// Returns the byte at the offset `at`, or 0 past the end.
 fn byte_at(bytes: &[u8], at: usize) -> u8
     ensures { result ≡ slice_index bytes.now at }
 {
     if at < bytes.len() { bytes[at] } else { 0 }
 }
 
-/// Returns the encoding that a file seems to have. `at` is the offset of its first byte that is not valid UTF-8.
+/// Returns the encoding that a file seems to have. `at` is the byte offset of the first byte that is not valid UTF-8.
 fn encoding_of(bytes: &[u8], at: usize) -> Encoding
     ensures { result ≡ spec.encoding_of bytes.now at }
 {
@@ -44,7 +44,7 @@ fn encoding_of(bytes: &[u8], at: usize) -> Encoding
     }
 }
 
-/// Returns a text that says that a file seems to have this encoding.
+/// Returns a help text that says which encoding a file seems to have.
 fn look_of(encoding: Encoding) -> &'static str
     ensures { result.now ≡ spec.look_of encoding }
 {
@@ -56,7 +56,7 @@ fn look_of(encoding: Encoding) -> &'static str
     }
 }
 
-/// Returns how to convert a file that has this encoding.
+/// Returns a help text that says how to convert a file from this encoding to UTF-8.
 fn repair_of(encoding: Encoding) -> &'static str
     ensures { result.now ≡ spec.repair_of encoding }
 {
@@ -68,7 +68,7 @@ fn repair_of(encoding: Encoding) -> &'static str
     }
 }
 
-/// Appends a byte as `0xE9`. Fails if an allocation fails.
+/// Appends a byte in the form `0xE9`.
 fn push_byte(out: &mut String, byte: u8) -> Result<(), AllocError>
     ensures { OnOk result (string_bytes out.new ≡ string_bytes out.old ++ spec.byte_text byte) }
 {
@@ -77,8 +77,8 @@ fn push_byte(out: &mut String, byte: u8) -> Result<(), AllocError>
     out.push(hex_digit(byte % 16) as char)
 }
 
-/// Returns the message that a file is not valid UTF-8, with its first invalid byte, which is at the offset `at`. Fails
-/// if an allocation fails.
+/// Returns the message that a file is not valid UTF-8. `at` is the byte offset of the first invalid byte, which the
+/// message names. Fails if an allocation fails.
 #[tactic(auto, unfolding(crate::specs::Encoding::not_utf8_text))]
 pub fn not_utf8_text(alloc: Global, bytes: &[u8], at: usize) -> Result<String, AllocError>
     ensures { IfOk result (λ out. string_bytes out ≡ spec.not_utf8_text bytes.now at) }
@@ -90,8 +90,7 @@ pub fn not_utf8_text(alloc: Global, bytes: &[u8], at: usize) -> Result<String, A
     Ok(out)
 }
 
-/// Returns the report that a file is not valid UTF-8. `at` is the offset of its first invalid byte. Fails if an
-/// allocation fails.
+/// Returns the report that a file is not valid UTF-8. `at` is the byte offset of the first invalid byte.
 fn not_utf8_report(alloc: Global, bytes: &[u8], at: usize) -> Result<Report, AllocError>
     ensures { IfOk result (λ report. report_content report ≡ spec.not_utf8_report bytes.now at) }
 {
@@ -103,7 +102,7 @@ fn not_utf8_report(alloc: Global, bytes: &[u8], at: usize) -> Result<Report, All
         .help(repair_of(encoding))
 }
 
-/// Returns the bytes before the offset `end`, which are valid UTF-8.
+/// Returns the bytes before the offset `end` as text. They must be valid UTF-8.
 #[tactic(auto, using(crate::proofs::EncodingLemmas::front_within, crate::proofs::EncodingLemmas::front_is_utf8))]
 fn front_of(bytes: &[u8], end: usize) -> &str
     requires { IsValidUpTo bytes.now end }
@@ -115,8 +114,8 @@ fn front_of(bytes: &[u8], end: usize) -> &str
     }
 }
 
-/// Returns the report that a file is not valid UTF-8, and the text before its first invalid byte, which is at the
-/// offset `at`. Fails if an allocation fails.
+/// Returns the report that a file is not valid UTF-8, and the text before the first invalid byte. `at` is the byte
+/// offset of the first invalid byte. Fails if an allocation fails.
 pub fn not_utf8<'b>(
     alloc: Global,
     bytes: &'b [u8],

@@ -14,20 +14,20 @@ use toml_span::Error;
 use toml_span::de::parse;
 use toml_span_report::Report;
 
-/// The maximum number of errors to report.
+/// The maximum number of errors to look for.
 const MOST: usize = 100;
 
-/// The maximum product of the number of reports and the length of the text in bytes, since each report may require
-/// another parse of the text. The first report is always made.
+/// The maximum product of the number of errors to look for and the text's length in bytes. Each error may need another
+/// parse of the text.
 const WORK: usize = 134_217_728;
 
 /// The report of an error, and the statement that contains the error.
 #[derive(Drop)]
 struct ErrorAt {
     report: Report,
-    /// The start of the error's span.
+    /// The byte offset at which the error's span starts.
     place: usize,
-    /// Whether the error is a clash of two statements, each of which can be read.
+    /// Whether `statements::is_clash` is true for the error.
     is_clash: bool,
     statement: Statement,
 }
@@ -35,22 +35,22 @@ struct ErrorAt {
 /// The errors found so far.
 #[derive(Drop)]
 struct Found {
-    /// The text, with spaces in place of the statements that have errors.
+    /// The text, with spaces in place of the statements with errors.
     kept: String,
-    /// The starts of the errors' spans.
+    /// The byte offsets at which the errors' spans start.
     places: Vec<usize>,
     reports: Vec<Report>,
 }
 
-/// Returns the maximum number of errors to report for a text of `len` bytes: at least 1.
+/// Returns the maximum number of errors to look for in a text of `len` bytes: from 1 to `MOST`.
 fn most(len: usize) -> usize
     ensures { result ≡ spec.most len }
 {
     (WORK / len.max(1)).min(MOST).max(1)
 }
 
-/// Returns the text with spaces in place of the bytes from `from` to `to`. If these are not in order, or not at
-/// character boundaries, returns the text unchanged. Fails if an allocation fails.
+/// Returns the text with spaces in place of the bytes from `from` to `to`. Returns the text unchanged if `from` is
+/// greater than `to`, or if one of them is not a character boundary.
 fn blanked(alloc: Global, text: &str, from: usize, to: usize) -> Result<String, AllocError>
     ensures { IfOk result (λ out. IsBlanked text.now (string_bytes out)) }
 {
@@ -64,8 +64,8 @@ fn blanked(alloc: Global, text: &str, from: usize, to: usize) -> Result<String, 
     Ok(out)
 }
 
-/// Makes the report of an error, and finds the statement that contains the error. The search begins at the offset
-/// `from`, where a statement must begin. Fails if an allocation fails.
+/// Returns the report of an error, with the statement that contains the error. The search for the statement begins at
+/// the offset `from`, where a statement must begin.
 fn error_at(
     alloc: Global,
     text: &str,
@@ -83,9 +83,8 @@ fn error_at(
     })
 }
 
-/// Parses a text. Returns the report of its error, with the statement that contains the error, or `None` if there is no
-/// error. The search for the statement begins at the offset `from`, where a statement must begin. Fails if an
-/// allocation fails.
+/// Parses a text. Returns the report of its error, with the statement that contains the error, or `None` if the text
+/// has no error. The search for the statement begins at the offset `from`, where a statement must begin.
 fn next_error(alloc: Global, text: &str, from: usize) -> Result<Option<ErrorAt>, AllocError>
     ensures { IfOk result (Judges text.now) }
 {
@@ -99,8 +98,8 @@ fn next_error(alloc: Global, text: &str, from: usize) -> Result<Option<ErrorAt>,
     }
 }
 
-/// Adds a report of an error at the offset `place`, unless there is a report for this offset. In either case, adds
-/// `place` to the starts of the errors. Fails if an allocation fails.
+/// Adds `report`, unless an error was found at the offset `place` before. Adds `place` to `found.places` in either
+/// case.
 fn push_new(found: &mut Found, report: Report, place: usize) -> Result<(), AllocError>
     ensures { OnOk result (AddsReport (report_content report) place (progress found.old) (progress found.new)) }
 {
@@ -111,7 +110,7 @@ fn push_new(found: &mut Found, report: Report, place: usize) -> Result<(), Alloc
     Ok(())
 }
 
-/// Returns `found` with an error added, and with spaces in place of its statement. Fails if an allocation fails.
+/// Returns `found` with the error `next` added, and with spaces in place of the error's statement.
 fn with_error(alloc: Global, mut found: Found, next: ErrorAt) -> Result<Found, AllocError>
     ensures { IfOk result (λ more. Adds (report_content next.report) next.place (progress found)
         (progress more)) }
@@ -128,16 +127,16 @@ fn with_error(alloc: Global, mut found: Found, next: ErrorAt) -> Result<Found, A
     Ok(found)
 }
 
-/// Returns whether the maximum number of errors for a text of this length has been found.
+/// Returns whether `found` has the maximum number of errors for a text of `len` bytes.
 fn is_full(found: &Found, len: usize) -> bool
     ensures { result ≡ nat_le (spec.most len) (length found.now.places.items) }
 {
     most(len) <= found.places.len()
 }
 
-/// Returns `found` with the faults of the text at or after the offset `from`, where a statement must begin. After each
-/// fault, reading continues at the next statement. Stops at a clash, or when the maximum number of errors has been
-/// found. Fails if an allocation fails.
+/// Returns `found` with the errors at or after the offset `from`, where a statement must begin. After each error,
+/// reading continues at the next statement. Stops before an error for which `is_clash` is true, and at the maximum
+/// number of errors.
 fn with_faults(
     alloc: Global,
     mut found: Found,
@@ -163,7 +162,7 @@ fn with_faults(
     Ok(found)
 }
 
-/// Returns the reports and one more report, which says that there are more errors. Fails if an allocation fails.
+/// Returns the reports, with one more at the end that says that there are more errors.
 fn with_too_many(alloc: Global, mut reports: Vec<Report>) -> Result<Vec<Report>, AllocError>
     ensures { IfOk result (λ more. map report_content more.items
         ≡ map report_content reports.items ++ spec.too_many ∷ []) }
@@ -173,8 +172,8 @@ fn with_too_many(alloc: Global, mut reports: Vec<Report>) -> Result<Vec<Report>,
     Ok(reports)
 }
 
-/// Returns the reports of `found`, and the reports of the clashes between the statements that are left. If there are
-/// more errors than the maximum, the last report says so. Fails if an allocation fails.
+/// Returns the reports of `found`, and those of the errors that remain in `found.kept`. If there are more errors than
+/// the maximum, the last report says so.
 fn with_clashes(alloc: Global, mut found: Found, text: &str) -> Result<Vec<Report>, AllocError>
     requires { Finds text.now (progress found) }
     ensures { IfOk result (λ reports. Checks text.now (map report_content reports.items)) }
@@ -191,8 +190,7 @@ fn with_clashes(alloc: Global, mut found: Found, text: &str) -> Result<Vec<Repor
     }
 }
 
-/// Returns the reports of all errors of a text. `error` is the error that `parse` returns for the text. Fails if an
-/// allocation fails.
+/// Returns the reports that `check` returns for a text. `error` is the error that `parse` returns for the text.
 pub(crate) fn errors_from(
     alloc: Global,
     text: &str,
@@ -213,17 +211,18 @@ pub(crate) fn errors_from(
     with_clashes(alloc, found, text)
 }
 
-/// Returns the reports of all errors of a text. There are none if and only if `parse` returns a tree; otherwise the
+/// Returns the reports of all errors of a text. The list is empty if and only if `parse` returns a tree. Otherwise the
 /// first report is about the error that `parse` returns.
 ///
 /// After a statement that can't be read, reading continues at the next statement. If the unreadable statement is not
-/// closed, the next one is on the next line that begins a statement and is not indented further. Then the function
-/// replaces the statements with errors with spaces, and parses the others together. If two statements clash, the later
-/// one is reported and replaced with spaces, a header together with its section, until the rest is valid.
+/// closed, reading continues at the first header, or key and `=`, that is on a later line and not indented further.
+/// Only the first side of a merge conflict is read. Then the statements with errors are replaced with spaces, and the
+/// rest is parsed as a whole. If two keys or headers clash, the later one is reported, and its statement is replaced
+/// with spaces as well, a header together with its section. This is repeated until the rest is valid.
 ///
-/// No offset is reported twice. At most 100 errors are looked for, and fewer in a text of more than 1.28 MiB: 128 MiB
-/// divided by its length, but at least one. If there are more, the last report has the code `too-many-errors`. Fails
-/// only if an allocation fails.
+/// No offset is reported twice. At most 100 errors are looked for. In a text of more than 1.28 MiB, the number is
+/// lower: 128 MiB divided by the length of the text, but at least one. If there are more errors, the last report has
+/// the code `too-many-errors`. Fails if an allocation fails.
 pub fn check(alloc: Global, text: &str) -> Result<Vec<Report>, AllocError>
     ensures { IfOk result (λ reports. Checks text.now (map report_content reports.items)) }
 {

@@ -23,8 +23,7 @@ pub enum Format {
     Sarif,
 }
 
-/// Returns a report with source lines and marks, and a blank line after it. `name` is the name of the file, `text` the
-/// source. Fails if an allocation fails.
+/// Returns a report with source lines and marks, and a blank line at the end. `text` is the source of the file `name`.
 fn marked_text(
     alloc: Global,
     style: Style,
@@ -40,8 +39,8 @@ fn marked_text(
     Ok(out)
 }
 
-/// Returns a report in this format. `name` is the name of the file, `text` the source. In SARIF, the report is a result
-/// after a comma. Fails if an allocation fails.
+/// Returns a report in this format. `text` is the source of the file `name`. In SARIF, the report is a comma, a line
+/// feed and a `result` object.
 pub(crate) fn fault_text(
     alloc: Global,
     format: Format,

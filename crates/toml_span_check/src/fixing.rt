@@ -1,4 +1,4 @@
-//! Applies the safe replacements of errors.
+//! Fixes errors with the safe replacements of their reports.
 ghost use Rattle.std.specs.Prelude.{◌≡◌, ◌+◌, IfOk, map, option_map, string_bytes};
 ghost use Rattle.toml_span_tree.specs.Error.{content_of};
 ghost use Rattle.toml_span_places.specs.Replace.{edit_of};
@@ -12,18 +12,18 @@ use toml_span::{Error, Stop};
 use toml_span_places::{Replacement, replace_all};
 use toml_span_report::{Replacement as Repair, Report};
 
-/// The maximum number of errors to fix in a file.
+/// The maximum number of errors to fix in a source.
 const MOST: usize = 100;
 
-/// A source after its errors have been fixed.
+/// A source with fixes, or with replacements of newer syntax, and their number.
 #[derive(Drop)]
 pub struct Fixed {
     pub text: String,
-    /// The number of errors that were fixed.
+    /// The number of errors fixed or, from `with_older_forms`, the number of replacements.
     pub count: usize,
 }
 
-/// Returns whether each of the replacements is safe.
+/// Returns whether all the replacements are safe.
 fn all_safe(repairs: &[Repair]) -> bool
     ensures { result ≡ spec.all_safe (map repair_of repairs.now) }
 {
@@ -35,7 +35,7 @@ fn all_safe(repairs: &[Repair]) -> bool
     true
 }
 
-/// Returns whether there are replacements, and all of them are safe.
+/// Returns whether there are replacements and all of them are safe.
 fn is_safe(repairs: &[Repair]) -> bool
     ensures { result ≡ spec.is_safe (map repair_of repairs.now) }
 {
@@ -45,7 +45,7 @@ fn is_safe(repairs: &[Repair]) -> bool
     }
 }
 
-/// Returns the start of the first replacement in the list, and the length of its new text; two zeros if the list is
+/// Returns the start of the first replacement and the length of its new text, in bytes. Returns zeros if the list is
 /// empty.
 fn first_place(repairs: &[Repair]) -> (usize, usize)
     ensures { result.0 + result.1 ≡ spec.reach (map repair_of repairs.now) }
@@ -56,7 +56,7 @@ fn first_place(repairs: &[Repair]) -> (usize, usize)
     }
 }
 
-/// Converts the replacements, for `replace_all`. Fails if an allocation fails.
+/// Converts the replacements of a report to those that `replace_all` takes.
 fn edits_of<'r>(alloc: Global, repairs: &'r [Repair]) -> Result<Vec<Replacement<'r>>, AllocError>
     ensures { IfOk result (λ edits. map edit_of edits.items ≡ spec.edits (map repair_of repairs.now)) }
 {
@@ -70,10 +70,17 @@ fn edits_of<'r>(alloc: Global, repairs: &'r [Repair]) -> Result<Vec<Replacement<
     Ok(edits)
 }
 
-/// Returns whether a source has no error, or its first error starts at or after `from + length`. Fails if an allocation
-/// fails.
-fn improves(alloc: Global, text: &str, from: usize, length: usize) -> Result<bool, AllocError>
-    ensures { IfOk result (Improves text.now (from + length)) }
+/// Returns whether a source has no error, or its first error starts at or after `from + length` and fewer than `left`
+/// bytes before the end of the source.
+#[tactic(auto, unfolding(crate::specs::Fixing::Improves))]
+fn improves(
+    alloc: Global,
+    text: &str,
+    from: usize,
+    length: usize,
+    left: usize,
+) -> Result<bool, AllocError>
+    ensures { IfOk result (Improves text.now (from + length) left) }
 {
     match parse(alloc, text) {
         Ok(_) => Ok(true),
@@ -81,16 +88,23 @@ fn improves(alloc: Global, text: &str, from: usize, length: usize) -> Result<boo
             let error = stop.fault()?;
             let start = error.span.start;
             drop(error);
-            Ok(from <= start && length <= start - from)
+            let is_further = text.len().saturating_sub(start) < left;
+            Ok(from <= start && length <= start - from && is_further)
         }
     }
 }
 
-/// Returns the source with the replacements of a report. Returns `None` if the report has no replacements, if a
-/// replacement is not safe or does not fit the source, or if the first error of the result starts before the end of the
-/// first replacement. Fails if an allocation fails.
-fn repaired(alloc: Global, text: &str, report: &Report) -> Result<Option<String>, AllocError>
-    ensures { IfOk result (λ new. spec.Repairs text.now (map repair_of report.now.replacements.items)
+/// Makes the replacements of `report`, and returns the new source. Returns `None` if `report` has no replacements, or
+/// if one of them is not safe or does not fit the source. Returns `None` also if the first error of the new source
+/// starts before the end of the text that the first replacement inserted, or at least `left` bytes before the end of the
+/// source.
+fn repaired(
+    alloc: Global,
+    text: &str,
+    report: &Report,
+    left: usize,
+) -> Result<Option<String>, AllocError>
+    ensures { IfOk result (λ new. spec.Repairs text.now (map repair_of report.now.replacements.items) left
         (option_map string_bytes new)) }
 {
     let repairs = report.replacements.as_slice();
@@ -104,14 +118,14 @@ fn repaired(alloc: Global, text: &str, report: &Report) -> Result<Option<String>
         Err(Stop::Memory(error)) => return Err(error),
     };
     let (from, length) = first_place(repairs);
-    if improves(alloc, new.as_str(), from, length)? {
+    if improves(alloc, new.as_str(), from, length, left)? {
         Ok(Some(new))
     } else {
         Ok(None)
     }
 }
 
-/// Returns the source with this error fixed, or `None` if that is not possible. Fails if an allocation fails.
+/// Returns the source with this error fixed, or `None` if the error can't be fixed.
 fn with_error_fixed(
     alloc: Global,
     text: &str,
@@ -120,12 +134,13 @@ fn with_error_fixed(
     ensures { IfOk result (λ new. FixesError text.now (content_of error.now) (option_map string_bytes new)) }
 {
     let report = Report::from_error(alloc, error, text)?;
-    let new = repaired(alloc, text, &report)?;
+    let left = text.len().saturating_sub(error.span.start);
+    let new = repaired(alloc, text, &report, left)?;
     Ok(new)
 }
 
-/// Returns the source with its first error fixed, or `None` if it has no error or the first one can't be fixed. Fails
-/// if an allocation fails.
+/// Returns the source with its first error fixed. Returns `None` if the source has no error, or if the first one can't
+/// be fixed.
 fn next_fix(alloc: Global, text: &str) -> Result<Option<String>, AllocError>
     ensures { IfOk result (λ new. NextFix text.now (option_map string_bytes new)) }
 {
@@ -139,11 +154,12 @@ fn next_fix(alloc: Global, text: &str) -> Result<Option<String>, AllocError>
     }
 }
 
-/// Fixes errors of a source, one after the other, and returns the result with the number of fixes.
+/// Fixes errors of a source, one after the other. Returns the new source with the number of fixes.
 ///
-/// An error is fixed if its report has replacements, all of them are safe, and the first error of the result starts at
-/// or after the end of the first replacement. Stops at the first error that can't be fixed, or after 100 fixes. Each
-/// fix takes time linear in the length of the source. Fails only if an allocation fails.
+/// An error is fixed if its report has replacements, and all of them are safe. The first error of the new source must
+/// then start after the text that the first replacement inserts, and nearer to the end of the source than the old error.
+/// Stops at the first error that can't be fixed, or after 100 fixes. Each fix takes time linear in the length of the
+/// source. Fails if an allocation fails.
 pub fn with_fixes(alloc: Global, text: &str) -> Result<Fixed, AllocError>
     ensures { IfOk result (λ made. Fixes text.now made.count (string_bytes made.text)) }
 {

@@ -14,16 +14,16 @@ use std::{fs, io};
 use toml_span_lines::run::{Cut, read_bytes};
 use toml_span_lines::tracked::Tracked;
 
-/// The name of files that list what to ignore.
+/// The name of files with patterns of files to ignore.
 const IGNORE: &str = ".gitignore";
 
 /// The patterns of a `.gitignore` file.
 #[derive(Drop)]
 struct Ignore {
     patterns: Vec<Pattern>,
-    /// The length of the path of its directory, including the slash after it.
+    /// The length in bytes of the directory's path, including the slash after it.
     length: usize,
-    /// The position in `Below::ignores` of the `.gitignore` file in the nearest directory above, if there is one.
+    /// The position in `Below::ignores` of the next `.gitignore` file in a directory above, if there is one.
     above: Option<usize>,
 }
 
@@ -31,11 +31,12 @@ struct Ignore {
 #[derive(Drop)]
 struct Folder {
     path: String,
-    /// The position in `Below::ignores` of the nearest `.gitignore` file above the directory, if there is one.
+    /// The position in `Below::ignores` of the nearest `.gitignore` file in a directory above, if there is one.
     ignore: Option<usize>,
 }
 
-/// A search for files below a directory: what has been found so far, and the patterns of files to leave out.
+/// A search for files below a directory: the files found, the directories left to search, and patterns of files to
+/// leave out.
 #[derive(Drop)]
 struct Below {
     files: Vec<String>,
@@ -45,8 +46,8 @@ struct Below {
     excludes: Vec<Pattern>,
 }
 
-/// Returns `true` if there is a directory, or a link to one, at this path, and `false` otherwise, also if the system
-/// reports an error.
+/// Returns whether there is a directory, or a link to one, at the path `name`. Returns `false` if the system reports an
+/// error.
 pub fn is_folder(rt: &HostRuntime, name: &str) -> bool {
     match fs::metadata(rt, name) {
         Ok(found) => found.is_dir(),
@@ -54,8 +55,7 @@ pub fn is_folder(rt: &HostRuntime, name: &str) -> bool {
     }
 }
 
-/// Returns `false` if there is something other than a file, or a link to one, at this path, and `true` otherwise, even
-/// if the system reports an error.
+/// Returns whether there is a file, or a link to one, at `path`. Returns `true` if the system reports an error.
 fn may_be_file(rt: &HostRuntime, path: &str) -> bool {
     match fs::metadata(rt, path) {
         Ok(found) => found.is_file(),
@@ -68,8 +68,8 @@ fn is_dots(name: &[u8]) -> bool {
     name == b".".as_slice() || name == b"..".as_slice()
 }
 
-/// Returns the names in a directory, except `.` and `..`. Fails if it can't be listed, and with the kind `OutOfMemory`
-/// if an allocation fails.
+/// Returns the names in a directory, except `.` and `..`. Fails if the directory can't be listed. If an allocation
+/// fails, the error has the kind `OutOfMemory`.
 fn names_in(rt: &HostRuntime, folder: &str) -> io::Result<Vec<Vec<u8>>> {
     let mut path = String::from_str(rt.alloc(), folder)?;
     path.push('/')?;
@@ -84,7 +84,7 @@ fn names_in(rt: &HostRuntime, folder: &str) -> io::Result<Vec<Vec<u8>>> {
     Ok(names)
 }
 
-/// Returns the path of the file called `name` in a directory. Fails if an allocation fails.
+/// Returns the path of the file `name` in the directory `folder`. `word_text` converts the name.
 fn path_of(alloc: Global, folder: &str, name: &[u8]) -> Result<String, AllocError>
     ensures { IfOk result (λ path. string_bytes path ≡ spec.path_of folder.now name.now) }
 {
@@ -96,8 +96,8 @@ fn path_of(alloc: Global, folder: &str, name: &[u8]) -> Result<String, AllocErro
     Ok(path)
 }
 
-/// Returns the text of a file, or an empty string if it can't be read or is not valid UTF-8. Fails if an allocation
-/// fails.
+/// Returns the text of a file, up to `BOUND + 1` bytes. Returns an empty string if the file can't be read or is not
+/// valid UTF-8.
 fn text_of(rt: &HostRuntime, alloc: Global, path: &str) -> Result<String, AllocError> {
     let Ok(file) = File::open(rt, path) else {
         return Ok(String::new(alloc));
@@ -112,7 +112,7 @@ fn text_of(rt: &HostRuntime, alloc: Global, path: &str) -> Result<String, AllocE
     }
 }
 
-/// Returns the last part of a path.
+/// Returns the part of a path after the last slash.
 fn last_name(path: &str) -> &str {
     match path.rsplit_once('/') {
         Some((_, name)) => name,
@@ -120,8 +120,8 @@ fn last_name(path: &str) -> &str {
     }
 }
 
-/// Returns whether directories of this name are searched only if they are arguments themselves: hidden directories,
-/// `target` and `node_modules`.
+/// Returns whether a search leaves out directories of this name: `target`, `node_modules`, and names that begin with
+/// `.`.
 fn is_passed_over(name: &str) -> bool
     ensures { result ≡ spec.is_passed_over name.now }
 {
@@ -129,8 +129,8 @@ fn is_passed_over(name: &str) -> bool
 }
 
 impl Below {
-    /// Returns whether `.gitignore` files ignore a path. `ignore` is the position in `ignores` of the nearest such
-    /// file. The nearest one with a pattern that matches the path decides. Fails if an allocation fails.
+    /// Returns whether `.gitignore` files ignore `path`. `ignore` is the position in `ignores` of the nearest such
+    /// file, if there is one. The nearest file with a pattern that matches `path` decides.
     fn is_ignored(
         &self,
         alloc: Global,
@@ -156,9 +156,8 @@ impl Below {
         Ok(false)
     }
 
-    /// Returns whether to leave a path out, because of its name, a pattern of `--exclude` or a `.gitignore` file.
-    /// `ignore` is the position in `ignores` of the nearest `.gitignore` file, if there is one. Fails if an allocation
-    /// fails.
+    /// Returns whether to leave out `path`, because of its name, a pattern of `--exclude` or a `.gitignore` file.
+    /// `ignore` is the position in `ignores` of the nearest `.gitignore` file, if there is one.
     fn is_left_out(
         &self,
         alloc: Global,
@@ -177,8 +176,8 @@ impl Below {
         self.is_ignored(alloc, path, is_directory, ignore)
     }
 
-    /// Adds a directory to those to search, unless it is left out. `ignore` is the position in `ignores` of the nearest
-    /// `.gitignore` file, if there is one. Fails if an allocation fails.
+    /// Adds the directory `path` to the directories to search, unless `is_left_out` says otherwise. `ignore` is the
+    /// position in `ignores` of the nearest `.gitignore` file, if there is one.
     fn push_folder(
         &mut self,
         alloc: Global,
@@ -191,9 +190,8 @@ impl Below {
         Ok(())
     }
 
-    /// Adds the path of a file to those found. Ignores paths that don't end in `.toml`, that don't name a file, or that
-    /// are left out. `ignore` is the position in `ignores` of the nearest `.gitignore` file, if there is one. Fails if
-    /// an allocation fails.
+    /// Adds `path` to the files found if it ends in `.toml`, may be a file, and is not left out. `ignore` is the
+    /// position in `ignores` of the nearest `.gitignore` file, if there is one.
     fn push_file(
         &mut self,
         rt: &HostRuntime,
@@ -210,10 +208,9 @@ impl Below {
         Ok(())
     }
 
-    /// Adds a path to the search if it names a directory, or to the result if it names a file whose name ends in
-    /// `.toml`. A path that can't be examined is added too, so that an attempt to read it reports the reason; if it is
-    /// not valid UTF-8, its name must end in `.toml`. `ignore` is the position in `ignores` of the nearest `.gitignore`
-    /// file, if there is one. Fails if an allocation fails.
+    /// Adds `path` with `push_folder` or `push_file`. If the path can't be examined, adds it to the files found, so
+    /// that reading it reports why. Ignores a path that does not exist, and a path that can't be examined, is not valid
+    /// UTF-8 and does not end in `.toml`.
     fn push(
         &mut self,
         rt: &HostRuntime,
@@ -224,7 +221,7 @@ impl Below {
         match fs::symlink_metadata(rt, path.as_str()) {
             Ok(found) if found.is_dir() => self.push_folder(alloc, path, ignore),
             Ok(_) => self.push_file(rt, alloc, path, ignore),
-            // It has been removed in the meantime.
+            // The file has been removed in the meantime.
             Err(error) if error.kind() == ErrorKind::NotFound => Ok(()),
             Err(_) if is_bytes(path.as_str()) && !path.ends_with(".toml") => Ok(()),
             Err(_) => {
@@ -234,9 +231,8 @@ impl Below {
         }
     }
 
-    /// Reads the `.gitignore` file of a directory, if `names`, the names in the directory, include it. Returns the
-    /// position in `ignores` of the nearest such file, in the directory or above, if there is one. Fails if an
-    /// allocation fails.
+    /// Reads the `.gitignore` file of `folder`, if it is among `names`, the names in the directory. Returns the
+    /// position in `ignores` of the nearest `.gitignore` file, in the directory or above, if there is one.
     fn ignore_of(
         &mut self,
         rt: &HostRuntime,
@@ -261,8 +257,8 @@ impl Below {
         Ok(Some(at))
     }
 
-    /// Adds the files and directories in a directory. If it can't be listed, adds the directory itself, so that an
-    /// attempt to read it reports the reason. Fails if an allocation fails.
+    /// Adds the files and directories in `folder`. If the directory can't be listed, adds its path to the files found,
+    /// so that reading it reports why.
     fn look_into(
         &mut self,
         rt: &HostRuntime,
@@ -284,7 +280,7 @@ impl Below {
     }
 }
 
-/// Parses each text as a pattern, and drops those that can't be parsed. Fails if an allocation fails.
+/// Parses each text as a pattern. Leaves out texts that can't be parsed.
 fn patterns_of(alloc: Global, texts: &[&str]) -> Result<Vec<Pattern>, AllocError> {
     let mut patterns = Vec::new(alloc);
     for text in texts {
@@ -295,18 +291,19 @@ fn patterns_of(alloc: Global, texts: &[&str]) -> Result<Vec<Pattern>, AllocError
     Ok(patterns)
 }
 
-/// Returns the paths of the TOML files below a directory, in the order of their bytes. Does not follow links to
-/// directories.
+/// Returns the sorted paths of the TOML files below a directory. Does not follow links to directories. A directory that
+/// can't be listed is included, so that reading it reports why.
 ///
-/// Leaves out paths that match a pattern of `excludes` or of a `.gitignore` file in the directory or below, and
-/// directories that are hidden or named `target` or `node_modules`. Fails if an allocation fails.
+/// Leaves out paths that match a pattern of `excludes` or of a `.gitignore` file in the directory or below. Leaves out
+/// directories that are hidden or named `target` or `node_modules`.
 pub(crate) fn files_below(
     rt: &HostRuntime,
     alloc: Global,
     folder: &str,
     excludes: &[&str],
 ) -> Result<Vec<String>, AllocError>
-    ensures sorted { IfOk result (λ files. IsSorted (λ s t. slice_cmp nat_cmp (string_bytes s) (string_bytes t)) files.items) }
+    ensures sorted { IfOk result
+        (λ files. IsSorted (λ s t. slice_cmp nat_cmp (string_bytes s) (string_bytes t)) files.items) }
 {
     let path = String::from_str(alloc, folder)?;
     let mut below = Below {

@@ -11,7 +11,7 @@ use toml_span::{Label, Span};
 use toml_span_report::visible::push_visible;
 use toml_span_report::{Report, Severity, line_column};
 
-/// Returns the command for a severity.
+/// Returns the workflow command for a severity, such as `::error`.
 fn command_of(severity: Severity) -> &'static str
     ensures { result.now ≡ spec.command_of severity }
 {
@@ -22,7 +22,7 @@ fn command_of(severity: Severity) -> &'static str
     }
 }
 
-/// Appends a character of a message, escaped if necessary. Fails if an allocation fails.
+/// Appends a character of a message, escaped if a workflow command requires it.
 fn push_message_char(out: &mut String, c: char) -> Result<(), AllocError>
     ensures { OnOk result (string_bytes out.new ≡ string_bytes out.old ++ spec.message_char c) }
 {
@@ -34,7 +34,7 @@ fn push_message_char(out: &mut String, c: char) -> Result<(), AllocError>
     }
 }
 
-/// Appends a character of a property's value, escaped if necessary. Fails if an allocation fails.
+/// Appends a character of a property's value, escaped if a workflow command requires it.
 fn push_property_char(out: &mut String, c: char) -> Result<(), AllocError>
     ensures { OnOk result (string_bytes out.new ≡ string_bytes out.old ++ spec.property_char c) }
 {
@@ -45,7 +45,7 @@ fn push_property_char(out: &mut String, c: char) -> Result<(), AllocError>
     }
 }
 
-/// Returns a message with the escapes that a workflow command needs. Fails if an allocation fails.
+/// Returns a message with the escapes of a workflow command.
 fn escaped_message(alloc: Global, text: &str) -> Result<String, AllocError>
     ensures { IfOk result (λ out. string_bytes out ≡ spec.escaped_message text.now) }
 {
@@ -56,7 +56,7 @@ fn escaped_message(alloc: Global, text: &str) -> Result<String, AllocError>
     Ok(out)
 }
 
-/// Returns the value of a property with the escapes that a workflow command needs. Fails if an allocation fails.
+/// Returns the value of a property with the escapes of a workflow command.
 fn escaped_property(alloc: Global, text: &str) -> Result<String, AllocError>
     ensures { IfOk result (λ out. string_bytes out ≡ spec.escaped_property text.now) }
 {
@@ -67,7 +67,7 @@ fn escaped_property(alloc: Global, text: &str) -> Result<String, AllocError>
     Ok(out)
 }
 
-/// Appends a message, escaped. Fails if an allocation fails.
+/// Appends a message with the escapes of a workflow command and of `push_visible`.
 fn push_message(alloc: Global, out: &mut String, text: &str) -> Result<(), AllocError>
     ensures { OnOk result (string_bytes out.new ≡ string_bytes out.old ++ spec.message text.now) }
 {
@@ -75,7 +75,7 @@ fn push_message(alloc: Global, out: &mut String, text: &str) -> Result<(), Alloc
     push_visible(out, escaped.as_str())
 }
 
-/// Appends the value of a property, escaped. Fails if an allocation fails.
+/// Appends the value of a property with the escapes of a workflow command and of `push_visible`.
 fn push_property(alloc: Global, out: &mut String, text: &str) -> Result<(), AllocError>
     ensures { OnOk result (string_bytes out.new ≡ string_bytes out.old ++ spec.property text.now) }
 {
@@ -83,7 +83,7 @@ fn push_property(alloc: Global, out: &mut String, text: &str) -> Result<(), Allo
     push_visible(out, escaped.as_str())
 }
 
-/// Appends `title`, and then a number in decimal digits. Fails if an allocation fails.
+/// Appends `title` and then a number in decimal digits.
 pub(crate) fn push_number(out: &mut String, title: &str, number: usize) -> Result<(), AllocError>
     ensures { OnOk result (string_bytes out.new ≡ string_bytes out.old ++ title.now ++ decimal number) }
 {
@@ -91,8 +91,8 @@ pub(crate) fn push_number(out: &mut String, title: &str, number: usize) -> Resul
     write!(out, "{number}")
 }
 
-/// Returns where the mark of a span ends: at the end of the span or, if the span ends with a line feed, before it. If
-/// the end of the span is before its start, returns the start.
+/// Returns the end of a span or, if the span ends with a line feed, the offset of the line feed. The result is not less
+/// than the start of the span.
 fn marked_end(text: &str, span: Span) -> usize
     ensures { result ≡ spec.marked_end text.now span }
 {
@@ -104,8 +104,8 @@ fn marked_end(text: &str, span: Span) -> usize
     }
 }
 
-/// Appends the columns of a region if it is on one line. `start` and `end` are each a line and a column, counted from
-/// 1. Fails if an allocation fails.
+/// Appends the columns of a region, or nothing if the region has several lines. `start` and `end` are pairs of a line
+/// and a column, counted from 1.
 #[tactic(auto, unfolding(crate::specs::Github::columns))]
 fn push_columns(
     out: &mut String,
@@ -121,8 +121,8 @@ fn push_columns(
     push_number(out, ",endColumn=", end.1)
 }
 
-/// Appends the lines of a region and, if it is on one line, its columns. `start` and `end` are each a line and a
-/// column, counted from 1. Fails if an allocation fails.
+/// Appends the lines of a region and, if it has only one line, its columns. `start` and `end` are pairs of a line and a
+/// column, counted from 1.
 #[tactic(auto, unfolding(crate::specs::Github::lines))]
 fn push_lines(
     out: &mut String,
@@ -136,7 +136,7 @@ fn push_lines(
     push_columns(out, start, end)
 }
 
-/// Appends the lines and columns of a span in the source `text`. Fails if an allocation fails.
+/// Appends the lines and columns of a span in the source `text`.
 fn push_region(out: &mut String, text: &str, span: Span) -> Result<(), AllocError>
     ensures { OnOk result (string_bytes out.new ≡ string_bytes out.old ++ spec.region text.now span) }
 {
@@ -145,8 +145,7 @@ fn push_region(out: &mut String, text: &str, span: Span) -> Result<(), AllocErro
     push_lines(out, start, end)
 }
 
-/// Appends the lines and columns of the first primary label in the source `text`, if there is one. Fails if an
-/// allocation fails.
+/// Appends the lines and columns of the first primary label in the source `text`, or nothing if no label is primary.
 fn push_place(out: &mut String, text: &str, labels: &[Label<()>]) -> Result<(), AllocError>
     ensures { OnOk result (string_bytes out.new ≡ string_bytes out.old
         ++ spec.primary_region text.now (map label_content labels.now)) }
@@ -159,8 +158,7 @@ fn push_place(out: &mut String, text: &str, labels: &[Label<()>]) -> Result<(), 
     Ok(())
 }
 
-/// Returns a report as one command, with a line feed at the end. `name` is the name of the file, `text` the source.
-/// Fails if an allocation fails.
+/// Returns a report as one workflow command, with a line feed at the end. `text` is the source of the file `name`.
 pub(crate) fn github(
     alloc: Global,
     report: &Report,

@@ -15,11 +15,12 @@ use toml_span_lines::tracked::Tracked;
 
 /// A source of files: the file system, or a substitute in tests.
 pub trait Inputs {
-    /// The searches and reads so far, if they are known.
+    /// The searches and reads so far, if known.
     ghost log: { Self → Option Asked };
 
-    /// Returns the names of the files that an argument stands for: for a directory, the TOML files below it that match
-    /// no pattern of `excludes`, otherwise the argument itself. Fails if an allocation fails.
+    /// Returns the names of the files to read for the argument `name`. For a directory, these are the TOML files below
+    /// it that match no pattern of `excludes`. If no file is found, or `name` is not a directory, returns `name`
+    /// itself. Fails if an allocation fails.
     fn find(
         &mut self,
         alloc: Global,
@@ -29,14 +30,14 @@ pub trait Inputs {
         ensures { IfOk result (λ found. Finds (log self.old) (log self.new)
             (map (λ pattern. pattern.now) excludes.now, name.now, map (λ file. string_bytes file) found.items)) };
 
-    /// Returns the bytes of a file, or a message that says why it can't be read. If the file is longer than `BOUND`,
-    /// its first `BOUND + 1` bytes are enough. Fails if an allocation fails.
+    /// Returns the bytes of a file, or a message that says why the file can't be read. If the file is longer than 16
+    /// MiB (`BOUND`), its first `BOUND + 1` bytes are enough. Fails if an allocation fails.
     fn read(&mut self, alloc: Global, name: &str) -> Result<Result<Vec<u8>, String>, AllocError>
         ensures { IfOk result (λ r. Logs (log self.old) (log self.new) ((name.now, read_of r) ∷ [])) };
 }
 
-/// Returns a message that says why a file can't be read: the system's message, except for the most common reasons.
-/// Fails if an allocation fails.
+/// Returns a message that says why a file can't be read: a short one for common reasons, otherwise the system's
+/// message.
 fn reason(alloc: Global, error: &io::Error) -> Result<String, AllocError>
     ensures { IfOk result (λ words. IsReason (error_kind error.now) (string_bytes words)) }
 {
@@ -48,7 +49,7 @@ fn reason(alloc: Global, error: &io::Error) -> Result<String, AllocError>
     }
 }
 
-/// Returns the bytes of an open file, or a message that says why it can't be read. Fails if an allocation fails.
+/// Reads an open file. Returns its bytes, at most the first `BOUND + 1`, or a message that says why it can't be read.
 fn read_all<R: Source>(alloc: Global, reader: &mut R) -> Result<Result<Vec<u8>, String>, AllocError>
     requires { R.failed reader.old ≡ false }
     ensures { IfOk result (λ r. HasReadOrNot (R.remaining reader.old) (R.remaining reader.new) (read_of r)) }
@@ -60,7 +61,7 @@ fn read_all<R: Source>(alloc: Global, reader: &mut R) -> Result<Result<Vec<u8>, 
     }
 }
 
-/// The file system and standard input of the computer.
+/// The file system of the computer, and standard input as the file `-`.
 #[derive(Drop)]
 pub struct Host {
     pub rt: HostRuntime,

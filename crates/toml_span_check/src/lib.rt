@@ -18,6 +18,6 @@ pub mod run;
 mod sarif;
 pub mod schemas;
 mod shown;
-mod statements;
+pub mod statements;
 mod sums;
 pub mod words;

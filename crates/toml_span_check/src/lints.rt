@@ -23,12 +23,12 @@ const RESULTS: &str = r#"}},"columnKind":"unicodeCodePoints","results":["#;
 /// The SARIF document after the results.
 const TAIL: &str = "\n]}]}\n";
 
-/// Returns a report as a command for GitHub workflows, which annotates the lines of its first primary label: ``::error
-/// file=a.toml,line=2,endLine=2,col=1,endColumn=5,title=no-version::the package has no version``, with a line feed at
-/// the end.
+/// Returns a report as a command for GitHub workflows, with a line feed at the end. The command annotates the lines of
+/// the first primary label, if there is one. For example:
+/// `::error file=a.toml,line=2,endLine=2,col=1,endColumn=5,title=no-version::the package has no version`.
 ///
-/// `name` is the name of the file, `text` the source. Lines and columns are counted from 1, columns in characters.
-/// Fails only if an allocation fails.
+/// `text` is the source of the file `name`. Lines and columns are counted from 1, columns in characters. Fails if an
+/// allocation fails.
 pub fn github_line(
     alloc: Global,
     report: &Report,
@@ -41,8 +41,8 @@ pub fn github_line(
     github(alloc, report, name, text)
 }
 
-/// Returns a report as a SARIF result, after a comma and a line feed, for `sarif_document`. `name` is the name of the
-/// file, `text` the source. Fails only if an allocation fails.
+/// Returns a report as a SARIF result, after a comma and a line feed, for `sarif_document`. `text` is the source of the
+/// file `name`. Fails if an allocation fails.
 pub fn sarif_result(
     alloc: Global,
     report: &Report,
@@ -56,7 +56,7 @@ pub fn sarif_result(
 }
 
 /// Returns the SARIF document, version 2.1.0, of a run of the tool `tool`. `results` is the concatenation of the texts
-/// that `sarif_result` returned for the reports. Fails only if an allocation fails.
+/// that `sarif_result` returned for the reports. Fails if an allocation fails.
 #[tactic(auto, unfolding(crate::specs::Lints::sarif_document))]
 pub fn sarif_document(alloc: Global, tool: &str, results: &str) -> Result<String, AllocError>
     ensures { IfOk result (λ out. string_bytes out ≡ spec.sarif_document tool.now results.now) }
@@ -69,7 +69,7 @@ pub fn sarif_document(alloc: Global, tool: &str, results: &str) -> Result<String
     Ok(out)
 }
 
-/// Returns a text without the comma at its start, if it has one.
+/// Returns a text without a comma at its start.
 fn without_comma(text: &str) -> &str
     ensures { result.now ≡ spec.without_comma text.now }
 {

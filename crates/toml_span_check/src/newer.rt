@@ -1,4 +1,4 @@
-//! Checks documents as TOML 1.0: reports and replaces syntax that TOML 1.0 lacks, called newer forms.
+//! Checks documents as TOML 1.0: reports and replaces *newer forms*, which are syntax that TOML 1.0 lacks.
 ghost use Rattle.std.specs.Prelude.{◌≡◌, ◌++◌, IfOk, OnOk, map, string_bytes};
 ghost use Rattle.toml_span_places.specs.Replace.{edit_of};
 ghost use Rattle.toml_span_report.specs.Report.{repair_of, report_content};
@@ -17,7 +17,7 @@ use toml_span_report::{Replacement as Repair, Report};
 /// The version of TOML that documents are checked against.
 #[derive(Clone, Copy, PartialEq, Eq)]
 pub enum Version {
-    /// TOML 1.0 for files named `pyproject.toml`, which pip reads as TOML 1.0, otherwise TOML 1.1.
+    /// TOML 1.0 for files named `pyproject.toml`, which pip reads as TOML 1.0. TOML 1.1 for other files.
     Auto,
     /// TOML 1.0.
     Toml10,
@@ -34,7 +34,7 @@ fn is_pyproject(path: &str) -> bool
     path == "pyproject.toml" || end == b"/pyproject.toml".as_slice()
 }
 
-/// Returns whether to check a file of this name as TOML 1.0.
+/// Returns whether to check the file `name` as TOML 1.0. For `Version::Auto`, the name decides.
 pub(crate) fn is_older(version: Version, name: &str) -> bool
     ensures { result ≡ spec.is_older version name.now }
 {
@@ -78,7 +78,7 @@ fn help_of(kind: NewerKind) -> &'static str
     }
 }
 
-/// Returns `\u00` followed by the two digits before the byte offset `end`. Fails if an allocation fails.
+/// Returns `\u00` and the two digits before the byte offset `end`.
 fn four_digits(alloc: Global, text: &str, end: usize) -> Result<String, AllocError>
     ensures { IfOk result (λ out. string_bytes out ≡ spec.four_digits text.now end) }
 {
@@ -88,8 +88,7 @@ fn four_digits(alloc: Global, text: &str, end: usize) -> Result<String, AllocErr
     Ok(out)
 }
 
-/// Returns the report with a replacement of `form` that means the same in TOML 1.0, if there is one. Fails if an
-/// allocation fails.
+/// Adds a replacement of `form` that means the same in TOML 1.0, if there is one, and returns the report.
 fn with_older(
     alloc: Global,
     report: Report,
@@ -115,7 +114,7 @@ fn with_older(
     }
 }
 
-/// Returns the report on a newer form, without replacements and notes. Fails if an allocation fails.
+/// Returns the report on a newer form, without a replacement or note.
 fn plain_report(alloc: Global, form: NewerForm) -> Result<Report, AllocError>
     ensures { IfOk result (λ made. report_content made ≡ spec.plain_report form) }
 {
@@ -124,20 +123,18 @@ fn plain_report(alloc: Global, form: NewerForm) -> Result<Report, AllocError>
         .help(help_of(form.kind))
 }
 
-/// Returns the report, with a note on why the file is checked as TOML 1.0 if its name decided that (`is_default`).
-/// Fails if an allocation fails.
+/// Adds a note on why the file is checked as TOML 1.0, if `is_default`, and returns the report.
 fn with_reason(report: Report, is_default: bool) -> Result<Report, AllocError>
     ensures { IfOk result (λ made. report_content made ≡ spec.with_reason (report_content report) is_default) }
 {
     if is_default {
-        report.note("checked as TOML 1.0, which pip reads; `--toml 1.1` checks as TOML 1.1")
+        report.note("pip reads TOML 1.0; the option `--toml 1.1` (setting `toml`) allows TOML 1.1")
     } else {
         Ok(report)
     }
 }
 
-/// Returns the report on a newer form, with its replacement and note. `is_default` says whether the name of the file
-/// decided to check it as TOML 1.0. Fails if an allocation fails.
+/// Returns the report on a newer form. `is_default` says whether the file is checked as TOML 1.0 because of its name.
 fn newer_report(
     alloc: Global,
     text: &str,
@@ -151,8 +148,8 @@ fn newer_report(
     with_reason(repaired, is_default)
 }
 
-/// Returns the report on each newer form, with its replacement and note. `is_default` says whether the name of the file
-/// decided to check it as TOML 1.0. Fails if an allocation fails.
+/// Returns the report on each newer form. `is_default` says whether the file is checked as TOML 1.0 because of its
+/// name.
 fn reports_of(
     alloc: Global,
     text: &str,
@@ -169,10 +166,11 @@ fn reports_of(
     Ok(reports)
 }
 
-/// Returns a report for each place where a document uses syntax that TOML 1.0 lacks, in the order of the text. The list
-/// is empty if the text can't be read.
+/// Returns a report for each newer form in a document, in the order of the text. The list is empty if the text can't be
+/// read.
 ///
-/// `is_default` says whether the name of the file decided to check it as TOML 1.0. Fails only if an allocation fails.
+/// `is_default` says whether the file is checked as TOML 1.0 because of its name; the reports then say so. Fails if an
+/// allocation fails.
 pub fn newer_reports(alloc: Global, text: &str, is_default: bool) -> Result<Vec<Report>, AllocError>
     ensures { IfOk result (λ reports. spec.AreNewer text.now is_default (map report_content reports.items)) }
 {
@@ -185,8 +183,8 @@ pub fn newer_reports(alloc: Global, text: &str, is_default: bool) -> Result<Vec<
     reports_of(alloc, text, forms.as_slice(), is_default)
 }
 
-/// Returns a report for each place where a valid document uses syntax that this version lacks. `name` is the name of
-/// the file. Fails if an allocation fails.
+/// Returns a report for each place where the document `text` uses syntax that this version of TOML lacks. The list is
+/// empty if the text can't be read. `name` is the name of the file. Fails if an allocation fails.
 pub fn version_reports(
     alloc: Global,
     text: &str,
@@ -202,7 +200,7 @@ pub fn version_reports(
     }
 }
 
-/// Appends the replacements, converted for `replace_all`. Fails if an allocation fails.
+/// Appends the replacements, converted for `replace_all`, to `edits`.
 fn push_edits<'r>(repairs: &'r [Repair], edits: &mut Vec<Replacement<'r>>) -> Result<(), AllocError>
     ensures { OnOk result (map edit_of edits.new.items ≡ map edit_of edits.old.items
         ++ edits_of (map repair_of repairs.now)) }
@@ -216,7 +214,7 @@ fn push_edits<'r>(repairs: &'r [Repair], edits: &mut Vec<Replacement<'r>>) -> Re
     Ok(())
 }
 
-/// Returns the replacements of all reports, converted for `replace_all`. Fails if an allocation fails.
+/// Returns the replacements of all reports, converted for `replace_all`.
 fn all_edits<'r>(alloc: Global, reports: &'r [Report]) -> Result<Vec<Replacement<'r>>, AllocError>
     ensures { IfOk result (λ edits. map edit_of edits.items ≡ spec.all_edits (map report_content reports.now)) }
 {
@@ -227,9 +225,11 @@ fn all_edits<'r>(alloc: Global, reports: &'r [Report]) -> Result<Vec<Replacement
     Ok(edits)
 }
 
-/// Replaces syntax that this version of TOML lacks with syntax that means the same, and returns the new text with the
-/// number of replacements. Syntax without such a replacement stays. `name` is the name of the file. Takes time linear
-/// in the length of the text. Fails only if an allocation fails.
+/// Replaces syntax that this version of TOML lacks with syntax of the same meaning. Returns the new text with the
+/// number of replacements.
+///
+/// Syntax without such a replacement stays, and so does a text that can't be read. `name` is the name of the file.
+/// Takes time linear in the length of the text. Fails if an allocation fails.
 pub fn with_older_forms(
     alloc: Global,
     text: &str,

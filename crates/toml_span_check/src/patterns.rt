@@ -4,11 +4,11 @@ ghost use Rattle.toml_span_check.specs.Patterns as spec;
 
 use std::alloc::{AllocError, Global};
 
-/// The maximum number of steps to match a path. A pattern that would need more does not match.
+/// The maximum number of steps to match a path. A pattern that needs more does not match.
 const STEPS: usize = 100_000;
 
-/// Returns whether a pattern without slashes matches a name: `*` matches any bytes, `?` one byte, any other byte
-/// itself. Returns `None` when no `steps` are left.
+/// Returns whether a pattern without slashes matches a name. `*` matches any number of bytes, `?` one byte, and any
+/// other byte itself. Counts `steps` down, and returns `None` if no steps are left.
 fn name_matches(steps: &mut usize, pattern: &[u8], name: &[u8]) -> Option<bool>
     ensures value { IfSome result (λ found. found ≡ spec.name_matches pattern.now name.now) }
     ensures steps { steps.new ≤ steps.old }
@@ -32,8 +32,8 @@ fn name_matches(steps: &mut usize, pattern: &[u8], name: &[u8]) -> Option<bool>
     }
 }
 
-/// Returns whether a pattern matches a path, both split at their slashes: `**` matches any number of parts, any other
-/// part of the pattern one part of the path. Returns `None` when no `steps` are left.
+/// Returns whether a pattern matches a path, both given as their parts between slashes. `**` matches any number of
+/// parts, and any other part matches one part. Counts `steps` down, and returns `None` if no steps are left.
 fn path_matches(steps: &mut usize, pattern: &[String], path: &[&str]) -> Option<bool>
     ensures value { IfSome result (λ found. found
         ≡ spec.path_matches (map string_bytes pattern.now) (map (λ part. part.now) path.now)) }
@@ -66,15 +66,15 @@ fn path_matches(steps: &mut usize, pattern: &[String], path: &[&str]) -> Option<
 /// A pattern of `--exclude` or of a line of a `.gitignore` file.
 #[derive(Drop)]
 pub struct Pattern {
-    /// The parts between its slashes. If the pattern matches at any depth, the first one is `**`.
+    /// The parts between slashes. The first is `**` if the pattern matches at any depth.
     parts: Vec<String>,
-    /// Whether the pattern begins with `!`: what it matches is not left out.
+    /// Whether the pattern begins with `!`. Paths that match such a pattern are kept.
     is_negated: bool,
     /// Whether the pattern matches only directories.
     is_directory: bool,
 }
 
-/// Splits a path at its slashes. Fails if an allocation fails.
+/// Splits a path at its slashes.
 fn parts_of<'t>(alloc: Global, path: &'t str) -> Result<Vec<&'t str>, AllocError> {
     let mut parts = Vec::new(alloc);
     let mut rest = path;
@@ -91,7 +91,7 @@ fn parts_of<'t>(alloc: Global, path: &'t str) -> Result<Vec<&'t str>, AllocError
     Ok(parts)
 }
 
-/// Splits a pattern at its slashes, and puts `**` before it if it has no slash. Fails if an allocation fails.
+/// Splits a pattern at its slashes, without a slash at its start. Puts `**` first if the pattern has no slash.
 fn pattern_parts(alloc: Global, text: &str) -> Result<Vec<String>, AllocError> {
     let mut parts = Vec::new(alloc);
     if !text.contains('/') {
@@ -103,7 +103,7 @@ fn pattern_parts(alloc: Global, text: &str) -> Result<Vec<String>, AllocError> {
     Ok(parts)
 }
 
-/// Removes a `!` at the start of a text. Returns whether there was one, and the rest.
+/// Removes a `!` at the start of a text. Returns whether there was a `!`, and the rest.
 fn without_mark<'t>(text: &'t str) -> (bool, &'t str) {
     match text.strip_prefix('!') {
         Some(rest) => (true, rest),
@@ -111,7 +111,7 @@ fn without_mark<'t>(text: &'t str) -> (bool, &'t str) {
     }
 }
 
-/// Removes a slash at the end of a text. Returns whether there was one, and the rest.
+/// Removes a slash at the end of a text. Returns whether there was a slash, and the rest.
 fn without_slash<'t>(text: &'t str) -> (bool, &'t str) {
     match text.strip_suffix('/') {
         Some(front) => (true, front),
@@ -119,9 +119,11 @@ fn without_slash<'t>(text: &'t str) -> (bool, &'t str) {
     }
 }
 
-/// Parses a pattern. A `!` at its start negates the pattern, and a slash at its end makes it match only directories. If
-/// there is another slash, the pattern matches whole paths, otherwise names at any depth. Returns `None` if the rest is
-/// empty, or contains `[` or a backslash, which are not supported. Fails if an allocation fails.
+/// Parses a pattern. A `!` at the start negates the pattern. With a slash at the end, the pattern matches only
+/// directories. With any other slash, it matches whole paths, otherwise names at any depth.
+///
+/// Returns `None` if the rest is empty, or contains `[` or a backslash, which are not supported. Fails if an allocation
+/// fails.
 pub fn pattern_of(alloc: Global, text: &str) -> Result<Option<Pattern>, AllocError> {
     let (is_negated, text) = without_mark(text);
     let (is_directory, text) = without_slash(text);
@@ -135,7 +137,8 @@ pub fn pattern_of(alloc: Global, text: &str) -> Result<Option<Pattern>, AllocErr
     }))
 }
 
-/// Parses the lines of a `.gitignore` file, and returns their patterns in order. Fails if an allocation fails.
+/// Returns the patterns of the lines of a `.gitignore` file, in order. Leaves out comments, and lines that `pattern_of`
+/// can't parse.
 pub(crate) fn ignore_patterns(alloc: Global, text: &str) -> Result<Vec<Pattern>, AllocError> {
     let mut patterns = Vec::new(alloc);
     for line in text.lines() {
@@ -150,8 +153,8 @@ pub(crate) fn ignore_patterns(alloc: Global, text: &str) -> Result<Vec<Pattern>,
     Ok(patterns)
 }
 
-/// Returns whether a pattern matches a path, which is split at its slashes. `is_directory` says whether the path names
-/// a directory. Returns false if matching takes more than `STEPS` steps.
+/// Returns whether a pattern matches a path, given as its parts between slashes. `is_directory` says whether the path
+/// names a directory. Returns `false` if more than `STEPS` steps are needed.
 fn is_match(pattern: &Pattern, path: &[&str], is_directory: bool) -> bool {
     if pattern.is_directory && !is_directory {
         return false;
@@ -160,8 +163,11 @@ fn is_match(pattern: &Pattern, path: &[&str], is_directory: bool) -> bool {
     path_matches(&mut steps, pattern.parts.as_slice(), path).unwrap_or(false)
 }
 
-/// Returns what the last pattern that matches a path decides: `Some(true)` to leave it out, `Some(false)` to keep it.
-/// Returns `None` if none matches. The path is relative to the directory of the patterns. Fails if an allocation fails.
+/// Returns whether to leave out `path`, as the last pattern that matches it decides. Returns `None` if no pattern
+/// matches.
+///
+/// `path` is relative to the directory of the patterns. `is_directory` says whether `path` names a directory. Fails if
+/// an allocation fails.
 pub fn last_match(
     alloc: Global,
     patterns: &[Pattern],

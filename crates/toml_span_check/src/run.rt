@@ -30,20 +30,20 @@ struct Tally {
     errors: usize,
 }
 
-/// The output that has not been written yet, the exit status and the counts, for the files so far.
+/// The results for the files so far: output that has not been written yet, the exit status, and counts.
 #[derive(Drop)]
 struct Collected {
-    /// What remains to be written to standard output.
+    /// The bytes that remain to be written to standard output.
     held: Vec<u8>,
-    /// What to write to standard error: a line for each file that can't be read, complaints about schemas, and in the
-    /// end the line with the counts.
+    /// The text for standard error: a line for each file that can't be read, complaints about schemas, and at the end
+    /// the line with the counts.
     errors: String,
     status: u8,
     wrong: Tally,
 }
 
 impl Collected {
-    /// Counts a file with this many errors. Fails if a sum does not fit.
+    /// Counts a file with this many errors. Fails if a sum overflows.
     fn count(&mut self, errors: usize) -> Result<(), AllocError>
         ensures { OnOk result (self.new ≡ record self.old { wrong = spec.counted self.old.wrong errors }) }
     {
@@ -54,8 +54,8 @@ impl Collected {
     }
 }
 
-/// Returns the exit status for a file with this many errors, and this complaint about its schema: 2 if there is a
-/// complaint, otherwise 1 if there are errors, otherwise 0.
+/// Returns the exit status for one file: 2 if there is a complaint about its schema, otherwise 1 if there are errors,
+/// otherwise 0.
 fn status_of(errors: usize, complaint: &str) -> u8
     ensures { result ≡ spec.status_of errors complaint.now }
 {
@@ -66,7 +66,7 @@ fn status_of(errors: usize, complaint: &str) -> u8
     }
 }
 
-/// Appends the line which reports that a file can't be read, and why. Fails if an allocation fails.
+/// Appends a line that says that the file `name` can't be read, and the `reason`. Fails if an allocation fails.
 pub fn push_complaint(out: &mut String, name: &str, reason: &str) -> Result<(), AllocError>
     ensures { OnOk result (string_bytes out.new ≡ string_bytes out.old ++ complaint name.now reason.now) }
 {
@@ -78,8 +78,8 @@ pub fn push_complaint(out: &mut String, name: &str, reason: &str) -> Result<(), 
     Ok(())
 }
 
-/// Checks or prints the bytes of a file: writes the document to print, or appends the reports to `held`. Returns
-/// the verdict. Fails if a write or an allocation fails.
+/// Checks or prints the bytes of a file, and returns the verdict. Appends the reports to `held`, or writes `held` and
+/// the value at `pointer`, whose last bytes may stay in `held`. Fails if a write fails.
 fn collect_bytes<S: Schemas, O: Sink>(
     alloc: Global,
     format: Format,
@@ -108,8 +108,9 @@ fn collect_bytes<S: Schemas, O: Sink>(
     }
 }
 
-/// Checks or prints one file, and counts its errors in `collected`. `reading` has the bytes of the file, or why it
-/// can't be read. Fails if a write or an allocation fails.
+/// Checks one file, or prints its value at `pointer`, and adds its errors, status and counts to `collected`. The output
+/// goes through the buffer `collected.held` to `out`; its end may stay in the buffer. `reading` has the bytes of the
+/// file, or the reason why it can't be read. Fails if a write fails.
 fn collect_one<S: Schemas, O: Sink>(
     alloc: Global,
     format: Format,
@@ -156,8 +157,8 @@ fn collect_one<S: Schemas, O: Sink>(
     Ok(())
 }
 
-/// Returns the names of the files that the arguments `names` stand for. `excludes` are patterns of files to leave out
-/// of directories. Fails if an allocation fails.
+/// Returns the names of the files that the arguments `names` select. `excludes` are patterns of files to leave out of
+/// directories.
 fn find_all<I: Inputs>(
     alloc: Global,
     excludes: &[&str],
@@ -177,7 +178,7 @@ fn find_all<I: Inputs>(
 }
 
 /// Reads the files in order, and checks or prints each. Returns the output that has not been written yet. Fails if a
-/// write or an allocation fails.
+/// write fails.
 fn collect<I: Inputs, S: Schemas, O: Sink>(
     alloc: Global,
     format: Format,
@@ -219,8 +220,7 @@ fn collect<I: Inputs, S: Schemas, O: Sink>(
     Ok(collected)
 }
 
-/// Appends a number and a noun, such as `1 file` or `2 files`. `word` is the singular of the noun, after a space. Fails
-/// if an allocation fails.
+/// Appends a number and a noun, as in `1 file` or `2 files`. `word` is a space and the singular of the noun.
 fn push_number(out: &mut String, number: usize, word: &str) -> Result<(), AllocError>
     ensures { OnOk result (string_bytes out.new ≡ string_bytes out.old ++ spec.number_of number word.now) }
 {
@@ -232,8 +232,7 @@ fn push_number(out: &mut String, number: usize, word: &str) -> Result<(), AllocE
     Ok(())
 }
 
-/// Appends the line that counts errors: `3 errors in 2 of 5 files`. `files` is the number of all files. Fails if an
-/// allocation fails.
+/// Appends the line that counts errors, such as `3 errors in 2 of 5 files`. `files` is the number of all files.
 #[tactic(auto, unfolding(crate::specs::Run::found_errors))]
 fn push_errors(out: &mut String, files: usize, wrong: Tally) -> Result<(), AllocError>
     ensures { OnOk result (string_bytes out.new ≡ string_bytes out.old ++ spec.found_errors files wrong) }
@@ -246,7 +245,7 @@ fn push_errors(out: &mut String, files: usize, wrong: Tally) -> Result<(), Alloc
     out.push_str("\n")
 }
 
-/// Appends the line that counts the files, if none has errors: `5 files checked`. Fails if an allocation fails.
+/// Appends the line that counts files without errors, such as `5 files checked`.
 #[tactic(auto, unfolding(crate::specs::Run::found_none))]
 fn push_checked(out: &mut String, files: usize) -> Result<(), AllocError>
     ensures { OnOk result (string_bytes out.new ≡ string_bytes out.old ++ spec.found_none files) }
@@ -255,8 +254,8 @@ fn push_checked(out: &mut String, files: usize) -> Result<(), AllocError>
     out.push_str(" checked\n")
 }
 
-/// Appends the last line of a check that prints text: the number of errors or, without errors and if standard error is
-/// a terminal (`is_watched`), the number of files. Appends nothing in any other case. Fails if an allocation fails.
+/// Appends the last line of a check in a `Format::Text`, or nothing for another task or format. The line counts errors.
+/// Without errors, it counts files, but only if standard error is a terminal (`is_watched`).
 fn push_summary(
     out: &mut String,
     format: Format,
@@ -275,8 +274,8 @@ fn push_summary(
     }
 }
 
-/// Completes `stdout`, the output for all files: for a check with SARIF, adds the document around the results. Fails if
-/// an allocation fails.
+/// Returns the complete output. For a check with SARIF, it is the document with the results `stdout`, otherwise
+/// `stdout` itself.
 fn whole(alloc: Global, format: Format, task: Task, stdout: Vec<u8>) -> Result<Vec<u8>, AllocError>
     ensures { IfOk result (λ out. out.items ≡ spec.whole format task stdout.items) }
 {
@@ -286,8 +285,8 @@ fn whole(alloc: Global, format: Format, task: Task, stdout: Vec<u8>) -> Result<V
     }
 }
 
-/// Reads the files that the arguments `names` stand for, and checks or prints each, with a summary at the end. Returns
-/// the output that has not been written yet. Fails if a write or an allocation fails.
+/// Reads the files that the arguments `names` select, checks or prints each, and adds a summary. Returns the output
+/// that has not been written yet. Fails if a write fails.
 fn collect_all<I: Inputs, S: Schemas, O: Sink>(
     alloc: Global,
     format: Format,
@@ -320,9 +319,8 @@ fn collect_all<I: Inputs, S: Schemas, O: Sink>(
     Ok(collected)
 }
 
-/// Reads the files that the arguments `names` stand for, checks or prints each, and writes the output. Returns the exit
-/// status: 0 without errors, 1 if a file has errors, 2 if a file can't be read or its schema can't be used, 3 if a
-/// write failed, 4 if an allocation failed.
+/// Reads the files that the arguments `names` select, checks or prints each, and writes the output. Returns the exit
+/// status that `run` describes.
 fn run_aloud<I: Inputs, S: Schemas, O: Sink, E: Sink>(
     alloc: Global,
     format: Format,
@@ -361,8 +359,7 @@ fn run_aloud<I: Inputs, S: Schemas, O: Sink, E: Sink>(
 }
 
 /// Reads the files that the arguments `names` select, and checks or prints each, but writes nothing. Returns the exit
-/// status: 0 without errors, 1 if a file has errors, 2 if a file can't be read or its schema can't be used, 4 if an
-/// allocation failed.
+/// status that `run` describes, which is never 3.
 fn run_quiet<I: Inputs, S: Schemas>(
     alloc: Global,
     format: Format,
@@ -396,12 +393,14 @@ fn run_quiet<I: Inputs, S: Schemas>(
     }
 }
 
-/// Reads the files that the arguments `names` stand for, and checks or prints each of them.
+/// Reads the files that the arguments `names` select, and checks or prints each of them.
 ///
-/// `excludes` are patterns of files to leave out of directories, and `pointer` names the value to print. `is_watched`
-/// says whether standard error is a terminal, and `is_quiet` suppresses all output. Documents are checked against their
-/// `schemas`. Returns the exit status: 0 without errors, 1 if a file has errors, 2 if a file can't be read or its
-/// schema can't be used, 3 if a write failed, 4 if an allocation failed.
+/// `excludes` are patterns of files to leave out of directories, and `pointer` is the path of the value to print.
+/// `is_watched` says whether standard error is a terminal. `is_quiet` suppresses all output. `schemas` checks documents
+/// against their schemas.
+///
+/// Returns the exit status: 0 without errors, 1 if a file has errors, 2 if a file can't be read or its schema can't be
+/// used, 3 if a write failed, 4 if an allocation failed.
 pub fn run<I: Inputs, S: Schemas, O: Sink, E: Sink>(
     alloc: Global,
     format: Format,

@@ -13,7 +13,7 @@ use toml_span::{Label, Span};
 use toml_span_report::visible::push_quoted;
 use toml_span_report::{Replacement, Report, Severity, line_column};
 
-/// The document up to the results, with a rule for each error code.
+/// The document up to the results, with a rule for each code that `check` reports.
 const HEAD: &str = r#"{
 "$schema":"https://docs.oasis-open.org/sarif/sarif/v2.1.0/errata01/os/schemas/sarif-schema-2.1.0.json",
 "version":"2.1.0",
@@ -75,7 +75,7 @@ const HEAD: &str = r#"{
 /// The document after the results.
 const TAIL: &str = "\n]}]}\n";
 
-/// Returns the level for a severity.
+/// Returns the SARIF level for a severity.
 fn level_of(severity: Severity) -> &'static str
     ensures { result.now ≡ spec.level_of severity }
 {
@@ -86,7 +86,7 @@ fn level_of(severity: Severity) -> &'static str
     }
 }
 
-/// Returns whether a byte may appear unescaped in a URI path: an unreserved character, or a slash.
+/// Returns whether a URI path can have this byte unescaped: an unreserved character, or a slash.
 fn is_plain(byte: u8) -> bool
     ensures { result ≡ spec.is_plain byte }
 {
@@ -105,7 +105,7 @@ pub(crate) fn hex_digit(number: u8) -> u8
     }
 }
 
-/// Appends a byte of a path, percent-encoded if necessary. Fails if an allocation fails.
+/// Appends a byte of a path, percent-encoded if necessary.
 fn push_uri_byte(out: &mut String, byte: u8) -> Result<(), AllocError>
     ensures { OnOk result (string_bytes out.new ≡ string_bytes out.old ++ spec.uri_byte byte) }
 {
@@ -117,7 +117,7 @@ fn push_uri_byte(out: &mut String, byte: u8) -> Result<(), AllocError>
     out.push(hex_digit(byte % 16) as char)
 }
 
-/// Returns what the URI of a file begins with: `file://` for an absolute path.
+/// Returns the start of the URI of a file: `file://` if `name` is an absolute path, otherwise an empty text.
 fn scheme_of(name: &str) -> &'static str
     ensures { result.now ≡ spec.scheme_of name.now }
 {
@@ -127,7 +127,7 @@ fn scheme_of(name: &str) -> &'static str
     }
 }
 
-/// Appends the bytes of a path, percent-encoded if necessary. Fails if an allocation fails.
+/// Appends the bytes of a path, percent-encoded if necessary.
 fn push_path(out: &mut String, path: &[u8]) -> Result<(), AllocError>
     ensures { OnOk result (string_bytes out.new ≡ string_bytes out.old ++ flat_map spec.uri_byte path.now) }
 {
@@ -137,7 +137,7 @@ fn push_path(out: &mut String, path: &[u8]) -> Result<(), AllocError>
     Ok(())
 }
 
-/// Appends the URI of a file. Fails if an allocation fails.
+/// Appends the URI of a file.
 #[tactic(auto, unfolding(crate::specs::Sarif::uri))]
 fn push_uri(out: &mut String, name: &str) -> Result<(), AllocError>
     ensures { OnOk result (string_bytes out.new ≡ string_bytes out.old ++ spec.uri name.now) }
@@ -146,7 +146,7 @@ fn push_uri(out: &mut String, name: &str) -> Result<(), AllocError>
     push_path(out, name.as_bytes())
 }
 
-/// Appends the location of a file as a JSON object. Fails if an allocation fails.
+/// Appends the start of a JSON object with the location of a file, without the closing brace.
 fn push_artifact(out: &mut String, name: &str) -> Result<(), AllocError>
     ensures { OnOk result (string_bytes out.new ≡ string_bytes out.old ++ spec.artifact name.now) }
 {
@@ -156,8 +156,8 @@ fn push_artifact(out: &mut String, name: &str) -> Result<(), AllocError>
     Ok(())
 }
 
-/// Appends the lines and columns of a region whose opening brace has been appended. `start` and `end` are each a line
-/// and a column, counted from 1. Fails if an allocation fails.
+/// Appends the opening brace, the lines and the columns of a region. `start` and `end` are pairs of a line and a
+/// column, counted from 1.
 fn push_lines(
     out: &mut String,
     start: (usize, usize),
@@ -172,7 +172,7 @@ fn push_lines(
     Ok(())
 }
 
-/// Appends the byte range of a region, and its closing brace. Fails if an allocation fails.
+/// Appends the byte range of a region and the closing brace.
 #[tactic(auto, unfolding(crate::specs::Sarif::bytes))]
 fn push_bytes(out: &mut String, start: usize, end: usize) -> Result<(), AllocError>
     requires { start ≤ end }
@@ -183,7 +183,7 @@ fn push_bytes(out: &mut String, start: usize, end: usize) -> Result<(), AllocErr
     out.push_str("}")
 }
 
-/// Appends the region of a span, which is cut at the end of the source. Fails if an allocation fails.
+/// Appends the region of a span, cut at the end of the source `text`.
 fn push_region(out: &mut String, text: &str, span: Span) -> Result<(), AllocError>
     ensures { OnOk result (string_bytes out.new ≡ string_bytes out.old ++ spec.region text.now span) }
 {
@@ -193,8 +193,7 @@ fn push_region(out: &mut String, text: &str, span: Span) -> Result<(), AllocErro
     push_bytes(out, start, end)
 }
 
-/// Appends the location of a label in the file `name`, whose source is `text`, with the label's message. Fails if an
-/// allocation fails.
+/// Appends the location and the message of a label. `text` is the source of the file `name`.
 fn push_location(
     alloc: Global,
     out: &mut String,
@@ -215,7 +214,7 @@ fn push_location(
     Ok(())
 }
 
-/// Appends the location of a file, without a region. Fails if an allocation fails.
+/// Appends the location of a file, without a region.
 fn push_file(out: &mut String, name: &str) -> Result<(), AllocError>
     ensures { OnOk result (string_bytes out.new ≡ string_bytes out.old ++ spec.file_alone name.now) }
 {
@@ -225,7 +224,7 @@ fn push_file(out: &mut String, name: &str) -> Result<(), AllocError>
     Ok(())
 }
 
-/// Appends the location of the first primary label or, if there is none, of the file. Fails if an allocation fails.
+/// Appends the location of the first primary label, or of the file `name` if no label is primary.
 fn push_place(
     alloc: Global,
     out: &mut String,
@@ -244,7 +243,7 @@ fn push_place(
     push_file(out, name)
 }
 
-/// Appends a comma and the location of a label, if the label is secondary. Fails if an allocation fails.
+/// Appends a comma and the location of a label, or nothing if the label is primary.
 fn push_other(
     alloc: Global,
     out: &mut String,
@@ -262,7 +261,7 @@ fn push_other(
     push_location(alloc, out, name, text, label)
 }
 
-/// Returns the locations of the secondary labels, each after a comma. Fails if an allocation fails.
+/// Returns the locations of the secondary labels, each after a comma.
 fn others(alloc: Global, name: &str, text: &str, labels: &[Label<()>]) -> Result<String, AllocError>
     ensures { IfOk result (λ out. string_bytes out
         ≡ flat_map (spec.other name.now text.now) (map label_content labels.now)) }
@@ -274,7 +273,7 @@ fn others(alloc: Global, name: &str, text: &str, labels: &[Label<()>]) -> Result
     Ok(out)
 }
 
-/// Returns a list without the comma before its first element.
+/// Returns the elements of a list without the comma before the first one.
 fn listed(elements: &[u8]) -> &[u8]
     ensures { result.now ≡ spec.listed elements.now }
 {
@@ -284,7 +283,7 @@ fn listed(elements: &[u8]) -> &[u8]
     }
 }
 
-/// Appends a comma, and the code, the level and the message of a report. Fails if an allocation fails.
+/// Appends a comma, a line feed and the start of a `result` object: the code, the level and the message of a report.
 fn push_front(alloc: Global, out: &mut String, report: &Report) -> Result<(), AllocError>
     ensures { OnOk result (string_bytes out.new ≡ string_bytes out.old ++ spec.front (report_content report.now)) }
 {
@@ -298,7 +297,7 @@ fn push_front(alloc: Global, out: &mut String, report: &Report) -> Result<(), Al
     Ok(())
 }
 
-/// Appends the elements of a list, without the comma before the first. Fails if an allocation fails.
+/// Appends the elements of a list, without the comma before the first one.
 fn push_listed(out: &mut String, elements: &str) -> Result<(), AllocError>
     requires { BeginsWithComma elements.now }
     ensures { OnOk result (string_bytes out.new ≡ string_bytes out.old ++ spec.listed elements.now) }
@@ -309,7 +308,7 @@ fn push_listed(out: &mut String, elements: &str) -> Result<(), AllocError>
     }
 }
 
-/// Appends the locations of the secondary labels, if there are any. Fails if an allocation fails.
+/// Appends the locations of the secondary labels, separated by commas.
 fn push_related(
     alloc: Global,
     out: &mut String,
@@ -325,7 +324,7 @@ fn push_related(
     Ok(())
 }
 
-/// Appends the locations of all labels. Fails if an allocation fails.
+/// Appends two members of an object: the location that `push_place` appends, and those of the secondary labels.
 fn push_places(
     alloc: Global,
     out: &mut String,
@@ -344,7 +343,7 @@ fn push_places(
     Ok(())
 }
 
-/// Appends a replacement: the region to delete, and the text to insert there. Fails if an allocation fails.
+/// Appends a replacement: the region to delete, and the text to insert there.
 fn push_replacement(
     alloc: Global,
     out: &mut String,
@@ -362,7 +361,7 @@ fn push_replacement(
     Ok(())
 }
 
-/// Appends each replacement after a comma. Fails if an allocation fails.
+/// Appends each replacement after a comma.
 fn push_replacements(
     alloc: Global,
     out: &mut String,
@@ -379,7 +378,7 @@ fn push_replacements(
     Ok(())
 }
 
-/// Appends a fix that consists of these replacements. Fails if an allocation fails.
+/// Appends the member `fixes` of an object: one fix with the replacements `first` and `more`.
 fn push_change(
     alloc: Global,
     out: &mut String,
@@ -400,7 +399,7 @@ fn push_change(
     Ok(())
 }
 
-/// Appends a fix with all replacements of a report, or nothing if there are none. Fails if an allocation fails.
+/// Appends a fix with all the replacements, or nothing for an empty list.
 fn push_fixes(
     alloc: Global,
     out: &mut String,
@@ -417,8 +416,7 @@ fn push_fixes(
     }
 }
 
-/// Returns a comma and the report's `result` object. `name` is the name of the file, `text` the source. Fails if an
-/// allocation fails.
+/// Returns a comma, a line feed and the `result` object of a report. `text` is the source of the file `name`.
 pub(crate) fn sarif(
     alloc: Global,
     report: &Report,
@@ -435,8 +433,7 @@ pub(crate) fn sarif(
     Ok(out)
 }
 
-/// Returns the elements of a list, without the comma before the first, between `head` and `tail`. Fails if an
-/// allocation fails.
+/// Returns `head`, the elements without the comma before the first one, and `tail`.
 fn between(alloc: Global, head: &str, elements: &[u8], tail: &str) -> Result<Vec<u8>, AllocError>
     ensures { IfOk result (λ out. out.items ≡ head.now ++ spec.listed elements.now ++ tail.now) }
 {
@@ -446,7 +443,7 @@ fn between(alloc: Global, head: &str, elements: &[u8], tail: &str) -> Result<Vec
     Ok(out)
 }
 
-/// Returns the document with these results, each of which has a comma before it. Fails if an allocation fails.
+/// Returns the document with these results. `results` is the concatenation of the texts that `sarif` returned.
 #[tactic(auto, unfolding(crate::specs::Sarif::document))]
 pub(crate) fn document(alloc: Global, results: &[u8]) -> Result<Vec<u8>, AllocError>
     ensures { IfOk result (λ out. out.items ≡ spec.document results.now) }

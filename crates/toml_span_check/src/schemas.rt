@@ -1,4 +1,4 @@
-//! The trait by which documents are checked against schemas. This crate has no schema checker; callers provide one.
+//! The trait `Schemas`, which checks documents against schemas. Users of this crate implement it.
 ghost use Rattle.std.specs.Prelude.{◌≡◌, ◌+◌, ℕ, List, [], IfOk, map, string_bytes};
 ghost use Rattle.toml_span_check.specs.Schemas as spec;
 ghost use Rattle.toml_span_check.specs.Schemas.{Says, no_schema};
@@ -23,9 +23,9 @@ pub enum Chooser {
 /// The result of checking a document against its schema.
 #[derive(Drop)]
 pub struct SchemaReports {
-    /// The reports, in the order of the text.
+    /// The reports, in the order in which they are printed.
     pub reports: Vec<Report>,
-    /// If the schema can't be used: lines that say why, for standard error. Otherwise empty.
+    /// Lines for standard error that say why the schema can't be used. Empty if nothing is wrong with the schema.
     pub complaint: String,
 }
 
@@ -33,12 +33,12 @@ pub struct SchemaReports {
 pub trait Schemas {
     ghost use Rattle.toml_span_check.specs.declared.schemas.Chooser.{Chooser};
 
-    /// What the schema of a document says: who chooses it, the name of the file, its text, its tree, the reports, and
-    /// the complaint.
+    /// Says which reports and complaint a check may return: relates the chooser, the name of the file, its text, its
+    /// tree, the reports, and the complaint.
     ghost says: { Chooser → List ℕ → List ℕ → Node → List ReportContent → List ℕ → Type 0 };
 
-    /// Finds the schema of a document, if there is one, and checks the document against it. `name` is the name of the
-    /// file, `text` its source, and `root` its tree. Fails if an allocation fails.
+    /// Finds the schema of a document, if there is one, and checks the document against it. `text` is the source of the
+    /// file `name`, and `root` its tree. Fails if an allocation fails.
     fn check(
         &mut self,
         alloc: Global,
@@ -51,7 +51,7 @@ pub trait Schemas {
             (map report_content made.reports.items) (string_bytes made.complaint)) };
 }
 
-/// A source without any schemas: it reports nothing.
+/// A source without schemas. Its checks report nothing.
 #[derive(Drop)]
 pub struct NoSchemas;
 
@@ -73,7 +73,7 @@ impl Schemas for NoSchemas {
     }
 }
 
-/// Returns how many errors a report of this severity counts as: 1 for an error, otherwise 0.
+/// Returns the number of errors that a report of this severity counts as: 1 for an error, otherwise 0.
 fn weight(severity: Severity) -> usize
     ensures { result ≡ spec.weight severity }
 {
@@ -83,7 +83,7 @@ fn weight(severity: Severity) -> usize
     }
 }
 
-/// Returns a number, plus the number of errors among reports. Fails if the sum does not fit.
+/// Returns `count` plus the number of reports that are errors. Fails if the sum overflows.
 pub(crate) fn with_errors(count: usize, reports: &[Report]) -> Result<usize, AllocError>
     ensures { IfOk result (λ sum. sum ≡ count + spec.errors_in (map report_content reports.now)) }
 {
@@ -94,7 +94,7 @@ pub(crate) fn with_errors(count: usize, reports: &[Report]) -> Result<usize, All
     Ok(sum)
 }
 
-/// Returns how many errors a complaint counts as: 1, or 0 if it is empty.
+/// Returns the number of errors that a complaint counts as: 0 if it is empty, otherwise 1.
 pub(crate) fn complaint_weight(complaint: &str) -> usize
     ensures { result ≡ spec.complaint_weight complaint.now }
 {

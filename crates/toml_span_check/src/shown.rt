@@ -15,7 +15,7 @@ pub(crate) fn truth(is_true: bool) -> &'static str
     if is_true { "true" } else { "false" }
 }
 
-/// Appends a comma if `later`, that is, before each element except the first. Fails if an allocation fails.
+/// Appends a comma if `later`, which is true for each element except the first.
 pub(crate) fn push_comma(out: &mut String, later: bool) -> Result<(), AllocError>
     ensures { OnOk result (string_bytes out.new ≡ string_bytes out.old ++ spec.comma_if later) }
 {
@@ -25,7 +25,7 @@ pub(crate) fn push_comma(out: &mut String, later: bool) -> Result<(), AllocError
     Ok(())
 }
 
-/// Appends an object with the type and the value of a scalar. Fails if an allocation fails.
+/// Appends a JSON object with the type and the value of a scalar.
 fn push_tagged(
     alloc: Global,
     out: &mut String,
@@ -41,7 +41,7 @@ fn push_tagged(
     out.push_str("}")
 }
 
-/// Appends a scalar as JSON with its type, or nothing for an array or a table. Fails if an allocation fails.
+/// Appends a scalar as a JSON object with its type and value, or nothing for an array or a table.
 fn push_typed(alloc: Global, out: &mut String, scalar: &ValueInner<'_>) -> Result<(), AllocError>
     ensures { OnOk result (string_bytes out.new ≡ string_bytes out.old ++ spec.own_text true (inner_view scalar.now)) }
 {
@@ -62,7 +62,7 @@ fn push_typed(alloc: Global, out: &mut String, scalar: &ValueInner<'_>) -> Resul
     }
 }
 
-/// Appends a scalar as JSON, or nothing for an array or a table. Fails if an allocation fails.
+/// Appends a scalar as JSON, or nothing for an array or a table.
 fn push_plain(alloc: Global, out: &mut String, scalar: &ValueInner<'_>) -> Result<(), AllocError>
     ensures { OnOk result (string_bytes out.new ≡ string_bytes out.old ++ spec.own_text false (inner_view scalar.now)) }
 {
@@ -84,11 +84,11 @@ fn push_plain(alloc: Global, out: &mut String, scalar: &ValueInner<'_>) -> Resul
 #[derive(Clone, Copy)]
 pub(crate) struct Shape {
     pub(crate) alloc: Global,
-    /// Whether scalars have their types, as in the suite `toml-test`.
+    /// Whether scalars have their types, as in the test suite `toml-test`.
     pub(crate) is_tagged: bool,
 }
 
-/// Appends a value as JSON. A value that has been taken is `null`. Fails if an allocation fails.
+/// Appends a value as JSON. A value that has been taken is `null`.
 #[cycle(push_value)]
 fn push_value(shape: Shape, out: &mut String, value: &Value<'_>) -> Result<(), AllocError>
     ensures { OnOk result (string_bytes out.new ≡ string_bytes out.old ++ spec.shown shape.is_tagged (view value.now)) }
@@ -111,7 +111,7 @@ fn push_value(shape: Shape, out: &mut String, value: &Value<'_>) -> Result<(), A
     }
 }
 
-/// Appends the elements of an array, in brackets. Fails if an allocation fails.
+/// Appends the elements of an array, in brackets.
 #[cycle(push_value)]
 fn push_elements(shape: Shape, out: &mut String, elements: &[Value<'_>]) -> Result<(), AllocError>
     ensures { OnOk result (string_bytes out.new ≡ string_bytes out.old ++ (codes "["
@@ -128,7 +128,7 @@ fn push_elements(shape: Shape, out: &mut String, elements: &[Value<'_>]) -> Resu
     Ok(())
 }
 
-/// Appends the entries of a table, in braces. Fails if an allocation fails.
+/// Appends the entries of a table, in braces.
 #[cycle(push_value)]
 fn push_entries(shape: Shape, out: &mut String, table: &Table<'_>) -> Result<(), AllocError>
     ensures { OnOk result (string_bytes out.new ≡ string_bytes out.old ++ (codes "{"
@@ -147,7 +147,7 @@ fn push_entries(shape: Shape, out: &mut String, table: &Table<'_>) -> Result<(),
     Ok(())
 }
 
-/// Returns a value as JSON. If `is_tagged`, scalars have their types. Fails if an allocation fails.
+/// Returns a value as JSON. If `is_tagged`, scalars have their types.
 pub(crate) fn shown(alloc: Global, value: &Value<'_>, is_tagged: bool) -> Result<String, AllocError>
     ensures { IfOk result (λ out. string_bytes out ≡ spec.shown is_tagged (view value.now)) }
 {
@@ -156,7 +156,7 @@ pub(crate) fn shown(alloc: Global, value: &Value<'_>, is_tagged: bool) -> Result
     Ok(out)
 }
 
-/// Returns the text of a string, float or date, or any other value as JSON. Fails if an allocation fails.
+/// Returns the text of a string, float, date or time, or any other value as JSON.
 pub(crate) fn raw(alloc: Global, value: &Value<'_>) -> Result<String, AllocError>
     ensures { IfOk result (λ out. string_bytes out ≡ spec.raw (view value.now)) }
 {

@@ -1,30 +1,31 @@
-//! Finds the statement (a header or an assignment) in which an error is, and where the next statement begins.
+//! Finds the statement (a header or an assignment) that contains an error, and the start of the next statement.
 use toml_span::ErrorKind;
+use toml_span_lex::span::Span;
 
-/// What is open at an offset in a statement.
+/// The state at an offset in a statement: the brackets, braces and string that are open there.
 #[derive(Clone, Copy)]
 pub(crate) struct Open {
     /// The number of open brackets and braces.
     depth: usize,
-    /// The quote of the open string, `#` in a comment, or 0.
+    /// The quote of the open string, `#` in a comment, otherwise 0.
     quote: u8,
     /// Whether the open string has three quotes on each side.
     is_long: bool,
-    /// The number of bytes from the current offset that belong to quotes or an escape that began before it.
+    /// The number of bytes after the offset that belong to quotes or an escape that began before.
     skip: usize,
     /// Whether the statement is a header, which ends at the end of its line.
     is_header: bool,
 }
 
-/// The statement in which an error is. The offsets are starts of lines, or the length of the text.
+/// The statement that contains an error. Each offset is the start of a line, or the length of the text.
 #[derive(Clone, Copy)]
 pub(crate) struct Statement {
     /// The start of the statement.
     pub(crate) start: usize,
     /// The start of the next statement.
     pub(crate) next: usize,
-    /// The end of the text to ignore if the statement has an error: for a header, the end of its section; for an
-    /// assignment, `next`.
+    /// The end of the text to replace if the statement has an error: the end of a header's section, or `next` for an
+    /// assignment.
     pub(crate) end: usize,
 }
 
@@ -34,7 +35,8 @@ fn byte_at(text: &str, at: usize) -> u8 {
     if at < bytes.len() { bytes[at] } else { 0 }
 }
 
-/// Returns the offset of the first byte at or after `from` that is neither a space nor a tab.
+/// Returns the offset of the first byte at or after `from` that is neither a space nor a tab, or the length of the
+/// text.
 fn blanks_end(text: &str, from: usize) -> usize {
     let bytes = text.as_bytes();
     for at in from..bytes.len() {
@@ -51,19 +53,27 @@ fn is_long(text: &str, at: usize) -> bool {
     quote == byte_at(text, at.saturating_add(1)) && quote == byte_at(text, at.saturating_add(2))
 }
 
-/// Returns the state at the start of a statement that begins at the offset `line`: nothing is open.
+/// Returns the offset of the first byte on the line at the offset `line` that is neither a blank nor a byte order mark.
+fn first_at(text: &str, line: usize) -> usize {
+    if line == 0 && text.starts_with('\u{feff}') {
+        blanks_end(text, 3)
+    } else {
+        blanks_end(text, line)
+    }
+}
+
+/// Returns the state at the start of a statement that begins on the line at the offset `line`.
 fn begin(text: &str, line: usize) -> Open {
     Open {
         depth: 0,
         quote: 0,
         is_long: false,
         skip: 0,
-        is_header: byte_at(text, blanks_end(text, line)) == b'[',
+        is_header: byte_at(text, first_at(text, line)) == b'[',
     }
 }
 
-/// Returns what is open after the byte at `at`, if `open` is what was open before it. The byte must not be inside a
-/// string or comment.
+/// Returns the state after the byte at `at`, which is not in a string or comment. `open` is the state before the byte.
 fn outside(text: &str, open: Open, at: usize) -> Open {
     let mut next = open;
     match byte_at(text, at) {
@@ -80,7 +90,7 @@ fn outside(text: &str, open: Open, at: usize) -> Open {
     next
 }
 
-/// Returns what is open after the byte at `at`, which is in a string. `open` is what is open before it.
+/// Returns the state after the byte at `at`, which is in a string. `open` is the state before the byte.
 fn inside(text: &str, open: Open, at: usize) -> Open {
     let mut next = open;
     let byte = byte_at(text, at);
@@ -97,8 +107,8 @@ fn inside(text: &str, open: Open, at: usize) -> Open {
     next
 }
 
-/// Returns what is open after a line feed. It ends comments, headers and single-line strings, even if they are not
-/// closed.
+/// Returns the state after a line feed. `open` is the state before it. A line feed ends comments, single-line strings
+/// and headers, even unclosed ones, but neither a string with three quotes nor a header that contains one.
 fn after_line(open: Open) -> Open {
     let mut next = open;
     next.skip = 0;
@@ -111,7 +121,7 @@ fn after_line(open: Open) -> Open {
     next
 }
 
-/// Returns what is open after the byte at `at`, given what is open before it.
+/// Returns the state after the byte at `at`. `open` is the state before the byte.
 fn step(text: &str, open: Open, at: usize) -> Open {
     if byte_at(text, at) == b'\n' {
         after_line(open)
@@ -128,17 +138,17 @@ fn step(text: &str, open: Open, at: usize) -> Open {
     }
 }
 
-/// Returns whether the byte at `at` ends a line outside strings. `open` is what is open after it.
+/// Returns whether the byte at `at` ends a line outside strings. `open` is the state after the byte.
 fn is_line_end(text: &str, open: Open, at: usize) -> bool {
     open.quote == 0 && byte_at(text, at) == b'\n'
 }
 
-/// Returns whether the byte at `at` ends the statement. `open` is what is open after it.
+/// Returns whether the byte at `at` ends the statement. `open` is the state after the byte.
 fn is_end(text: &str, open: Open, at: usize) -> bool {
     open.depth == 0 && is_line_end(text, open, at)
 }
 
-/// Returns the start of the statement that contains the offset `place`. A statement begins at `from`.
+/// Returns the start of the statement that contains the offset `place`. A statement must begin at `from`.
 fn start_of(text: &str, from: usize, place: usize) -> usize {
     let mut start = from;
     let mut open = begin(text, from);
@@ -152,7 +162,8 @@ fn start_of(text: &str, from: usize, place: usize) -> usize {
     start
 }
 
-/// Returns the end of the single-line string that begins at `from`, or the end of its line if it is not closed.
+/// Returns the end of the single-line string that begins at `from`. If the string is not closed, returns the end of its
+/// line.
 fn quoted_end(text: &str, from: usize) -> usize {
     let bytes = text.as_bytes();
     let quote = byte_at(text, from);
@@ -169,7 +180,7 @@ fn quoted_end(text: &str, from: usize) -> usize {
     bytes.len()
 }
 
-/// Returns the end of the bare key that begins at `from`.
+/// Returns the end of the bare key that begins at `from`, or `from` if no bare key begins there.
 fn bare_end(text: &str, from: usize) -> usize {
     let bytes = text.as_bytes();
     for at in from..bytes.len() {
@@ -180,7 +191,7 @@ fn bare_end(text: &str, from: usize) -> usize {
     bytes.len()
 }
 
-/// Returns the offset after the key that begins at `from` and the blanks after this key, or `from` if there is no key.
+/// Returns the offset after the key at `from` and the blanks that follow, or `from` if no key begins there.
 fn part_end(text: &str, from: usize) -> usize {
     let end = match byte_at(text, from) {
         b'"' | b'\'' => quoted_end(text, from),
@@ -193,8 +204,8 @@ fn part_end(text: &str, from: usize) -> usize {
     }
 }
 
-/// Returns the offset after the dotted key that begins at `from` and the blanks after this key, or `None` if there is
-/// no key.
+/// Returns the offset after the dotted key at `from` and the blanks that follow, or `None` if no dotted key begins
+/// there.
 fn key_end(text: &str, from: usize) -> Option<usize> {
     let mut at = from;
     for _ in from..text.len() {
@@ -210,8 +221,8 @@ fn key_end(text: &str, from: usize) -> Option<usize> {
     None
 }
 
-/// Returns the end of the closing brackets of the header that begins at `from`, or `None` if there is no header that is
-/// alone on its line.
+/// Returns the end of the header whose `[` is at `from`. Returns `None` if the header is not complete, or if anything
+/// but a comment follows on the line.
 fn header_end(text: &str, from: usize) -> Option<usize> {
     let is_array = byte_at(text, from.saturating_add(1)) == b'[';
     let width = if is_array { 2usize } else { 1 };
@@ -226,10 +237,10 @@ fn header_end(text: &str, from: usize) -> Option<usize> {
     }
 }
 
-/// Returns the end of a statement's head in the line that begins at `line`: after the `=` of an assignment, or after a
-/// header. Returns `None` if the line does not begin a statement.
+/// Returns the end of the header, or of the key and `=`, on the line at the offset `line`. Returns `None` if the line
+/// does not begin a statement.
 fn head_end(text: &str, line: usize) -> Option<usize> {
-    let from = blanks_end(text, line);
+    let from = first_at(text, line);
     if byte_at(text, from) == b'[' {
         return header_end(text, from);
     }
@@ -246,9 +257,9 @@ fn indentation(text: &str, line: usize) -> usize {
     blanks_end(text, line).saturating_sub(line)
 }
 
-/// Returns whether a new statement begins on the line at the offset `line`, although brackets or a string of the
-/// statement at `start`, which has an error at `place`, are still open. It does if the line has the head of a
-/// statement, the head ends after `place`, and the line is not indented further than the open statement.
+/// Returns whether the line at the offset `line` begins a new statement, although the statement at `start` is not
+/// closed. Such a line is not indented further than that statement, and begins with a header, or with a key and `=`,
+/// that ends after the error's offset `place`.
 fn resumes(text: &str, line: usize, start: usize, place: usize) -> bool {
     match head_end(text, line) {
         Some(end) => end > place && indentation(text, line) <= indentation(text, start),
@@ -256,9 +267,8 @@ fn resumes(text: &str, line: usize, start: usize, place: usize) -> bool {
     }
 }
 
-/// Returns whether the line at the offset `line` belongs to a statement that begins at `start` and can't be read. It
-/// does if the line is indented further than the start of that statement, is neither blank nor only a comment, and does
-/// not begin a statement.
+/// Returns whether the line at the offset `line` continues the unreadable statement at `start`. Such a line is indented
+/// further than the statement, does not begin a statement, and is neither blank nor a comment.
 fn continues(text: &str, line: usize, start: usize) -> bool {
     let is_blank = matches!(
         byte_at(text, blanks_end(text, line)),
@@ -269,8 +279,8 @@ fn continues(text: &str, line: usize, start: usize) -> bool {
         && head_end(text, line).is_none()
 }
 
-/// Returns the start of the first line after `place` on which a statement begins in spite of an open string, or the
-/// length of the text. `start` is the start of the statement with that string.
+/// Returns the start of the first line after `place` for which `resumes` is true, or the length of the text. The
+/// statement at `start` has an open string.
 fn next_head(text: &str, start: usize, place: usize) -> usize {
     for at in place..text.len() {
         if byte_at(text, at) == b'\n' && resumes(text, at + 1, start, place) {
@@ -280,9 +290,9 @@ fn next_head(text: &str, start: usize, place: usize) -> usize {
     text.len()
 }
 
-/// Returns the start of the statement after the one that begins at `start` and has an error at `place`. If the
-/// statement at `start` can't be read (`is_broken`), lines that continue it are skipped. If it is not closed either,
-/// the next statement begins on the first line after `place` that begins a statement and is not indented further.
+/// Returns the start of the statement after the one at `start`, which has an error at `place`, or the length of the
+/// text. If the statement at `start` can't be read (`is_broken`), skips the lines that continue it, but stops at a line
+/// for which `resumes` is true.
 fn next_of(text: &str, start: usize, place: usize, is_broken: bool) -> usize {
     let mut open = begin(text, start);
     for at in start..text.len() {
@@ -305,8 +315,8 @@ fn next_of(text: &str, start: usize, place: usize, is_broken: bool) -> usize {
     }
 }
 
-/// Returns the start of the line of the first header at or after `from`, which must be the start of a line. Returns the
-/// length of the text if no header follows.
+/// Returns the start of the first line at or after `from` that begins a header, or the length of the text if no header
+/// follows. `from` must be the start of a statement.
 fn next_header(text: &str, from: usize) -> usize {
     let mut open = begin(text, from);
     if open.is_header {
@@ -324,7 +334,8 @@ fn next_header(text: &str, from: usize) -> usize {
     text.len()
 }
 
-/// Returns whether the error is a clash of two statements, each of which can be read.
+/// Returns whether the error is a clash, or a dotted key through an earlier value. The statement with such an error can
+/// be read by itself.
 pub(crate) fn is_clash(kind: &ErrorKind<'_>) -> bool {
     matches!(
         kind,
@@ -335,14 +346,14 @@ pub(crate) fn is_clash(kind: &ErrorKind<'_>) -> bool {
     )
 }
 
-/// Returns whether the line that begins at `line` is a marker of a merge conflict: a line that begins with seven times
-/// this byte.
+/// Returns whether the line at the offset `line` begins with seven times this byte, as the marker of a merge conflict
+/// does.
 fn is_marker(text: &str, line: usize, byte: u8) -> bool {
     (0..7usize).all(|at| byte_at(text, line.saturating_add(at)) == byte)
 }
 
-/// Returns the start of the first line after `from` that is a marker of a merge conflict with this byte, or `None` if
-/// there is none before another conflict begins.
+/// Returns the start of the first line after `from` that is a conflict marker of this byte. Returns `None` if no such
+/// line follows, or if another conflict begins first.
 fn next_marker(text: &str, from: usize, byte: u8) -> Option<usize> {
     for at in from..text.len() {
         if byte_at(text, at) == b'\n' {
@@ -357,9 +368,9 @@ fn next_marker(text: &str, from: usize, byte: u8) -> Option<usize> {
     None
 }
 
-/// If the line that begins at `line` is a marker before the common ancestor or the second side of a merge conflict,
-/// returns the end of that side, otherwise `None`. These sides repeat keys of the first side. The common ancestor is
-/// between `|||||||` and `=======`, the second side between `=======` and `>>>>>>>`.
+/// Returns the end of the side of a merge conflict that the line at the offset `line` opens: the common ancestor, from
+/// `|||||||` to `=======`, or the second side, from `=======` to `>>>>>>>`. Returns `None` for any other line, or if
+/// the marker at the end of the side is missing.
 fn other_side_end(text: &str, line: usize) -> Option<usize> {
     if is_marker(text, line, b'|') {
         next_marker(text, line, b'=')
@@ -370,9 +381,9 @@ fn other_side_end(text: &str, line: usize) -> Option<usize> {
     }
 }
 
-/// Returns the statement that contains the offset `place`, where an error is. A statement must begin at `from`.
-/// `is_clash` says that the error is a clash, so that the statement can be read. A statement that is a marker of a
-/// merge conflict includes the side after the marker, unless that is the first side.
+/// Returns the statement that contains the offset `place` of an error. A statement must begin at `from`. `is_clash` is
+/// what the function `is_clash` returns for the error. If the line of the statement is a conflict marker before the
+/// common ancestor or the second side, the next statement begins after that side.
 pub(crate) fn statement_of(text: &str, from: usize, place: usize, is_clash: bool) -> Statement {
     let start = start_of(text, from, place);
     let next = match other_side_end(text, start) {
@@ -385,4 +396,20 @@ pub(crate) fn statement_of(text: &str, from: usize, place: usize, is_clash: bool
         next
     };
     Statement { start, next, end }
+}
+
+/// Returns the lines of the assignment whose key or `=` is at the offset `at`: from the start of its first line to the
+/// start of the line after its value. The offset may also be in the blanks before the key or the `=`. Returns `None`
+/// for any other offset. If the text has a fault, the result may be another span.
+pub fn assignment_lines(text: &str, at: usize) -> Option<Span> {
+    let statement = statement_of(text, 0, at, true);
+    let start = first_at(text, statement.start);
+    let end = head_end(text, statement.start)?;
+    if byte_at(text, start) == b'[' || at >= end {
+        return None;
+    }
+    Some(Span {
+        start: statement.start,
+        end: statement.next,
+    })
 }

@@ -3,7 +3,7 @@ ghost use Rattle.std.specs.Prelude.{◌≡◌, ◌+◌, IfOk};
 
 use std::alloc::AllocError;
 
-/// Returns the sum of two counts. Fails if it does not fit, as if an allocation had failed.
+/// Returns the sum of two counts. Fails with `AllocError` if the sum overflows.
 pub(crate) fn sum_of(count: usize, more: usize) -> Result<usize, AllocError>
     ensures { IfOk result (λ sum. sum ≡ count + more) }
 {

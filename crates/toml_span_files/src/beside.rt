@@ -1,9 +1,9 @@
-//! The new file beside the file that is edited. It is also the lock against other runs of this program.
+//! The new file beside the file that is edited. The new file is also the lock against other runs of this program.
 //!
-//! A run creates it with mode 0600, under a name that is made from the name of the edited file, and locks it with an
-//! advisory lock, which the system releases when the run ends. The run that has locked the file with this name owns the
-//! name: only this run writes, renames and removes the file. So if a file of mode 0600 is not locked, a run that was
-//! killed has left it behind, and it is removed. The new file gets its final mode last, just before it is renamed.
+//! A run creates the new file with mode 0600, under a name that is made from the name of the edited file. The run then
+//! locks it with an advisory lock, which the system releases when the run ends. Only the run that has the lock writes,
+//! renames and removes the file. So if a file of mode 0600 is not locked, a run that was killed has left it behind, and
+//! the next run removes it. The new file gets its final mode last, just before it is renamed.
 use crate::failure::{Failure, unwritten};
 use std::fs::{File, Metadata, OpenOptions, TryLockError};
 use std::io::ErrorKind;
@@ -29,18 +29,19 @@ pub(crate) struct Beside {
 enum Try {
     /// The new file was created and locked.
     Locked(File),
-    /// Another run has locked it, or a run that was killed has left it and it has now been removed. Try again.
+    /// Another run has locked the new file, or a file that a killed run had left was removed. Try again.
     Busy,
-    /// There is a file of this name, and it is not clear whether a run has left it.
+    /// There is a file with this name, and it is not clear whether a run has left it.
     Left,
 }
 
-/// Returns whether both are the metadata of the same file.
+/// Returns whether `one` and `other` are the metadata of the same file.
 pub(crate) fn is_same(one: &Metadata, other: &Metadata) -> bool {
     one.dev() == other.dev() && one.ino() == other.ino()
 }
 
-/// Returns whether the path `name` names this open file itself, not a link to it.
+/// Returns whether the path `name` names the open file itself, not a link to it. Returns `false` if the path or the
+/// file can't be examined.
 fn is_at(rt: &HostRuntime, name: &str, file: &File) -> bool {
     match (fs::symlink_metadata(rt, name), file.metadata()) {
         (Ok(named), Ok(open)) => is_same(&named, &open),
@@ -48,15 +49,15 @@ fn is_at(rt: &HostRuntime, name: &str, file: &File) -> bool {
     }
 }
 
-/// Creates the new file, with the path `name`. Fails if it exists or can't be created.
+/// Creates the new file, with the path `name`. Fails if a file with this path exists or can't be created.
 fn create(rt: &HostRuntime, name: &str) -> io::Result<File> {
     let mut options = OpenOptions::new();
     options.read(true).write(true).create_new(true);
     options.mode(OWN_MODE).open(rt, name)
 }
 
-/// Locks the file with the path `name`, which was just created. If the system has no locks, having created it is
-/// enough. Returns `Locked`, or `Busy` if another run was faster.
+/// Locks the file that was just created with the path `name`. Returns `Busy` if another run has locked or removed it,
+/// or if it can't be examined. Otherwise returns `Locked`, even if the system has no locks.
 fn claim(rt: &HostRuntime, name: &str, file: File) -> Try {
     if let Err(TryLockError::WouldBlock) = file.try_lock() {
         return Try::Busy;
@@ -68,14 +69,14 @@ fn claim(rt: &HostRuntime, name: &str, file: File) -> Try {
     }
 }
 
-/// Returns whether a file looks as if a run has created it.
+/// Returns whether a file looks like one that a run has created: a regular file of mode 0600, without other hard links.
 fn is_own(found: &Metadata) -> bool {
     found.is_file() && found.mode() & 0o7777 == OWN_MODE && found.nlink() == 1
 }
 
-/// Removes the file with the path `name` if a killed run has left it, that is, if it looks like a file that a run has
-/// created, and is not locked. Returns `Busy` after the removal, or if the file is locked or can't be found. Returns
-/// `Left` if it does not look like such a file, can't be opened, or can't be tested for a lock. Fails if it can't be
+/// Removes the file with the path `name` if a killed run has left it: if it looks like the file of a run (`is_own`),
+/// and is not locked. Returns `Left` if the file does not look like that, can't be opened, or can't be tested for a
+/// lock. Returns `Busy` if the file was removed, is locked, or can't be examined any more. Fails if it can't be
 /// removed.
 fn clear(rt: &HostRuntime, name: &str) -> io::Result<Try> {
     let Ok(found) = fs::symlink_metadata(rt, name) else {
@@ -115,7 +116,7 @@ fn rest(rt: &HostRuntime) {
 }
 
 /// Locks an open file, and waits up to `wait` seconds if another run has locked it. Returns `false` if the other run
-/// still holds the lock then, and `true` otherwise, even if locking fails for another reason, such as a system without
+/// still holds the lock then, otherwise `true`. So `true` does not mean that the file is locked: the system may have no
 /// locks.
 pub(crate) fn waited(rt: &HostRuntime, file: &File, wait: u64) -> bool {
     for _ in 0..wait.saturating_mul(TRIES).saturating_add(1) {
@@ -127,9 +128,9 @@ pub(crate) fn waited(rt: &HostRuntime, file: &File, wait: u64) -> bool {
     false
 }
 
-/// Creates and locks the new file with the path `name`, and waits up to `wait` seconds if another run has locked it.
-/// Fails with `Busy` or `Left` after this time, with `Unwritten` if the file can't be created or a file that a killed
-/// run has left can't be removed, and with `Memory` if an allocation fails.
+/// Creates the new file with the path `name`, and locks it if the system has locks. Waits up to `wait` seconds if that is
+/// not possible yet, and then fails with `Busy` or `Left`. Fails with `Unwritten` if the file can't be created, or if a file that
+/// a killed run has left can't be removed.
 pub(crate) fn lock(rt: &HostRuntime, name: String, wait: u64) -> Result<Beside, Failure> {
     let mut is_left = false;
     for _ in 0..wait.saturating_mul(TRIES).saturating_add(1) {

@@ -6,10 +6,10 @@ ghost use Rattle.toml_span_files.specs.Diff as spec;
 
 use std::alloc::{AllocError, Global};
 
-/// The maximum number of lines to look ahead for a line that both texts have.
+/// The maximum number of lines to skip, in both texts together, before a line that both texts have.
 const WINDOW: usize = 256;
 
-/// One or more lines, and which text has them.
+/// Consecutive lines, possibly zero, and which text has them.
 #[derive(Clone, Copy)]
 pub enum Part<'t> {
     /// Lines of both texts.
@@ -20,7 +20,7 @@ pub enum Part<'t> {
     New(&'t str),
 }
 
-/// Returns the old text: the parts that are `Same` or `Old`, joined. Fails if an allocation fails.
+/// Returns the old text: the parts that are `Same` or `Old`, joined.
 fn old_text(alloc: Global, parts: &[Part<'_>]) -> Result<String, AllocError>
     ensures { IfOk result (λ text. string_bytes text ≡ flat_map spec.old_part parts.now) }
 {
@@ -34,7 +34,7 @@ fn old_text(alloc: Global, parts: &[Part<'_>]) -> Result<String, AllocError>
     Ok(text)
 }
 
-/// Returns the new text: the parts that are `Same` or `New`, joined. Fails if an allocation fails.
+/// Returns the new text: the parts that are `Same` or `New`, joined.
 fn new_text(alloc: Global, parts: &[Part<'_>]) -> Result<String, AllocError>
     ensures { IfOk result (λ text. string_bytes text ≡ flat_map spec.new_part parts.now) }
 {
@@ -72,8 +72,8 @@ fn shared_back(old: &[&str], new: &[&str]) -> usize {
     count
 }
 
-/// Returns whether both texts continue with the same line. If that line has at most two bytes without the white space
-/// around it, the lines after it must also be the same.
+/// Returns whether both texts continue with the same line. If the line has at most two bytes without the white space
+/// around it, the next lines must also be equal, or both be missing.
 fn go_on_alike(old: &[&str], new: &[&str]) -> bool {
     match (old, new) {
         ([one, old_rest @ ..], [other, new_rest @ ..]) => {
@@ -83,8 +83,8 @@ fn go_on_alike(old: &[&str], new: &[&str]) -> bool {
     }
 }
 
-/// Returns how many lines of each text to skip until both continue with the same line. The sum of both numbers is the
-/// lowest possible. Returns `None` if it would be more than `WINDOW`.
+/// Returns how many lines of each text to skip until both continue with the same line (`go_on_alike`). The sum of both
+/// numbers is the lowest possible from 1 to `WINDOW`. Returns `None` if no such sum is possible.
 fn next_alike(old: &[&str], new: &[&str]) -> Option<(usize, usize)> {
     if old.is_empty() || new.is_empty() {
         return None;
@@ -104,7 +104,8 @@ fn next_alike(old: &[&str], new: &[&str]) -> Option<(usize, usize)> {
     None
 }
 
-/// Appends lines of the old text and lines of the new text. Fails if an allocation fails.
+/// Appends the lines of `old` and then the lines of `new` to `parts`, as `Part::Old` and `Part::New`. If an allocation
+/// fails, `parts` has some of the lines.
 fn push_changed<'t>(
     old: &[&'t str],
     new: &[&'t str],
@@ -119,7 +120,8 @@ fn push_changed<'t>(
     Ok(())
 }
 
-/// Compares two lists of lines, and appends the parts. Fails if an allocation fails.
+/// Compares two lists of lines, and appends their parts to `parts`. If an allocation fails, `parts` has some of the
+/// parts.
 fn push_lines<'t>(
     old: &[&'t str],
     new: &[&'t str],
@@ -148,8 +150,7 @@ fn push_lines<'t>(
     Ok(())
 }
 
-/// Compares two texts, and returns their parts. `parts` checks afterwards that these join to the two texts. Fails if an
-/// allocation fails.
+/// Compares two texts, and returns their parts, which `splits` then checks.
 fn guessed<'t>(alloc: Global, old: &'t str, new: &'t str) -> Result<Vec<Part<'t>>, AllocError> {
     let front = shared_front(old, new);
     let (same, old) = old.split_at_checked(front).unwrap_or(("", old));
@@ -174,7 +175,7 @@ fn guessed<'t>(alloc: Global, old: &'t str, new: &'t str) -> Result<Vec<Part<'t>
     Ok(parts)
 }
 
-/// Returns whether the parts join to the old text and to the new one. Fails if an allocation fails.
+/// Returns whether `parts` join to both texts: `old_text` to `old`, and `new_text` to `new`.
 fn splits(alloc: Global, old: &str, new: &str, parts: &[Part<'_>]) -> Result<bool, AllocError>
     ensures { IfOk result (λ does. IsTrue does → Splits old.now new.now parts.now) }
 {
@@ -183,8 +184,8 @@ fn splits(alloc: Global, old: &str, new: &str, parts: &[Part<'_>]) -> Result<boo
     Ok(has_old && has_new)
 }
 
-/// Compares two texts, and returns their lines in order: those that both texts have, and those that only one has. Fails
-/// only if an allocation fails.
+/// Compares two texts line by line, and returns their parts in order. The parts `Same` and `Old` join to `old`, and the
+/// parts `Same` and `New` to `new`. Fails if an allocation fails.
 pub fn parts<'t>(alloc: Global, old: &'t str, new: &'t str) -> Result<Vec<Part<'t>>, AllocError>
     ensures spelled { IfOk result (λ parts. Splits old.now new.now parts.items) }
 {

@@ -21,12 +21,12 @@ pub struct Options {
     pub is_forced: bool,
     /// Whether to write into the file itself. The file then keeps its owner, its hard links, its access control list
     /// and its extended attributes, and its directory need not be writable. But a run that is killed while it writes
-    /// leaves a part of the old text and a part of the new one.
+    /// leaves a part of the old text and a part of the new text.
     pub is_in_place: bool,
 }
 
 impl Options {
-    /// Waits for 5 seconds, and sets neither `is_forced` nor `is_in_place`.
+    /// Waits for 5 seconds. Neither `is_forced` nor `is_in_place` is set.
     pub const USUAL: Options = Options {
         wait: 5,
         is_forced: false,
@@ -34,17 +34,18 @@ impl Options {
     };
 }
 
-/// A file of the file system, as an edit reads and replaces it.
+/// A file of the file system, for an edit.
 ///
-/// The new text is written to a new file in the same directory, which then replaces the file. Access control lists and
-/// extended attributes are lost, unless the file is written in place, since this program can't read them.
+/// The new text is written to a new file in the same directory, which then replaces the file. The new file has no
+/// access control list and no extended attributes, since this program can't read those of the old file. A file that is
+/// written in place keeps its own.
 #[derive(Drop)]
 pub struct Disk<'r> {
     rt: &'r HostRuntime,
     /// The path of the file, after all links have been followed.
     place: String,
     options: Options,
-    /// The file, as it was when it was first read.
+    /// The metadata of the file when it was last read. `None` if it has not been read.
     found: Option<Metadata>,
     beside: Option<Beside>,
     /// `open`: the file itself, to be written in place. `ready`: the new text.
@@ -52,7 +53,7 @@ pub struct Disk<'r> {
     ready: Vec<u8>,
 }
 
-/// Checks that this is a regular file. Fails with `Directory` or `NotRegular` if not.
+/// Checks that `found` is the metadata of a regular file. Fails with `Directory` or `NotRegular` if not.
 fn check_kind(found: &Metadata) -> Result<(), Failure> {
     if found.is_dir() {
         Err(Failure::Directory)
@@ -63,8 +64,9 @@ fn check_kind(found: &Metadata) -> Result<(), Failure> {
     }
 }
 
-/// Checks that a file may be edited with these options. Fails if it is not a regular file, if it is read-only and the
-/// edit is not forced, or if it has other hard links and is not written in place.
+/// Checks that a file with the metadata `found` may be edited. Fails if it is not a regular file (`check_kind`). Fails
+/// with `ReadOnly` if it is read-only, unless `is_forced` is set, and with `Linked` if it has other hard links, unless
+/// `is_in_place` is set.
 fn check(found: &Metadata, options: Options) -> Result<(), Failure> {
     check_kind(found)?;
     if found.permissions().readonly() && !options.is_forced {
@@ -105,9 +107,9 @@ fn beside_or_none(
     }
 }
 
-/// Gives the new file `file` the owner and group of the old one, whose metadata is `found`. Returns the mode to give
-/// it. If the owner or group can't be kept, fails with `Owner` or, if `is_forced` is set, returns the mode without
-/// set-id bits. Fails with `Unwritten` if the metadata of `file` can't be read.
+/// Gives the new file `file` the owner and group of the old file, whose metadata is `found`. Returns the mode for the
+/// new file. If the owner or group can't be kept, fails with `Owner` or, if `is_forced` is set, returns only the
+/// permission bits of the mode, without set-id bits. Fails with `Unwritten` if the metadata of `file` can't be read.
 fn keep_owner(file: &File, found: &Metadata, is_forced: bool) -> Result<u32, Failure> {
     let new = file.metadata().map_err(unwritten)?;
     let mode = found.permissions().mode();
@@ -121,9 +123,9 @@ fn keep_owner(file: &File, found: &Metadata, is_forced: bool) -> Result<u32, Fai
     }
 }
 
-/// Writes the text to a new file, and gives it the owner, group and mode of the old one, whose metadata is `found`.
-/// Fails with `Unwritten` if the text can't be written or the mode can't be set and, unless `is_forced`, with `Owner`
-/// if the owner or group can't be kept.
+/// Writes the text to a new file, and gives it the owner, group and mode of the old file, whose metadata is `found`.
+/// Fails with `Unwritten` if the file can't be written, and with `Owner` as `keep_owner` does. The file may then have a
+/// part of the text.
 fn fill(file: &mut File, found: &Metadata, text: &[u8], is_forced: bool) -> Result<(), Failure> {
     file.write_all(text).map_err(unwritten)?;
     file.sync_all().map_err(unwritten)?;
@@ -132,8 +134,7 @@ fn fill(file: &mut File, found: &Metadata, text: &[u8], is_forced: bool) -> Resu
         .map_err(unwritten)
 }
 
-/// Reads a file, up to its end or until more than `LIMIT` bytes have been read. Fails with `Unread` if a read fails,
-/// and with `Memory` if an allocation fails.
+/// Reads a file, up to its end or until more than `LIMIT` bytes have been read. Fails with `Unread` if a read fails.
 fn front_of(alloc: Global, file: &mut File) -> Result<Vec<u8>, Failure> {
     let mut bytes = Vec::new(alloc);
     let mut buf = [0u8; 8192];
@@ -151,10 +152,9 @@ fn front_of(alloc: Global, file: &mut File) -> Result<Vec<u8>, Failure> {
     Ok(bytes)
 }
 
-/// If the text is longer than the file, appends the bytes of the text beyond the file's length to the file, so that a
-/// full disk is noticed while the file still has its old bytes. If the file can't be examined or written, cuts it to its
-/// old length and fails with `Memory` if an allocation failed, otherwise with `Unwritten`. Fails with `Damaged` if the
-/// file can't be cut.
+/// Appends the bytes of `text` beyond the file's length to the file, so that a full disk is noticed while the old bytes
+/// are still there. Fails with `Unwritten` if the file can't be examined or written, after cutting it to its old
+/// length. Fails with `Damaged` if the file can't be cut.
 fn extend(file: &mut File, text: &[u8]) -> Result<(), Failure> {
     let length = file.metadata().map_err(unwritten)?.len();
     let tail = text
@@ -171,7 +171,7 @@ fn extend(file: &mut File, text: &[u8]) -> Result<(), Failure> {
 }
 
 /// Overwrites a file with a text that is not longer than the file. Fails if the file can't be written. The file may
-/// then have a part of the new text and a part of the old one.
+/// then have a part of the new text and a part of the old text.
 fn overwrite(file: &mut File, text: &[u8]) -> io::Result<()> {
     file.seek(SeekFrom::Start(0))?;
     file.write_all(text)?;
@@ -180,8 +180,9 @@ fn overwrite(file: &mut File, text: &[u8]) -> io::Result<()> {
 }
 
 impl<'r> Disk<'r> {
-    /// Returns the file with the path `name` or, if that is a link, the file that it finally leads to. Fails if links
-    /// can't be followed.
+    /// Returns the file with the path `name` or, if that is a link, the file to which the link finally leads. Fails
+    /// with `Unread` if a path can't be examined, or if `name` leads through more than 40 links. Fails with `Memory` if
+    /// an allocation fails.
     pub fn new(rt: &'r HostRuntime, name: &str, options: Options) -> Result<Disk<'r>, Failure> {
         Ok(Disk {
             rt,
@@ -195,8 +196,7 @@ impl<'r> Disk<'r> {
     }
 
     /// Opens the file to write it in place, and locks it, since there may be no new file to lock. Fails with
-    /// `Unwritten` if the file can't be opened, with `Busy` if another run keeps it locked, and with `Memory` if an
-    /// allocation fails.
+    /// `Unwritten` if the file can't be opened, and with `Busy` if another run keeps it locked.
     fn open_in_place(&mut self) -> Result<(), Failure> {
         let mut options = OpenOptions::new();
         let open = options
@@ -211,8 +211,8 @@ impl<'r> Disk<'r> {
         Ok(())
     }
 
-    /// Records which file has been opened for reading. Fails if it is not a regular file, or with `Changed` if it is
-    /// not the file that was opened before.
+    /// Records `found`, the metadata of the file that was opened for reading. Fails if it is not a regular file, or
+    /// with `Changed` if another file was opened before.
     fn recognize(&mut self, found: Metadata) -> Result<(), Failure> {
         check_kind(&found)?;
         if let Some(first) = &self.found

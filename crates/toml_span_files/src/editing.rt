@@ -8,7 +8,7 @@ use crate::disk::{Disk, Options};
 use crate::failure::{Failed, Failure};
 use crate::steps::Steps;
 
-/// Replaces the content of a file with a text. Fails with `Changed` if the content is not `bytes`, or with the failure
+/// Replaces the content of a file with `text`. Fails with `Changed` if the content is not `bytes`, or with the failure
 /// of a step.
 fn replace<S: Steps>(steps: &mut S, bytes: &[u8], text: &[u8]) -> Result<(), Failure>
     ensures ok { OnOk result (Replaces (S.past steps.old) (S.past steps.new) bytes.now text.now) }
@@ -23,8 +23,7 @@ fn replace<S: Steps>(steps: &mut S, bytes: &[u8], text: &[u8]) -> Result<(), Fai
 }
 
 /// Reads the file, calls `make` on its bytes, and replaces the content with the result. Returns whether the result
-/// differs from the bytes. Fails with the error of `make`, with the failure of a step, with `TooLong` if the file is
-/// longer than `LIMIT`, or with `ResultTooLong` if the result is.
+/// differs from the bytes. Fails as `edit` does.
 fn attempt<S: Steps, X, F: FnOnce(&[u8]) -> Result<String, X>>(
     steps: &mut S,
     make: F,
@@ -53,8 +52,8 @@ fn attempt<S: Steps, X, F: FnOnce(&[u8]) -> Result<String, X>>(
     }
 }
 
-/// Replaces the content of a file with a text, if the content is still `bytes`. Fails with `ResultTooLong` if the text
-/// is longer than `LIMIT`, with `Changed` if the content is not `bytes`, or with the failure of a step.
+/// Replaces the content of a file with `text`, if the content is still `bytes`. Fails with `ResultTooLong` if `text` is
+/// longer than `LIMIT`, with `Changed` if the content is not `bytes`, or with the failure of a step.
 fn put_read<S: Steps>(steps: &mut S, bytes: &[u8], text: &str) -> Result<(), Failure>
     ensures ok { OnOk result (Replaces (S.past steps.old) (S.past steps.new) bytes.now text.now) }
     ensures err { OnErr result (Keeps (S.past steps.old) (S.past steps.new)) }
@@ -69,10 +68,16 @@ fn put_read<S: Steps>(steps: &mut S, bytes: &[u8], text: &str) -> Result<(), Fai
 }
 
 /// Edits a file: locks and reads it, calls `make` on its bytes, and replaces the content with the result. Returns
-/// whether the result differs from the bytes. If it does not, nothing is written.
+/// whether the result differs from the bytes. If not, nothing is written.
 ///
-/// Fails with the error of `make`, or with the failure of a step. After an error the file is as before, except after
-/// `Failure::Damaged`.
+/// Fails with:
+///
+/// - the error of `make`;
+/// - the failure of a step;
+/// - `Changed` if another program changes the file in the meantime;
+/// - `TooLong` if the file is longer than `LIMIT`, `ResultTooLong` if the result is.
+///
+/// After an error the file is as before, except after `Failure::Damaged`.
 pub fn edit<S: Steps, X, F: FnOnce(&[u8]) -> Result<String, X>>(
     steps: &mut S,
     make: F,
@@ -91,8 +96,9 @@ pub fn edit<S: Steps, X, F: FnOnce(&[u8]) -> Result<String, X>>(
     result
 }
 
-/// Edits the file with this path: `edit_file(&rt, "a.toml", options, |bytes| ..)` calls the function on the bytes of
-/// the file, replaces the content with the result, and returns whether the two differ. Fails as `edit` does.
+/// Edits the file with the path `name`, as `edit` does. For example, `edit_file(&rt, "a.toml", options, |bytes| ..)`
+/// calls the function on the bytes of the file, and replaces the content with the result. Returns whether the result
+/// differs from the bytes. Fails as `edit` and `Disk::new` do.
 pub fn edit_file<X, F: FnOnce(&[u8]) -> Result<String, X>>(
     rt: &HostRuntime,
     name: &str,
@@ -106,9 +112,9 @@ pub fn edit_file<X, F: FnOnce(&[u8]) -> Result<String, X>>(
     edit(&mut disk, make)
 }
 
-/// Replaces the content of a file with a text, if the content is still `bytes`, which were read earlier. Fails with
-/// `Failure::Changed` if the file has other bytes now, or with the failure of a step. After an error the file is as
-/// before, except after `Failure::Damaged`.
+/// Replaces the content of a file with `text`, if the content is still `bytes`, which were read earlier. Fails with
+/// `Failure::Changed` if the file has other bytes now, with `Failure::ResultTooLong` if `text` is longer than `LIMIT`,
+/// or with the failure of a step. After an error the file is as before, except after `Failure::Damaged`.
 pub fn put<S: Steps>(steps: &mut S, bytes: &[u8], text: &str) -> Result<(), Failure>
     ensures ok { OnOk result (Replaces (S.past steps.old) (S.past steps.new) bytes.now text.now) }
     ensures err { OnErr result (Keeps (S.past steps.old) (S.past steps.new)) }
@@ -122,8 +128,8 @@ pub fn put<S: Steps>(steps: &mut S, bytes: &[u8], text: &str) -> Result<(), Fail
     result
 }
 
-/// Replaces the content of the file with this path with a text, if the content is still `bytes`, which were read
-/// earlier. Fails as `put` does.
+/// Replaces the content of the file with the path `name`, as `put` does, if the content is still `bytes`. Fails as
+/// `put` and `Disk::new` do.
 pub fn put_file(
     rt: &HostRuntime,
     name: &str,

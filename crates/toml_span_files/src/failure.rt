@@ -25,16 +25,18 @@ pub enum Failure {
     Linked,
     /// The new file can't be given the owner or group of the old one.
     Owner(io::Error),
-    /// Another run still has a lock on the file with this path, after the time to wait.
+    /// After the time to wait, another run still has a lock on the file with this path.
     Busy(String),
-    /// There is a file with the path of the new file. It is not locked, and it is not clear whether a run has left it.
+    /// There is a file with this path, where the new file would be created, and it is not clear whether a run has left
+    /// the file.
     Left(String),
     /// Another program has changed the file in the meantime.
     Changed,
-    /// The new text can't be written.
+    /// The new file can't be created, written or renamed, or the file can't be opened or extended to be written in
+    /// place.
     Unwritten(io::Error),
-    /// An error occurred while the file was written in place: it may have a part of the new text and a part of the old
-    /// one.
+    /// An error occurred while the file was written in place. The file may have a part of the new text and a part of
+    /// the old text.
     Damaged(io::Error),
 }
 
@@ -81,8 +83,8 @@ pub(crate) fn unwritten(error: io::Error) -> Failure {
     }
 }
 
-/// Writes the reason without a full stop. For an error of the system, this is its message. Paths are not escaped, so
-/// they may have control characters.
+/// Writes the reason without a full stop. System errors have the system's message. Paths are not escaped, so they may
+/// have control characters.
 impl Display for Failure {
     fn fmt<W: Write>(&self, f: &mut Formatter<W>) -> fmt::Result {
         match self {

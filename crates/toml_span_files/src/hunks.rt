@@ -14,7 +14,7 @@ struct Range {
     count: usize,
 }
 
-/// Hunks under construction.
+/// Hunks under construction. If an allocation fails, they are dropped.
 #[derive(Drop)]
 struct Hunks<'t> {
     /// The complete hunks.
@@ -23,8 +23,8 @@ struct Hunks<'t> {
     body: String,
     /// Whether the current hunk has a change.
     is_open: bool,
-    /// The unchanged lines since the last change or, if no hunk is open, the last three of them. At most seven lines
-    /// wait, so removing the first one moves few lines.
+    /// The unchanged lines since the last change or, if no hunk is open, the last three of them. There are at most
+    /// seven.
     waiting: Vec<&'t str>,
     old: Range,
     new: Range,
@@ -36,14 +36,14 @@ impl Range {
         self.count = self.count.saturating_add(1);
     }
 
-    /// Moves on to the next hunk, which begins `more` lines after the end of this one.
+    /// Moves on to the next hunk, which begins `more` lines after the end of this hunk.
     fn pass(&mut self, more: usize) {
         self.before = self.before.saturating_add(self.count).saturating_add(more);
         self.count = 0;
     }
 
-    /// Appends the range in the form of `diff`: the number of the first line, counted from 1, and the number of lines.
-    /// Fails if an allocation fails.
+    /// Appends the range to `out` in the form of `diff`: the number of the first line, counted from 1, a comma, and the
+    /// number of lines. If the range is empty, the first number is the number of lines before the hunk.
     fn push(self, out: &mut String) -> Result<(), AllocError> {
         let first = if self.count == 0 {
             self.before
@@ -56,7 +56,8 @@ impl Range {
 }
 
 impl<'t> Hunks<'t> {
-    /// Appends a line to the hunk, with its mark (`-`, `+` or a space) before it. Fails if an allocation fails.
+    /// Appends a line to the hunk, after its mark (`-`, `+` or a space). A line without a line end gets one, and a
+    /// remark below it.
     fn push(&mut self, mark: char, line: &str) -> Result<(), AllocError> {
         if mark != '+' {
             self.old.count();
@@ -72,7 +73,7 @@ impl<'t> Hunks<'t> {
         Ok(())
     }
 
-    /// Appends the first of the waiting lines to the hunk, at most `most` of them. Fails if an allocation fails.
+    /// Moves the first of the waiting lines to the hunk, at most `most` of them.
     fn push_waiting(&mut self, most: usize) -> Result<(), AllocError> {
         for _ in 0..most {
             if self.waiting.is_empty() {
@@ -84,14 +85,15 @@ impl<'t> Hunks<'t> {
         Ok(())
     }
 
-    /// Appends a line that only one of the texts has, with its mark `-` or `+`. Fails if an allocation fails.
+    /// Appends the waiting lines to the hunk, and then a line of only one text, with its mark `-` or `+`. Opens the
+    /// hunk.
     fn change(&mut self, mark: char, line: &str) -> Result<(), AllocError> {
         self.push_waiting(usize::MAX)?;
         self.is_open = true;
         self.push(mark, line)
     }
 
-    /// Ends the hunk, and appends it to the output. Fails if an allocation fails.
+    /// Ends the hunk, with up to three of the waiting lines, and appends it to `out`.
     fn close(&mut self) -> Result<(), AllocError> {
         self.push_waiting(CONTEXT)?;
         self.out.push_str("@@ -")?;
@@ -107,7 +109,8 @@ impl<'t> Hunks<'t> {
         Ok(())
     }
 
-    /// Appends a line that both texts have. Fails if an allocation fails.
+    /// Adds a line of both texts to the waiting lines. An open hunk ends if more than six lines wait. Without an open
+    /// hunk, only the last three lines wait.
     fn same(&mut self, line: &'t str) -> Result<(), AllocError> {
         self.waiting.push(line)?;
         if self.is_open && self.waiting.len() > CONTEXT * 2 {
@@ -121,7 +124,7 @@ impl<'t> Hunks<'t> {
         Ok(())
     }
 
-    /// Appends the lines of a part to the hunks. Fails if an allocation fails.
+    /// Adds the lines of a part to the hunks.
     fn part(&mut self, part: Part<'t>) -> Result<(), AllocError> {
         match part {
             Part::Same(lines) => {
@@ -145,8 +148,8 @@ impl<'t> Hunks<'t> {
 }
 
 /// Returns the difference of two texts in the unified format, with three lines of context, or an empty text if they are
-/// equal. `name` is written as the path in both head lines. Nothing is escaped, so the result may have control
-/// characters. Fails only if an allocation fails.
+/// equal. Both head lines have `name` as the path. Nothing is escaped, so the result may have control characters. Fails
+/// if an allocation fails.
 pub fn unified(alloc: Global, name: &str, old: &str, new: &str) -> Result<String, AllocError> {
     let parts = parts(alloc, old, new)?;
     let none = Range {

@@ -1,5 +1,4 @@
-//! Edits one file: locks it against other runs, reads it, and replaces it as a whole or not at all. Also shows the
-//! lines that an edit changes.
+//! Edits one file: locks it against other runs, reads it, and replaces it. Also shows the lines that an edit changes.
 #![tactic(auto)]
 
 mod beside;
@@ -18,5 +17,5 @@ pub use failure::{Failed, Failure};
 pub use hunks::unified;
 pub use steps::Steps;
 
-/// The maximum length of a file, before and after an edit: 16 MiB.
+/// The maximum number of bytes of a file, before and after an edit: 16 MiB.
 pub const LIMIT: usize = 16_777_216;

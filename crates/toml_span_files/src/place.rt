@@ -10,10 +10,11 @@ const PATHS: usize = 41;
 /// The suffix of the name of a new file.
 const ENDING: &str = ".toml-span";
 
-/// The name of the new file begins with at most this many bytes of the file's name.
+/// The maximum number of bytes of a file's name that are kept in the name of the new file.
 const KEPT: usize = 128;
 
-/// Splits a path after its last slash: returns the directory with its slash, or an empty text, and the name.
+/// Splits a path after its last slash, and returns the directory, with the slash, and the name. Without a slash, the
+/// directory is empty.
 fn split(name: &str) -> (&str, &str) {
     match name.rsplit_once('/') {
         Some((folder, rest)) => (
@@ -24,7 +25,7 @@ fn split(name: &str) -> (&str, &str) {
     }
 }
 
-/// Returns the directory of a file, as a path that can be opened.
+/// Returns the directory of a file, or `.` if the path of the file has no slash.
 pub(crate) fn folder(place: &str) -> &str {
     match split(place).0 {
         "" => ".",
@@ -32,8 +33,8 @@ pub(crate) fn folder(place: &str) -> &str {
     }
 }
 
-/// Returns the path that a link leads to. `link` is the path of the link, and `target` the path that the link contains.
-/// Fails if an allocation fails.
+/// Returns the path to which a link leads. `link` is the path of the link, and `target` the path that the link
+/// contains. A relative `target` starts from the directory of `link`.
 fn led_to(alloc: Global, link: &str, target: &str) -> Result<String, AllocError> {
     if target.starts_with('/') {
         return String::from_str(alloc, target);
@@ -43,8 +44,8 @@ fn led_to(alloc: Global, link: &str, target: &str) -> Result<String, AllocError>
     Ok(place)
 }
 
-/// Follows the links of a path, and returns the path of the file or directory to which they finally lead. Fails if a
-/// path can't be examined, if `name` leads through more than 40 links, or if an allocation fails.
+/// Follows the links of a path, and returns the path of the file or directory to which they finally lead. Fails with
+/// `Unread` if a path can't be examined, or if `name` leads through more than 40 links.
 pub(crate) fn place_of(rt: &HostRuntime, name: &str) -> Result<String, Failure> {
     let mut place = String::from_str(rt.alloc(), name)?;
     for _ in 0..PATHS {
@@ -58,8 +59,8 @@ pub(crate) fn place_of(rt: &HostRuntime, name: &str) -> Result<String, Failure> 
     Err(Failure::Unread(io::Error::from(ErrorKind::FilesystemLoop)))
 }
 
-/// Returns the path of the new file beside a file: the file's name, or its beginning if it is long, and `.toml-span`.
-/// Fails if an allocation fails.
+/// Returns the path of the new file beside the file `place`: the file's name, or its beginning if it is long, and
+/// `.toml-span`. If that is `place` itself, `~` is added.
 pub(crate) fn beside(alloc: Global, place: &str) -> Result<String, AllocError> {
     let (folder, name) = split(place);
     let mut new = String::from_str(alloc, folder)?;

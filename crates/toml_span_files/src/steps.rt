@@ -4,14 +4,14 @@ ghost use Rattle.toml_span_files.specs.Past.{Past, with_ready, with_replaced, wi
 
 use crate::failure::Failure;
 
-/// A file that can be read and replaced step by step. The steps are made in the order of their declaration. `discard`
-/// may follow any of them, and ends the edit.
+/// A file that can be read and replaced step by step. An edit calls `begin`, `read`, `prepare`, `read` again, and
+/// `replace`. It may stop after any of these steps. At the end it calls `discard`.
 pub trait Steps {
     /// What has been read, prepared and replaced so far, if it is known.
     ghost past: { Self → Option Past };
 
-    /// Locks the file against other runs, and creates the file that will hold the new text. Fails if that is not
-    /// possible.
+    /// Locks the file against other runs, and creates the file that will hold the new text, if one is needed. Fails if
+    /// that is not possible, or if the file must not be edited.
     fn begin(&mut self) -> Result<(), Failure>
         ensures { past self.new ≡ past self.old };
 
@@ -26,12 +26,12 @@ pub trait Steps {
         ensures ready { OnOk result (past self.new ≡ option_map (with_ready text.now) (past self.old)) }
         ensures err { OnErr result (past self.new ≡ past self.old) };
 
-    /// Replaces the content of the file with the text of `prepare`. Fails if that is not possible.
+    /// Replaces the content of the file with the text of `prepare`. Fails if the file can't be replaced.
     fn replace(&mut self) -> Result<(), Failure>
         ensures replaced { OnOk result (past self.new ≡ option_map with_replaced (past self.old)) }
         ensures err { OnErr result (past self.new ≡ past self.old) };
 
-    /// Removes the file that `begin` has created, if it still exists, and unlocks the file.
+    /// Removes the file that `begin` has created, if it still exists, and unlocks the edited file.
     fn discard(&mut self)
         ensures { past self.new ≡ past self.old };
 }

@@ -15,8 +15,7 @@ use std::alloc::{AllocError, Global};
 use toml_span_lex::stop::Stop;
 use toml_span_read::{Section, read_sections};
 
-/// Returns the sections of a text. Fails with `FormatError::Invalid` if it can't be read, and with `Stop::Memory` if an
-/// allocation fails.
+/// Returns the sections of a text. Fails with `FormatError::Invalid` if the text can't be read.
 pub(crate) fn sections_of<'t>(
     alloc: Global,
     text: &'t str,
@@ -39,7 +38,7 @@ pub(crate) fn mark_of(text: &str) -> &'static str {
     }
 }
 
-/// Returns the text in its new layout. Fails if an allocation fails.
+/// Returns the text in its new layout. The text must be readable as TOML.
 fn laid_out(alloc: Global, text: &str, options: Options) -> Result<String, AllocError> {
     let read = pieces_of(alloc, text)?;
     print(
@@ -51,7 +50,7 @@ fn laid_out(alloc: Global, text: &str, options: Options) -> Result<String, Alloc
     )
 }
 
-/// Returns the comments of a text, or `None` if it can't be split into tokens. Fails if an allocation fails.
+/// Returns the comments of a text, or `None` if the text can't be split into tokens.
 pub(crate) fn comments_read<'t>(
     alloc: Global,
     text: &'t str,
@@ -73,8 +72,8 @@ pub(crate) fn same_texts(a: &[&str], b: &[&str]) -> bool
     a == b
 }
 
-/// Returns whether two texts have the same comments in the same order. Returns false if one of them can't be split into
-/// tokens. Fails if an allocation fails.
+/// Returns whether two texts have the same comments in the same order. Returns `false` if a text can't be split into
+/// tokens.
 fn same_comments(alloc: Global, old: &str, new: &str) -> Result<bool, AllocError>
     ensures { IfOk result (λ same. IsTrue same → spec.SameComments old.now new.now) }
 {
@@ -87,8 +86,8 @@ fn same_comments(alloc: Global, old: &str, new: &str) -> Result<bool, AllocError
     Ok(same_texts(before.as_slice(), after.as_slice()))
 }
 
-/// Returns whether the text `new` has these sections, without regard to spans, and the comments of `text`. Returns
-/// false if `new` can't be read. Fails if an allocation fails.
+/// Returns whether `new` has the sections of `text`, except for their spans, and the comments of `text`. `sections` are
+/// the sections of `text`. Returns `false` if `new` can't be read.
 fn is_same(
     alloc: Global,
     text: &str,
@@ -111,8 +110,9 @@ fn is_same(
 
 /// Formats a document, and returns the new text.
 ///
-/// The result has the same sections, keys, values and comments as `text`, all in the same order. Only white space, line
-/// ends and commas differ. Spaces and tabs at the end of a comment do not count as part of it.
+/// The result has the same sections, keys, values and comments as `text`, all in the same order. Comments around the
+/// `=` in an inline table are moved before the key. Apart from that, only white space, line ends and commas differ.
+/// Spaces and tabs at the end of a comment count as white space.
 ///
 /// # Errors
 ///

@@ -3,7 +3,7 @@ use crate::pieces::{Gap, Kind, Piece};
 use std::alloc::{AllocError, Global};
 use toml_span_read::{DottedKey, Section};
 
-/// Returns the names of the parts of a key. Fails if an allocation fails.
+/// Returns the names of the parts of a key.
 pub(crate) fn names_of<'s>(
     alloc: Global,
     key: &'s DottedKey<'_>,
@@ -16,7 +16,7 @@ pub(crate) fn names_of<'s>(
     Ok(names)
 }
 
-/// An assignment and the comments that move with it. Entries are ordered by the names of their keys.
+/// An assignment, and the comments that move with it. Entries are ordered by the names of their keys.
 #[derive(Drop)]
 #[derive_where(PartialEq, Eq, PartialOrd, Ord)]
 struct Entry<'s> {
@@ -28,7 +28,7 @@ struct Entry<'s> {
     end: usize,
 }
 
-/// A sort in progress.
+/// A sort in progress. If an allocation fails, the sort ends without a result.
 #[derive(Drop)]
 struct Sorter<'p, 't, 's> {
     pieces: &'p [Piece<'t>],
@@ -39,13 +39,12 @@ struct Sorter<'p, 't, 's> {
     /// assignment that begins there, below its comments. `None` if no assignment has begun.
     start: usize,
     key: Option<Vec<&'s str>>,
-    /// Whether all lines so far from `start` are comment lines.
+    /// Whether there are lines from `start` on, and all of them are comment lines.
     is_comment: bool,
 }
 
 impl Sorter<'_, '_, '_> {
-    /// Appends the pieces at the positions `start..end` to the result. The first of them gets the gap `gap`. Fails if
-    /// an allocation fails.
+    /// Appends the pieces at the positions `start..end` to `sorted`, with `gap` before the first of them.
     fn copy(&mut self, start: usize, end: usize, gap: Gap) -> Result<(), AllocError> {
         for (at, piece) in self
             .pieces
@@ -63,7 +62,7 @@ impl Sorter<'_, '_, '_> {
         Ok(())
     }
 
-    /// Returns the gap before the piece at a position, or `NextLine` at the end.
+    /// Returns the gap before the piece at the position `at`, or `NextLine` after the last piece.
     fn gap_at(&self, at: usize) -> Gap {
         match self.pieces.get(at) {
             Some(piece) => piece.gap,
@@ -71,7 +70,8 @@ impl Sorter<'_, '_, '_> {
         }
     }
 
-    /// Ends a run of entries: sorts them, and appends their pieces to the result. Fails if an allocation fails.
+    /// Sorts the entries of `run`, appends their pieces to `sorted`, and clears `run`. The gap before the first entry
+    /// stays where it was.
     fn end_run(&mut self, alloc: Global) -> Result<(), AllocError> {
         let mut run = Vec::new(alloc);
         run.append(&mut self.run)?;
@@ -87,8 +87,8 @@ impl Sorter<'_, '_, '_> {
         Ok(())
     }
 
-    /// Ends what began at `self.start`, up to the position `end`: adds an assignment to the run, or ends the run and
-    /// appends comments or a header to the result. Fails if an allocation fails.
+    /// Ends the lines whose pieces are at the positions `self.start..end`, and sets `start` to `end`. An assignment is
+    /// added to `run`, with its comments. Anything else ends the run, and is appended to `sorted`.
     fn end_entry(&mut self, alloc: Global, end: usize) -> Result<(), AllocError> {
         let start = self.start;
         self.start = end;
@@ -105,9 +105,8 @@ impl Sorter<'_, '_, '_> {
         }
     }
 
-    /// Begins a line with the piece at the position `at`, and ends the entry above it. If the lines above are only
-    /// comments, they belong to this line and are not ended. But if a blank line or a header begins here, it ends both
-    /// such comments and the run. Fails if an allocation fails.
+    /// Begins a line with the piece at the position `at`, and ends the entry above the line. Comments right above the
+    /// line belong to it, and are not ended. But a blank line or a header ends both the comments above and the run.
     fn begin_line(&mut self, alloc: Global, at: usize) -> Result<(), AllocError> {
         let Some(piece) = self.pieces.get(at) else {
             return Ok(());
@@ -125,7 +124,7 @@ impl Sorter<'_, '_, '_> {
 }
 
 /// Returns the pieces of a document, with the assignments between two blank lines or headers sorted by their keys.
-/// Fails if an allocation fails.
+/// `sections` are the sections of the document.
 pub(crate) fn sorted_lines<'t>(
     alloc: Global,
     sections: &[Section<'_>],

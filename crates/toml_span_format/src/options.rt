@@ -4,14 +4,15 @@ ghost use Rattle.std.specs.Prelude.{◌≡◌};
 /// How `format` lays a document out. `Options::new()` returns the defaults.
 #[derive(Clone, Copy, PartialEq, Eq, Debug)]
 pub struct Options {
-    /// The width of a line in characters: an array goes on one line if the line is then at most this wide.
+    /// The width of a line in characters. An array is written on one line only if it ends within this width.
     pub width: usize,
-    /// The number of spaces by which elements on lines of their own are indented, per level.
+    /// The number of spaces by which elements on lines of their own are indented, per level. No line is indented by
+    /// more than `width` spaces.
     pub indent: usize,
 }
 
 impl Options {
-    /// Returns the defaults: 80 columns and 4 spaces.
+    /// Returns the defaults: a width of 80 characters, and an indent of 4 spaces.
     pub fn new() -> Self
         ensures { result ≡ record { width = 80; indent = 4 } }
     {
@@ -41,7 +42,7 @@ impl Options {
 impl Default for Options {
     ghost is_default = { λ options. options ≡ record { width = 80; indent = 4 } };
 
-    /// Returns the defaults: 80 columns and 4 spaces.
+    /// Returns the defaults: a width of 80 characters, and an indent of 4 spaces.
     fn default() -> Self {
         Options::new()
     }

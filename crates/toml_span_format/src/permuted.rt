@@ -10,7 +10,7 @@ use crate::same::{same_keys, same_pair};
 use std::alloc::{AllocError, Global};
 use toml_span_read::{Assignment, Section};
 
-/// An assignment with the names of its key, by which it is ordered.
+/// An assignment and the names of its key, by which it is ordered.
 #[derive(Drop)]
 #[derive_where(PartialEq, Eq, PartialOrd, Ord)]
 struct Named<'s, 't> {
@@ -19,7 +19,7 @@ struct Named<'s, 't> {
     assignment: &'s Assignment<'t>,
 }
 
-/// Returns the assignments, sorted by the names of their keys. Fails if an allocation fails.
+/// Returns the assignments, sorted by the names of their keys.
 fn sorted<'s, 't>(
     alloc: Global,
     assignments: &'s [Assignment<'t>],
@@ -36,7 +36,7 @@ fn sorted<'s, 't>(
     Ok(found)
 }
 
-/// Returns whether two sorted lists have equal assignments, without regard to spans.
+/// Returns whether two lists have equal assignments in the same order, without regard to spans.
 fn same_named(a: &[Named<'_, '_>], b: &[Named<'_, '_>]) -> bool
     ensures { IsTrue result ↔ (map bare_assignment (map (λ n. parsed_assignment n.assignment.now) a.now)
         ≡ map bare_assignment (map (λ n. parsed_assignment n.assignment.now) b.now)) }
@@ -53,7 +53,7 @@ fn same_named(a: &[Named<'_, '_>], b: &[Named<'_, '_>]) -> bool
 }
 
 /// Returns whether two lists have equal assignments, in any order, without regard to spans. May return `false` if
-/// assignments with the same key are in different orders. Fails if an allocation fails.
+/// assignments with the same key are in different orders.
 fn permuted_pairs(
     alloc: Global,
     a: &[Assignment<'_>],
@@ -67,8 +67,7 @@ fn permuted_pairs(
     Ok(same_named(before.as_slice(), after.as_slice()))
 }
 
-/// Returns whether two sections are equal, without regard to spans and the order of their assignments. Fails if an
-/// allocation fails.
+/// Returns whether two sections are equal, without regard to spans and the order of assignments (`permuted_pairs`).
 fn permuted_section(alloc: Global, a: &Section<'_>, b: &Section<'_>) -> Result<bool, AllocError>
     ensures { IfOk result (λ same. IsTrue same → spec.PermutedSection (parsed_section a.now) (parsed_section b.now)) }
 {
@@ -79,7 +78,7 @@ fn permuted_section(alloc: Global, a: &Section<'_>, b: &Section<'_>) -> Result<b
 }
 
 /// Returns whether two lists of sections are equal, without regard to spans and the order of the assignments in each
-/// section. Fails if an allocation fails.
+/// section (`permuted_pairs`).
 pub(crate) fn permuted_sections(
     alloc: Global,
     a: &[Section<'_>],

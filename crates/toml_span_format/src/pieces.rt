@@ -1,6 +1,6 @@
 //! The pieces of a document: everything except white space, line ends and commas.
 
-/// What separates a piece from the one before it in the source. Commas do not count.
+/// What separates a piece from the previous piece in the source. Commas do not count.
 #[derive(Clone, Copy, PartialEq, Eq)]
 pub(crate) enum Gap {
     /// No line end.
@@ -20,7 +20,7 @@ impl Gap {
         }
     }
 
-    /// Returns this gap, or `NextLine` if it has no line end.
+    /// Returns this gap, or `NextLine` if the gap has no line end.
     pub(crate) fn on_new_line(self) -> Gap {
         match self {
             Gap::SameLine => Gap::NextLine,
@@ -32,9 +32,9 @@ impl Gap {
 /// How an array or inline table is to be written.
 #[derive(Clone, Copy, PartialEq, Eq)]
 pub(crate) enum Form {
-    /// On one line if that needs no more than this many columns, otherwise one element per line.
+    /// On one line if the line has room for this many columns, otherwise one element per line.
     IfFits(usize),
-    /// On one line, except for arrays in it that are written one element per line.
+    /// On one line, except for arrays inside, which may be written one element per line.
     OneLine,
     /// One element per line.
     Lines,
@@ -61,7 +61,7 @@ pub(crate) enum Kind {
     Comment,
 }
 
-/// A piece of a document, and what separates it from the one before it.
+/// A piece of a document, and the gap before it.
 #[derive(Clone, Copy)]
 pub(crate) struct Piece<'t> {
     pub(crate) kind: Kind,
@@ -73,7 +73,7 @@ pub(crate) struct Piece<'t> {
 }
 
 impl Piece<'_> {
-    /// Returns whether this is a comment that begins a line.
+    /// Returns whether the piece is a comment that begins a line.
     pub(crate) fn is_own_comment(&self) -> bool {
         self.kind == Kind::Comment && self.gap != Gap::SameLine
     }

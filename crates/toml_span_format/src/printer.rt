@@ -8,7 +8,7 @@ use std::alloc::{AllocError, Global};
 enum Mode {
     /// On one line, with everything in it.
     Flat,
-    /// On one line, except for arrays in it that are printed one element per line.
+    /// On one line, except for arrays inside, which may be printed one element per line.
     OneLine,
     /// One element per line.
     Lines,
@@ -20,11 +20,11 @@ struct Frame {
     mode: Mode,
     is_table: bool,
     is_empty: bool,
-    /// The number of columns that must stay free after an array in it, for closing brackets and commas.
+    /// The number of columns to keep free after an element, for closing brackets and commas.
     reserved: usize,
 }
 
-/// A printer: the output so far, and what is open.
+/// The output so far, and what is open. If an allocation fails, the output is dropped.
 #[derive(Drop)]
 struct Printer {
     out: String,
@@ -36,16 +36,16 @@ struct Printer {
     /// The offset in `out` up to which `column` counts the columns of the current line.
     counted: usize,
     column: usize,
-    /// Whether anything has been printed.
+    /// Whether a line has begun.
     is_begun: bool,
-    /// `is_after_open`: whether the last piece is an opening bracket, or a comment after an opening bracket.
-    /// `is_after_equals`: whether the last piece is an equals sign.
+    /// `is_after_open`: whether an array or inline table has been opened with one element per line, and no line has
+    /// begun since then. `is_after_equals`: whether the last piece is an equals sign.
     is_after_open: bool,
     is_after_equals: bool,
 }
 
 impl Printer {
-    /// Writes a line end. Fails if an allocation fails.
+    /// Writes a line end.
     fn end_line(&mut self) -> Result<(), AllocError> {
         self.out.push_str(self.line_end)?;
         self.counted = self.out.len();
@@ -53,8 +53,8 @@ impl Printer {
         Ok(())
     }
 
-    /// Begins a line. If the gap has a blank line, writes a blank line first, except at the start and after an opening
-    /// bracket. Fails if an allocation fails.
+    /// Ends the current line, and begins a new one with its indentation. For `BlankLine`, writes a blank line between
+    /// the two, except after an opening bracket. At the start of the output, no line is ended.
     fn begin_line(&mut self, gap: Gap) -> Result<(), AllocError> {
         if self.is_begun {
             self.end_line()?;
@@ -71,7 +71,7 @@ impl Printer {
         Ok(())
     }
 
-    /// Returns the number of columns printed so far on the current line.
+    /// Returns the number of columns of the current line so far.
     fn column(&mut self) -> usize {
         let more = columns(self.out.as_str().get(self.counted..).unwrap_or(""));
         self.counted = self.out.len();
@@ -80,7 +80,7 @@ impl Printer {
     }
 
     /// Begins an element of the innermost open array or inline table: on a new line, or on the same line, after a comma
-    /// if it is not the first element. Fails if an allocation fails.
+    /// if there is an element before. Does nothing if no array or inline table is open.
     fn begin_element(&mut self, gap: Gap) -> Result<(), AllocError> {
         let Some(frame) = self.open.last_mut() else {
             return Ok(());
@@ -95,7 +95,8 @@ impl Printer {
         }
     }
 
-    /// Begins a value, which follows an equals sign or is an element. Fails if an allocation fails.
+    /// Begins a value. After an equals sign, the value continues the line; otherwise it is an element
+    /// (`begin_element`).
     fn begin_value(&mut self, gap: Gap) -> Result<(), AllocError> {
         if self.is_after_equals {
             self.is_after_equals = false;
@@ -104,8 +105,7 @@ impl Printer {
         self.begin_element(gap)
     }
 
-    /// Ends an element of the innermost open array or inline table, with a comma if its elements are on lines of their
-    /// own. Fails if an allocation fails.
+    /// Ends an element of the innermost open array or inline table. Writes a comma if each element has its own line.
     fn end_element(&mut self) -> Result<(), AllocError> {
         match self.open.last() {
             Some(
@@ -118,7 +118,7 @@ impl Printer {
         }
     }
 
-    /// Prints a comment, on its own line or at the end of the current line. Fails if an allocation fails.
+    /// Prints a comment, on its own line or at the end of the current line.
     fn comment(&mut self, piece: &Piece<'_>) -> Result<(), AllocError> {
         if piece.is_own_comment() {
             self.begin_line(piece.gap)?;
@@ -128,7 +128,7 @@ impl Printer {
         self.out.push_str(piece.text.trim_ascii_end())
     }
 
-    /// Prints the first part of a key. Fails if an allocation fails.
+    /// Prints the first part of a key.
     fn key(&mut self, piece: &Piece<'_>) -> Result<(), AllocError> {
         if self.open.is_empty() {
             self.begin_line(piece.gap)?;
@@ -138,7 +138,7 @@ impl Printer {
         self.out.push_str(piece.text)
     }
 
-    /// Prints a string, number, date or boolean. Fails if an allocation fails.
+    /// Prints a string, number, date or boolean.
     fn scalar(&mut self, piece: &Piece<'_>) -> Result<(), AllocError> {
         self.begin_value(piece.gap)?;
         let start = self.out.len();
@@ -171,7 +171,7 @@ impl Printer {
         }
     }
 
-    /// Prints an opening bracket or brace. Fails if an allocation fails.
+    /// Prints an opening bracket or brace.
     fn begin(&mut self, piece: &Piece<'_>, is_table: bool, form: Form) -> Result<(), AllocError> {
         self.begin_value(piece.gap)?;
         let mode = self.mode_of(form);
@@ -196,7 +196,7 @@ impl Printer {
         self.out.push_str(piece.text)
     }
 
-    /// Prints a closing bracket or brace. Fails if an allocation fails.
+    /// Prints a closing bracket or brace.
     fn close(&mut self, piece: &Piece<'_>) -> Result<(), AllocError> {
         match self.open.pop() {
             Some(frame) if frame.mode == Mode::Lines => {
@@ -210,7 +210,7 @@ impl Printer {
         self.end_element()
     }
 
-    /// Prints a piece. Fails if an allocation fails.
+    /// Prints a piece.
     fn piece(&mut self, piece: &Piece<'_>) -> Result<(), AllocError> {
         match piece.kind {
             Kind::Header => {
@@ -232,8 +232,8 @@ impl Printer {
     }
 }
 
-/// Returns the text of all pieces in their new layout. It begins with `mark`, a byte order mark or an empty string, and
-/// its lines end with `line_end`. Fails if an allocation fails.
+/// Returns the text of all pieces in their new layout. The text begins with `mark`, a byte order mark or an empty
+/// string, and its lines end with `line_end`.
 pub(crate) fn print(
     alloc: Global,
     mark: &str,

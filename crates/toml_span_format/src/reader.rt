@@ -6,7 +6,7 @@ use toml_span_lex::stop::Stop;
 use toml_span_lex::tokenizer::Tokenizer;
 use toml_span_lex::tokens::{Error, Token};
 
-/// Where the next tokens are.
+/// What the next tokens belong to.
 #[derive(Clone, Copy, PartialEq, Eq)]
 enum Place {
     /// A header, or the key of a line.
@@ -22,14 +22,13 @@ struct Frame {
     is_table: bool,
     /// The position of the piece that opens the array or inline table.
     at: usize,
-    /// The number of columns of its elements, with the equals signs of pairs but without commas.
+    /// The number of columns of the elements, with ` = ` in pairs, but without commas.
     width: usize,
     elements: usize,
-    /// Whether a comma follows its last element.
+    /// Whether a comma follows the last element.
     ends_in_comma: bool,
     has_comment: bool,
-    /// Whether the array or inline table has a line end outside its elements, or an element that is an inline table
-    /// without the form `OneLine`.
+    /// Whether the array or inline table directly contains a line end, or an inline table without the form `OneLine`.
     has_line_end: bool,
     /// Whether an element takes more than one line.
     has_lines: bool,
@@ -47,9 +46,8 @@ impl Frame {
         self.width.saturating_add(commas).saturating_add(brackets)
     }
 
-    /// Returns the form in which to write the array or inline table.
-    ///
-    /// An inline table on one line stays on one line, because TOML 1.0 allows no line ends in inline tables.
+    /// Returns the form in which to write the array or inline table. An inline table without line ends, comments and a
+    /// trailing comma stays on one line, because TOML 1.0 allows no line ends in inline tables.
     fn form(&self) -> Form {
         if self.has_comment || self.ends_in_comma {
             Form::Lines
@@ -63,12 +61,13 @@ impl Frame {
     }
 }
 
-/// A reader: the pieces so far, and what is open.
+/// The pieces read so far, and what is open. If an allocation fails, they are dropped.
 #[derive(Drop)]
 struct Reader<'t> {
     text: &'t str,
     pieces: Vec<Piece<'t>>,
-    /// The pieces of a pair's key, until its value begins: comments between the two are moved before the key.
+    /// The pieces of a key and its equals sign, until the value begins. Comments between the key and the value are
+    /// moved before the key.
     key: Vec<Piece<'t>>,
     open: Vec<Frame>,
     place: Place,
@@ -76,7 +75,8 @@ struct Reader<'t> {
     in_scalar: bool,
     /// What separates the next token from the last piece.
     gap: Gap,
-    /// Whether there is a comma on the current line. Such a line does not count as blank.
+    /// Whether there is a comma on the current line, after the last piece. A line with only a comma does not count as
+    /// blank.
     has_comma: bool,
     /// The first line end of the text, outside strings.
     line_end: Option<&'static str>,
@@ -91,8 +91,7 @@ pub(crate) struct Pieces<'t> {
 }
 
 impl<'t> Reader<'t> {
-    /// Returns the piece of a token that begins at the offset `start`, with the current gap before it, and starts a new
-    /// gap.
+    /// Returns a piece that begins at the offset `start`, with the current gap before it. Starts a new gap.
     fn piece(&mut self, kind: Kind, text: &'t str, start: usize) -> Piece<'t> {
         let gap = self.gap;
         self.gap = Gap::SameLine;
@@ -105,21 +104,21 @@ impl<'t> Reader<'t> {
         }
     }
 
-    /// Adds `by` to the number of columns of the innermost open array or inline table.
+    /// Adds `by` columns to the innermost open array or inline table, if there is one.
     fn widen(&mut self, by: usize) {
         if let Some(frame) = self.open.last_mut() {
             frame.width = frame.width.saturating_add(by);
         }
     }
 
-    /// Adds the columns of a text to the columns of the innermost open array or inline table.
+    /// Adds the columns of `text` to the innermost open array or inline table, if there is one.
     fn widen_by(&mut self, text: &str) {
         if let Some(frame) = self.open.last_mut() {
             frame.width = frame.width.saturating_add(columns(text));
         }
     }
 
-    /// Counts an element of the innermost open array or inline table.
+    /// Counts one more element of the innermost open array or inline table, if there is one.
     fn count(&mut self) {
         if let Some(frame) = self.open.last_mut() {
             frame.elements = frame.elements.saturating_add(1);
@@ -127,7 +126,7 @@ impl<'t> Reader<'t> {
         }
     }
 
-    /// Returns whether the innermost open array or inline table is an inline table.
+    /// Returns whether an inline table is open, and is the innermost open array or inline table.
     fn is_in_table(&self) -> bool {
         match self.open.last() {
             Some(frame) => frame.is_table,
@@ -135,7 +134,8 @@ impl<'t> Reader<'t> {
         }
     }
 
-    /// Processes the line end with this span: updates the gap and, outside arrays and inline tables, begins a line.
+    /// Adds the line end with this span to the gap, and records it if it is the first. Sets `has_line_end` of the
+    /// innermost open array or inline table. If none is open, the next token begins a line.
     fn line_end(&mut self, span: Span) {
         self.gap = if self.has_comma {
             self.gap.on_new_line()
@@ -156,8 +156,8 @@ impl<'t> Reader<'t> {
         }
     }
 
-    /// Processes a comment. If it is between a key and its value, it is moved before the key. Fails if an allocation
-    /// fails.
+    /// Appends a comment to `pieces`. A comment between a key and its value thus comes before the key, on a line of its
+    /// own.
     fn comment(&mut self, text: &'t str, start: usize) -> Result<(), AllocError> {
         let mut piece = self.piece(Kind::Comment, text, start);
         if let Some(key) = self.key.first_mut() {
@@ -171,8 +171,8 @@ impl<'t> Reader<'t> {
         Ok(())
     }
 
-    /// Begins a header. Puts a blank line before it or, if comments are directly above it, before these comments. Fails
-    /// if an allocation fails.
+    /// Appends the bracket that begins a header to `pieces`. Puts a blank line before the header and the comments
+    /// directly above it, unless they begin the document.
     fn header(&mut self, start: usize) -> Result<(), AllocError> {
         let piece = self.piece(Kind::Header, "[", start);
         self.place = Place::Header;
@@ -195,7 +195,7 @@ impl<'t> Reader<'t> {
         Ok(())
     }
 
-    /// Processes a dot or a part of a key. Fails if an allocation fails.
+    /// Appends a dot or a part of a key to `key`. The first part counts as an element.
     fn part(&mut self, text: &'t str, start: usize) -> Result<(), AllocError> {
         self.widen_by(text);
         if self.key.is_empty() {
@@ -210,7 +210,7 @@ impl<'t> Reader<'t> {
         Ok(())
     }
 
-    /// Processes an equals sign. Fails if an allocation fails.
+    /// Appends an equals sign to `key`. The next token begins a value.
     fn equals(&mut self, start: usize) -> Result<(), AllocError> {
         self.widen(3);
         self.place = Place::Value;
@@ -220,8 +220,7 @@ impl<'t> Reader<'t> {
         Ok(())
     }
 
-    /// Begins a value: appends the pieces of its key or, without a key, counts it as an element. Fails if an allocation
-    /// fails.
+    /// Begins a value. Appends the pieces of its key or, if it has no key, counts it as an element.
     fn begin_value(&mut self) -> Result<(), AllocError> {
         if self.key.is_empty() {
             self.count();
@@ -229,7 +228,7 @@ impl<'t> Reader<'t> {
         self.pieces.append(&mut self.key)
     }
 
-    /// Processes a scalar, or a token that continues a scalar. Fails if an allocation fails.
+    /// Appends a scalar to `pieces`, or extends the last piece by a token that continues it.
     fn scalar(&mut self, text: &'t str, start: usize) -> Result<(), AllocError> {
         if !self.in_scalar {
             self.begin_value()?;
@@ -251,7 +250,7 @@ impl<'t> Reader<'t> {
         Ok(())
     }
 
-    /// Begins an array or inline table. Fails if an allocation fails.
+    /// Appends the opening bracket or brace at `start` to `pieces`, and opens the array or inline table.
     fn begin(&mut self, is_table: bool, start: usize) -> Result<(), AllocError> {
         self.begin_value()?;
         let at = self.pieces.len();
@@ -275,8 +274,8 @@ impl<'t> Reader<'t> {
         Ok(())
     }
 
-    /// Adds `frame`, an array or inline table that was just closed and is written in this form, to the innermost array
-    /// or inline table that is still open, if there is one.
+    /// Adds the columns and line ends of `frame`, which was just closed, to the innermost open array or inline table,
+    /// if there is one. `form` is the form of `frame`.
     fn hold(&mut self, frame: &Frame, form: Form) {
         self.widen(frame.whole_width());
         if let Some(outer) = self.open.last_mut() {
@@ -285,7 +284,8 @@ impl<'t> Reader<'t> {
         }
     }
 
-    /// Closes the innermost array or inline table. Fails if an allocation fails.
+    /// Appends the closing bracket or brace `text` to `pieces`, closes the innermost array or inline table, and sets
+    /// its form.
     fn close(&mut self, text: &'t str, start: usize) -> Result<(), AllocError> {
         self.in_scalar = false;
         self.place = Place::Value;
@@ -306,7 +306,7 @@ impl<'t> Reader<'t> {
         Ok(())
     }
 
-    /// Processes a comma.
+    /// Ends an element at a comma. In an inline table, the next token begins a key.
     fn comma(&mut self) {
         self.in_scalar = false;
         self.has_comma = true;
@@ -318,7 +318,7 @@ impl<'t> Reader<'t> {
         }
     }
 
-    /// Processes a bare word: a part of a key, a header or a scalar. Fails if an allocation fails.
+    /// Adds a token, such as a bare word, to the key, header or scalar to which it belongs.
     fn word(&mut self, text: &'t str, start: usize) -> Result<(), AllocError> {
         match self.place {
             Place::Line | Place::Key => self.part(text, start),
@@ -331,7 +331,8 @@ impl<'t> Reader<'t> {
         }
     }
 
-    /// Processes a string. Fails if an allocation fails.
+    /// Adds the string with the source text `src` as `word` does. If it has several lines, sets `has_lines` of the
+    /// innermost open array or inline table.
     fn string(&mut self, src: &'t str, start: usize, multiline: bool) -> Result<(), AllocError> {
         self.word(src, start)?;
         if multiline && src.contains('\n') {
@@ -342,7 +343,7 @@ impl<'t> Reader<'t> {
         Ok(())
     }
 
-    /// Processes an opening bracket. Fails if an allocation fails.
+    /// Begins a header or an array, or adds the second bracket of a header.
     fn left_bracket(&mut self, start: usize) -> Result<(), AllocError> {
         match self.place {
             Place::Line => self.header(start),
@@ -351,7 +352,7 @@ impl<'t> Reader<'t> {
         }
     }
 
-    /// Processes a closing bracket. Fails if an allocation fails.
+    /// Adds a closing bracket to a header, or closes an array.
     fn right_bracket(&mut self, start: usize) -> Result<(), AllocError> {
         match self.place {
             Place::Header => self.word("]", start),
@@ -359,7 +360,7 @@ impl<'t> Reader<'t> {
         }
     }
 
-    /// Processes a token. Fails if an allocation fails.
+    /// Adds the next token of the text to the pieces, and updates the state of the reader. `span` is the token's span.
     fn token(&mut self, span: Span, token: Token<'t>) -> Result<(), AllocError> {
         let start = span.start;
         match token {
@@ -387,8 +388,7 @@ impl<'t> Reader<'t> {
     }
 }
 
-/// Returns the pieces of a text that can be read as TOML. For any other text they are unspecified. Fails if an
-/// allocation fails.
+/// Returns the pieces of a text, which must be readable as TOML. For any other text, the pieces are unspecified.
 pub(crate) fn pieces_of<'t>(alloc: Global, text: &'t str) -> Result<Pieces<'t>, AllocError> {
     let mut tokenizer = Tokenizer::new(text);
     let mut reader = Reader {

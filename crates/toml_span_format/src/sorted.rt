@@ -15,8 +15,7 @@ use std::alloc::{AllocError, Global};
 use toml_span_lex::stop::Stop;
 use toml_span_read::Section;
 
-/// Returns the text in its new layout, with its keys sorted. `sections` are the sections of the text. Fails if an
-/// allocation fails.
+/// Returns the text in its new layout, with its keys sorted. `sections` are the sections of the text.
 fn laid_out_sorted(
     alloc: Global,
     text: &str,
@@ -34,8 +33,7 @@ fn laid_out_sorted(
     )
 }
 
-/// Returns the comments of a text, sorted by their bytes, or `None` if it can't be split into tokens. Fails if an
-/// allocation fails.
+/// Returns the comments of a text, sorted by their bytes, or `None` if the text can't be split into tokens.
 fn sorted_comments<'t>(alloc: Global, text: &'t str) -> Result<Option<Vec<&'t str>>, AllocError>
     ensures { IfOk result (λ read. IfSome read (λ found.
         spec.CommentsPermuted text.now (map (λ t. t.now) found.items))) }
@@ -48,7 +46,7 @@ fn sorted_comments<'t>(alloc: Global, text: &'t str) -> Result<Option<Vec<&'t st
 }
 
 /// Returns whether two texts have the same comments, in any order. Spaces and tabs at the end of a comment do not count
-/// as part of it. Returns false if one of the texts can't be split into tokens. Fails if an allocation fails.
+/// as part of it. Returns `false` if a text can't be split into tokens. Fails if an allocation fails.
 pub fn permuted_comments(alloc: Global, old: &str, new: &str) -> Result<bool, AllocError>
     ensures { IfOk result (λ same. IsTrue same → spec.PermutedComments old.now new.now) }
 {
@@ -61,9 +59,8 @@ pub fn permuted_comments(alloc: Global, old: &str, new: &str) -> Result<bool, Al
     Ok(same_texts(before.as_slice(), after.as_slice()))
 }
 
-/// Returns whether the text `new` has these sections and the comments of `text`. The spans, the order of the
-/// assignments in each section, and the order of the comments may differ. Returns false if `new` can't be read. Fails
-/// if an allocation fails.
+/// Returns whether `new` has the sections and comments of `text`. Spans, the order of the assignments in a section, and
+/// the order of the comments may differ. `sections` are the sections of `text`. Returns `false` if `new` can't be read.
 fn is_permuted(
     alloc: Global,
     text: &str,
@@ -87,11 +84,11 @@ fn is_permuted(
 /// Formats a document, sorts its keys, and returns the new text.
 ///
 /// In each section, the assignments between two blank lines are sorted by their keys: part by part, by the bytes of the
-/// names. Assignments with the same key keep their order. A comment on its own line moves with the assignment right
-/// below it, and a comment at the end of a line moves with that line. Keys in inline tables, elements of arrays, and
+/// names. Assignments with the same key keep their order. Comments on lines of their own move with the assignment right
+/// below them, and a comment at the end of a line moves with the line. Keys in inline tables, elements of arrays, and
 /// sections are not sorted.
 ///
-/// The result has the same sections in the same order, the same assignments in each of them, and the same comments.
+/// The result has the same sections in the same order, the same assignments in each section, and the same comments.
 ///
 /// # Errors
 ///

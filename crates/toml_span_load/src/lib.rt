@@ -27,7 +27,7 @@ pub enum LoadError {
     Memory(AllocError),
     /// The file can't be read, or is not valid UTF-8.
     Io(Unreadable),
-    /// The text is not valid TOML, or does not fit the type. These are the reports of all errors and, for a type that
+    /// The text is not valid TOML, or does not fit the type. Contains the reports of all errors and, for a type that
     /// warns, of its warnings.
     Reported(Reported),
 }
@@ -40,7 +40,7 @@ pub struct Unreadable {
     /// The kind of the system's error.
     pub kind: ErrorKind,
     /// The message, such as ``cannot read `a.toml`: No such file or directory (os error 2)``. Control characters in the
-    /// name, and characters that end a line or change the direction of the text, are escaped.
+    /// name are escaped, and so are characters that end a line or change the direction of the text.
     pub text: String,
 }
 
@@ -54,7 +54,7 @@ impl From<AllocError> for LoadError {
     }
 }
 
-/// Writes the text of the error, or a message that memory ran out.
+/// Writes the text of the error, or `memory allocation failed`.
 impl Display for LoadError {
     ghost output = { λ error. Some (shown error) };
 
@@ -73,14 +73,14 @@ impl std::error::Error for LoadError {}
 #[derive(Debug, Drop)]
 pub struct Loaded<T> {
     pub value: T,
-    /// The reports of the warnings, in the order of the fields, and their text, which is empty if there are none.
+    /// The reports of the warnings, and their text. Without warnings, both are empty.
     pub warnings: Reported,
 }
 
 /// A file's name, which reports print, and its text.
 ///
-/// A value that is read from the file may borrow from its text. The errors of a read do not, so a function can return
-/// them: `let file = TextFile::open(&rt, "settings.toml")?; file.read::<Settings>(alloc)`.
+/// A value that is read from the file may borrow from its text. The errors of a read do not borrow from the text, so a
+/// function can return them: `let file = TextFile::open(&rt, "settings.toml")?; file.read::<Settings>(alloc)`.
 #[derive(Debug, Drop)]
 pub struct TextFile {
     pub name: String,
@@ -88,8 +88,8 @@ pub struct TextFile {
 }
 
 impl TextFile {
-    /// Reads the file with this name. Fails with `LoadError::Io` if it can't be read or is not valid UTF-8, and with
-    /// `LoadError::Memory` if an allocation fails.
+    /// Reads the file with the path `name`. Fails with `LoadError::Io` if the file can't be read or is not valid UTF-8,
+    /// and with `LoadError::Memory` if an allocation fails.
     pub fn open<R: Files + Alloc<A = Global>>(rt: &R, name: &str) -> Result<TextFile, LoadError>
         ensures name { IfOk result (λ file. string_bytes file.name ≡ name.now) }
         ensures refused { IfErr result (NotOpened name.now) }
@@ -109,7 +109,7 @@ impl TextFile {
     }
 
     /// Reads the text as a type, like `toml_span::from_str`. Fails with `LoadError::Reported`, which has the reports of
-    /// all errors, without colors, or with `LoadError::Memory` if an allocation fails.
+    /// all errors, without colors. Fails with `LoadError::Memory` if an allocation fails.
     ///
     /// For a type that warns, which does not implement `Deserialize`, use `read_with_warnings`.
     pub fn read<'de, T: Deserialize<'de>>(&'de self, alloc: Global) -> Result<T, LoadError>
@@ -128,7 +128,7 @@ impl TextFile {
 
     /// Reads the text as a type that warns, like `toml_span::from_str_with_warnings`. Returns the value with the
     /// reports of its warnings. Fails with `LoadError::Reported`, which has the reports of all warnings and errors,
-    /// without colors, or with `LoadError::Memory` if an allocation fails.
+    /// without colors. Fails with `LoadError::Memory` if an allocation fails.
     pub fn read_with_warnings<'de, T: DeserializeWithWarnings<'de>>(
         &'de self,
         alloc: Global,
@@ -153,8 +153,8 @@ impl TextFile {
     }
 }
 
-/// Returns the reports of a read and their rendered text: those of its warnings and, if it failed, those of its errors.
-/// Fails if the read failed with `Stop::Memory`, or if an allocation fails.
+/// Returns the reports of all warnings of a read and, if the read failed, of its errors, with their text. Fails if the
+/// read failed with `Stop::Memory`.
 fn shown_read<T>(
     alloc: Global,
     read: &Result<T, Stop<DeserError<'_>>>,
@@ -171,7 +171,7 @@ fn shown_read<T>(
 }
 
 /// Returns the error of a read that failed with `stop`: `LoadError::Memory` if an allocation failed, otherwise
-/// `LoadError::Reported` with these reports.
+/// `LoadError::Reported` with `reported`.
 fn failed(stop: Stop<DeserError<'_>>, reported: Reported) -> LoadError
     ensures { result ≡ spec.failed stop.entry reported }
 {
@@ -181,7 +181,7 @@ fn failed(stop: Stop<DeserError<'_>>, reported: Reported) -> LoadError
     }
 }
 
-/// Returns the error of a file that can't be read. Fails if an allocation fails.
+/// Returns the error of the file `name`, which can't be read because of `error`.
 fn not_readable(alloc: Global, name: &str, error: io::Error) -> Result<Unreadable, AllocError>
     ensures { IfOk result (IsUnreadable name.now) }
 {
@@ -192,7 +192,7 @@ fn not_readable(alloc: Global, name: &str, error: io::Error) -> Result<Unreadabl
     Ok(Unreadable { name, kind, text })
 }
 
-/// Returns the message for a file that can't be read for this reason. Fails if an allocation fails.
+/// Returns the message for the file `name`, which can't be read because of `cause`.
 #[tactic(auto, unfolding(crate::specs::Load::unreadable_text))]
 fn unreadable_text(alloc: Global, name: &str, cause: &str) -> Result<String, AllocError>
     ensures { IfOk result (λ text. string_bytes text ≡ spec.unreadable_text name.now cause.now) }

@@ -49,15 +49,15 @@ pub struct PathError {
     pub fault: PathFault,
 }
 
-/// Returns the error `fault` at the offset `at` of the path.
+/// Returns the error `fault` at the byte offset `at` of the path.
 fn stop(at: usize, fault: PathFault) -> Stop<PathError>
     ensures { result ≡ Fault (spec.error at fault) }
 {
     Stop::Fault(PathError { at, fault })
 }
 
-/// Converts the tokenizer's error about the string that begins at `at` and was read up to `end`. A string that is not
-/// closed is reported at `at`, any other error at `end`.
+/// Converts the tokenizer's error about the string that begins at the byte offset `at` and was read up to `end`. A
+/// string that is not closed is reported at `at`, any other error at `end`.
 fn string_error(at: usize, end: usize, error: tokens::Error) -> Stop<PathError>
     ensures { result ≡ Fault (spec.string_error at end error) }
 {
@@ -67,8 +67,8 @@ fn string_error(at: usize, end: usize, error: tokens::Error) -> Stop<PathError>
     }
 }
 
-/// Reads the string at the offset `at`. Returns its value, whether it has three quotes on each side, and the offset
-/// after it. Fails if the string can't be read, or if an allocation fails.
+/// Reads the string at the byte offset `at`. Returns its value, whether it has three quotes on each side, and the
+/// offset after it. Fails if the string can't be read.
 fn string_read<'p>(
     alloc: Global,
     path: &'p str,
@@ -92,8 +92,8 @@ fn string_read<'p>(
     }
 }
 
-/// Reads the key in quotes at the offset `at`. Returns its name and the offset after it. Fails if it can't be read or
-/// has three quotes on each side, or if an allocation fails.
+/// Reads the key in quotes at the byte offset `at`. Returns its name and the offset after it. Fails if the key can't be
+/// read or has three quotes on each side.
 ///
 /// `quoted-key = basic-string / literal-string` (TOML 1.1, Keys)
 fn quoted_at<'p>(
@@ -113,8 +113,8 @@ fn quoted_at<'p>(
     }
 }
 
-/// Reads the key at the offset `at`. Returns its name and the offset after it. Fails if no key begins there or it can't
-/// be read, or if an allocation fails.
+/// Reads the key at the byte offset `at`. Returns its name and the offset after it. Fails if no key begins there, or if
+/// the key can't be read.
 ///
 /// `simple-key = quoted-key / unquoted-key` (TOML 1.1, Keys)
 #[tactic(auto, using(toml_span_read::proofs::Places::run_some))]
@@ -151,24 +151,24 @@ fn are_digits(bytes: &[u8]) -> bool
     bytes.iter().all(|byte| is_digit(*byte))
 }
 
-/// Returns whether a run of bare key bytes, which must not be empty, is a position: digits without a leading zero, or
-/// `0`.
+/// Returns whether `run`, some bare key bytes, is a position: digits without a leading zero, or `0`. `run` must not be
+/// empty.
 fn is_position(run: &str) -> bool
     ensures { result ≡ spec.is_position run.now }
 {
     are_digits(run.as_bytes()) && (run.len() == 1 || byte_at(run, 0) != b'0')
 }
 
-/// Returns whether `digits`, a run of bare key bytes that ends at the offset `end`, is a position, and a closing
-/// bracket follows it.
+/// Returns whether `digits`, some bare key bytes that end at the byte offset `end`, are a position, and a closing
+/// bracket follows them.
 fn is_closed(path: &str, digits: &str, end: usize) -> bool
     ensures { result ≡ spec.is_closed path.now digits.now end }
 {
     is_position(digits) && byte_at(path, end) == b']'
 }
 
-/// Reads the position after the opening bracket at the offset `at`. Returns its digits and the offset after the closing
-/// bracket. Fails if no position follows, or no closing bracket follows the position.
+/// Reads the position after the opening bracket at the byte offset `at`. Returns its digits and the offset after the
+/// closing bracket. Fails unless a position and a closing bracket follow.
 #[tactic(auto, using(toml_span_read::proofs::Places::run_some))]
 fn opened_at<'p>(path: &'p str, at: usize) -> Result<(CowStr<'p>, usize), Stop<PathError>>
     requires { slice_index path.now at ≡ left_bracket }
@@ -187,7 +187,7 @@ fn opened_at<'p>(path: &'p str, at: usize) -> Result<(CowStr<'p>, usize), Stop<P
     }
 }
 
-/// Reads the position in brackets at the offset `at`. Returns its digits and the offset after the closing bracket.
+/// Reads the position in brackets at the byte offset `at`. Returns its digits and the offset after the closing bracket.
 /// Fails if anything else is there.
 fn position_at<'p>(path: &'p str, at: usize) -> Result<(CowStr<'p>, usize), Stop<PathError>>
     ensures { PositionGives path.now at result }
@@ -199,8 +199,8 @@ fn position_at<'p>(path: &'p str, at: usize) -> Result<(CowStr<'p>, usize), Stop
     }
 }
 
-/// Reads the step at the offset `at`: a dot and a key, or a position in brackets. Returns its segment and the offset
-/// after it. Fails if anything else is there, or if an allocation fails.
+/// Reads the step at the byte offset `at`: a dot and a key, or a position in brackets. Returns its segment and the
+/// offset after it. Fails if anything else is there.
 fn step_at<'p>(
     alloc: Global,
     path: &'p str,
@@ -216,7 +216,7 @@ fn step_at<'p>(
 }
 
 /// Reads a dotted key with positions, such as `a.b[0]`, and returns its segments. Fails at the first place that can't
-/// be read, or if an allocation fails.
+/// be read.
 #[tactic(auto, using(crate::proofs::DottedLemmas::after_first, crate::proofs::DottedLemmas::after_more))]
 fn dotted<'p>(alloc: Global, path: &'p str) -> Result<Vec<CowStr<'p>>, Stop<PathError>>
     ensures { Reads (IsDotted path.now) result }
@@ -242,7 +242,8 @@ fn cut<'p>(path: &'p str) -> (&'p str, Option<&'p str>)
     }
 }
 
-/// Appends the segments of a path, which are separated by slashes. Fails if an allocation fails.
+/// Appends to `parts` the segments of `path`, which are separated by slashes. If an allocation fails, `parts` has some
+/// of them.
 fn push_segments<'p>(path: &'p str, parts: &mut Vec<CowStr<'p>>) -> Result<(), AllocError>
     ensures { OnOk result (map cow_str_bytes parts.new.items
         ≡ map cow_str_bytes parts.old.items ++ segments path.now) }
@@ -255,11 +256,11 @@ fn push_segments<'p>(path: &'p str, parts: &mut Vec<CowStr<'p>>) -> Result<(), A
     }
 }
 
-/// Returns the segments of a path: names of keys, and positions of elements in decimal digits.
+/// Returns the segments of `path`: names of keys, and positions of elements in decimal digits.
 ///
-/// An empty path, or one that begins with a slash, is a pointer such as `/a/0`. Any other is a dotted key with
-/// positions in brackets, such as `a."b/c"[0]`. Fails at the first place that can't be read, or if an allocation fails.
-/// A pointer can always be read.
+/// An empty path, or one that begins with a slash, is a pointer such as `/a/0`, and can always be read. Any other path
+/// is a dotted key with positions in brackets, such as `a."b/c"[0]`. Fails at the first place that can't be read, or if
+/// an allocation fails.
 pub fn path_segments<'p>(alloc: Global, path: &'p str) -> Result<Vec<CowStr<'p>>, Stop<PathError>>
     ensures { Reads (IsPath path.now) result }
 {
@@ -276,8 +277,8 @@ pub fn path_segments<'p>(alloc: Global, path: &'p str) -> Result<Vec<CowStr<'p>>
     }
 }
 
-/// Returns the position that a segment spells, without a sign and without leading zeros. Returns `None` for any other
-/// segment, and for a number that does not fit into a `usize`.
+/// Returns the position that `segment` spells, in digits without a sign and without leading zeros. Returns `None` for
+/// any other segment, and for a number that does not fit into a `usize`.
 fn position(segment: &str) -> Option<usize>
     ensures { PositionIs result (position_of segment.now) }
 {
@@ -291,8 +292,8 @@ fn position(segment: &str) -> Option<usize>
     segment.parse::<usize>().ok()
 }
 
-/// Returns the element at the position that a segment spells. Returns `None` if the segment spells no position, or if
-/// the array has no element there.
+/// Returns the element at the position that `segment` spells. Returns `None` if `segment` spells no position, or if the
+/// array has no such element.
 fn array_entry<'v, 'de>(array: &'v Array<'de>, segment: &str) -> Option<&'v Value<'de>>
     ensures { option_map (λ v. view v.now) result
         ≡ option_and_then (λ i. get_item i (items_view array.now.items)) (position_of segment.now) }
@@ -300,7 +301,7 @@ fn array_entry<'v, 'de>(array: &'v Array<'de>, segment: &str) -> Option<&'v Valu
     array.get(position(segment)?)
 }
 
-/// Returns the value of the entry with this name, or `None` if the table lacks it.
+/// Returns the value of the entry `name`, or `None` if the table lacks this entry.
 fn entry_named<'v, 'de>(table: &'v Table<'de>, name: &str) -> Option<&'v Value<'de>>
     ensures { option_map (λ v. view v.now) result ≡ get_member name.now (members_view table.now.entries) }
 {
@@ -312,8 +313,7 @@ fn entry_named<'v, 'de>(table: &'v Table<'de>, name: &str) -> Option<&'v Value<'
     None
 }
 
-/// Returns the value that a segment names: an entry of a table, or an element of an array. Returns `None` if it names
-/// nothing.
+/// Returns the element, or the value of the entry, that `segment` names. Returns `None` if `segment` names nothing.
 fn entry_of<'v, 'de>(inner: &'v ValueInner<'de>, segment: &str) -> Option<&'v Value<'de>>
     ensures { option_map (λ v. view v.now) result ≡ entry segment.now (inner_view inner.now) }
 {
@@ -324,8 +324,8 @@ fn entry_of<'v, 'de>(inner: &'v ValueInner<'de>, segment: &str) -> Option<&'v Va
     }
 }
 
-/// Returns the entry or element of `value` that a segment names. Returns `None` if the segment names nothing, or if the
-/// content of the entry or element, or of `value`, has been taken.
+/// Returns the element, or the value of the entry, that `segment` names in `value`. Returns `None` if `segment` names
+/// nothing, or if `value` or the named value is taken.
 fn child_of<'v, 'de>(value: &'v Value<'de>, segment: &str) -> Option<&'v Value<'de>>
     ensures { option_map (λ v. view v.now) result ≡ untaken_entry segment.now (view value.now) }
 {
@@ -336,8 +336,8 @@ fn child_of<'v, 'de>(value: &'v Value<'de>, segment: &str) -> Option<&'v Value<'
     if child.is_taken() { None } else { Some(child) }
 }
 
-/// Returns the value at a path below `value`. Returns `None` if there is no such value, or if its content, or the
-/// content of a value around it, has been taken. An empty path always leads to `value`.
+/// Returns the value at `path`, which begins at `value`. Returns `None` if `path` names nothing, or if the value or one
+/// around it is taken. An empty path always leads to `value`.
 ///
 /// A segment of the path is the name of a key in a table, or a position in an array (see `path_segments`). Takes time
 /// linear in the number of entries of each table on the way.

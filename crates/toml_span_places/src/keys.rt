@@ -84,8 +84,7 @@ fn key_of<'t>(text: &str, mention: Mention<'t>) -> Option<KeyPlace<'t>>
 /// Lists the keys in these sections, in the order of the text: the parts of each header, and the parts of each
 /// assignment's key before the keys inside its value.
 ///
-/// `sections` must be what `read_sections` returned for the text. Fails if an allocation fails, for the list, for a
-/// path, or for the count of the elements of an array of tables.
+/// `sections` must be what `read_sections` returned for the text. Fails if an allocation fails.
 pub fn key_places<'t, 'de>(
     alloc: Global,
     text: &str,

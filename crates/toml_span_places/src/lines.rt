@@ -8,7 +8,7 @@ use toml_span_lex::span::Span;
 use toml_span_read::gaps::byte_at;
 use toml_span_read::{Assignment, Section};
 
-/// Returns the start of the run of spaces and tabs that ends at the offset `at`; `at` itself if the run is empty.
+/// Returns the start of the run of spaces and tabs that ends at the byte offset `at`, or `at` if the run is empty.
 pub(crate) fn blanks_start(text: &str, at: usize) -> usize
     ensures { result ≡ spec.blanks_start text.now at }
 {
@@ -19,8 +19,8 @@ pub(crate) fn blanks_start(text: &str, at: usize) -> usize
     start
 }
 
-/// Returns the offset after the first line feed at or after `from`. If there is none, returns the length of the text,
-/// or `from` if that is greater.
+/// Returns the byte offset after the first line feed at or after the offset `from`. Without such a line feed, returns
+/// the length of `text` or, if larger, `from`.
 fn after_line(text: &str, from: usize) -> usize
     ensures { result ≡ spec.after_line text.now from }
 {
@@ -55,8 +55,8 @@ pub fn assignment_lines(text: &str, assignment: &Assignment<'_>) -> Span
     }
 }
 
-/// Returns the end of the line of a section's last assignment or, without assignments, of its header. `header` is the
-/// span of the header's line, and `extent` the span of the section.
+/// Returns the byte offset after the line of a section's last assignment or, without assignments, of its header.
+/// `header` is the span of the header's line, and `extent` the span of the section.
 pub(crate) fn body_end(text: &str, header: Span, extent: Span) -> usize
     ensures { result ≡ spec.body_end text.now header extent }
 {
@@ -67,8 +67,9 @@ pub(crate) fn body_end(text: &str, header: Span, extent: Span) -> usize
     }
 }
 
-/// Returns the span of a section's lines: from the line of its header or, without a header, of its first assignment, to
-/// the end of the line of its last assignment or, without assignments, of its header.
+/// Returns the span of a section's lines, with the spaces and tabs before them and the last line end. The first line
+/// has the header or, without a header, the first assignment. The last line has the last assignment or, without
+/// assignments, the header.
 ///
 /// `section` must be one that `read_sections` returned for the text.
 pub fn section_lines(text: &str, section: &Section<'_>) -> Span

@@ -8,7 +8,7 @@ use toml_span_lex::span::Span;
 use toml_span_read::gaps::byte_at;
 use toml_span_tree::Value;
 
-/// Returns the byte at the offset `at - back`, or 0 if the text has no such byte.
+/// Returns the byte at the byte offset `at - back`, or 0 if the text has no such byte.
 pub(crate) fn byte_before(text: &str, at: usize, back: usize) -> u8
     ensures { result ≡ spec.byte_before text.now at back }
 {
@@ -19,8 +19,9 @@ pub(crate) fn byte_before(text: &str, at: usize, back: usize) -> u8
     }
 }
 
-/// Returns the offset after the opening quotes of a string whose content begins at `from`: `from` itself, or the start
-/// of the line end before `from`, if there is one. Such a line end is not part of the content.
+/// Returns the byte offset after the opening quotes of a string whose content begins at `from`. If a line end is
+/// directly before `from`, returns the start of that line end, which is not part of the content. Otherwise returns
+/// `from`.
 fn after_quotes(text: &str, from: usize) -> usize
     ensures { result ≡ spec.after_quotes text.now from }
 {
@@ -33,7 +34,7 @@ fn after_quotes(text: &str, from: usize) -> usize
     }
 }
 
-/// Returns how many quotes open a string: three, or one. They end at the offset `at`.
+/// Returns how many quotes open the string whose opening quotes end at the byte offset `at`: three or one.
 fn quotes_before(text: &str, at: usize) -> usize
     ensures { result ≡ spec.quotes_before text.now at }
 {
@@ -45,8 +46,8 @@ fn quotes_before(text: &str, at: usize) -> usize
     }
 }
 
-/// Returns the span of a string with its quotes, given the span of its content. `is_empty` says whether the value is
-/// empty; `span` may then be the span of the opening quote.
+/// Returns the span of a string with its quotes. `span` is the span of the content; for an empty value (`is_empty`), it
+/// may be the span of the opening quote. Returns `span` itself if no byte of the text follows it.
 fn string_literal(text: &str, span: Span, is_empty: bool) -> Span
     ensures { result ≡ spec.string_literal text.now span is_empty }
 {
@@ -68,8 +69,8 @@ fn string_literal(text: &str, span: Span, is_empty: bool) -> Span
     }
 }
 
-/// Returns the span of the literal that spells a value. For a string it includes the quotes, and the line end that is
-/// dropped after three of them. For any other value it is the value's own span.
+/// Returns the span of the literal that spells `value`. For a string, the span includes the quotes, and a line end
+/// directly after three opening quotes. For any other value, it is the value's own span.
 ///
 /// `value` must be in the tree that `parse` returned for the text.
 pub fn literal_span(text: &str, value: &Value<'_>) -> Span

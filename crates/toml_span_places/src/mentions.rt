@@ -28,12 +28,12 @@ pub(crate) struct Details {
     pub role: Option<Role>,
     /// How the mention names a table. `None` for the root, and for a key to which a value is assigned.
     pub form: Option<TableForm>,
-    /// The bytes of the key without its quotes; for an empty key, its opening quote. Without a key, it is `span`.
+    /// The bytes of the key without its quotes; for an empty key, its opening quote. Without a key, the same as `span`.
     pub key: Span,
     /// The line of the header; the assignment, from its key to the end of its value; or the inline table with its
-    /// braces.
+    /// braces. 0..0 for the root.
     pub span: Span,
-    /// The section of the header. For a mention without a header, it is `span`.
+    /// The section, for a mention in a header and for the root. Otherwise the same as `span`.
     pub extent: Span,
 }
 
@@ -45,7 +45,7 @@ pub(crate) struct Mention<'t> {
     pub details: Details,
 }
 
-/// Appends a mention with these details and a copy of the path. Fails if an allocation fails.
+/// Appends to `out` a mention with `details` and a copy of `path`.
 fn push<'t>(
     alloc: Global,
     path: &[Step<'t>],
@@ -60,7 +60,7 @@ fn push<'t>(
     Ok(())
 }
 
-/// Returns the details of a mention in a section's header.
+/// Returns the details of a mention in the header of `section` or, without a header, of the root.
 fn by_header(
     section: &Section<'_>,
     element: Option<usize>,
@@ -95,8 +95,8 @@ fn by_value(role: Option<Role>, form: Option<TableForm>, key: Span, span: Span) 
     }
 }
 
-/// Appends the mention by `key`, the last part of a section's header. `path` is the path that the header names, and
-/// `opened` counts the elements that earlier headers added to arrays of tables. Fails if an allocation fails.
+/// Appends to `out` the mention by `key`, the last part of a section's header. `path` is the path that the header
+/// names, and `opened` counts the elements that earlier headers added to arrays of tables.
 fn push_last<'t, 'de>(
     alloc: Global,
     section: &Section<'_>,
@@ -127,9 +127,9 @@ fn push_last<'t, 'de>(
     push(alloc, path, details, out)
 }
 
-/// Appends a mention for each of `parts`, the parts of a section's header that come after those in `path`. Without a
-/// header, appends the mention of the root. `opened` counts the elements that earlier headers added to arrays of
-/// tables. Returns the path that the header names. Fails if an allocation fails.
+/// Appends to `out` a mention for each of `parts`, the parts of a section's header that come after those in `path`.
+/// Without a header, appends the mention of the root. Returns the path that the header names. `opened` counts the
+/// elements that earlier headers added to arrays of tables. If an allocation fails, `out` has some of the mentions.
 fn push_header<'t, 'de>(
     alloc: Global,
     section: &Section<'_>,
@@ -162,8 +162,9 @@ fn push_header<'t, 'de>(
     push_header(alloc, section, rest, opened, inside, out)
 }
 
-/// Appends a mention for each part of an assignment's key that comes after those in `path`: the parts `inner` and
-/// `last`. `extent` is the span of the assignment. Returns the path that the key names. Fails if an allocation fails.
+/// Appends to `out` a mention for each part of an assignment's key that comes after those in `path`: the parts `inner`
+/// and `last`. Returns the path that the key names. `extent` is the span of the assignment. If an allocation fails,
+/// `out` has some of the mentions.
 fn push_parts<'t, 'de>(
     alloc: Global,
     extent: Span,
@@ -191,7 +192,8 @@ fn push_parts<'t, 'de>(
     push_parts(alloc, extent, rest, last, path_below, out)
 }
 
-/// Appends the mentions in the assignments `pairs` of the table at `path`. Fails if an allocation fails.
+/// Appends to `out` the mentions in the assignments `pairs` of the table at `path`. If an allocation fails, `out` has
+/// some of them.
 #[cycle(push_value)]
 fn push_pairs<'t, 'de>(
     alloc: Global,
@@ -208,8 +210,8 @@ fn push_pairs<'t, 'de>(
     Ok(())
 }
 
-/// Appends the mentions in an assignment of the table at `path`: by its key, and in its value. Fails if an allocation
-/// fails.
+/// Appends to `out` the mentions in an assignment of the table at `path`: by its key, and in its value. If an
+/// allocation fails, `out` has some of them.
 #[cycle(push_value)]
 fn push_pair<'t, 'de>(
     alloc: Global,
@@ -230,7 +232,7 @@ fn push_pair<'t, 'de>(
     push_value(alloc, &pair.value, path_below.as_slice(), out)
 }
 
-/// Appends the mentions in the value at `path`. Fails if an allocation fails.
+/// Appends to `out` the mentions in the value at `path`. If an allocation fails, `out` has some of them.
 #[cycle(push_value)]
 fn push_value<'t, 'de>(
     alloc: Global,
@@ -256,7 +258,8 @@ fn push_value<'t, 'de>(
     }
 }
 
-/// Appends the mentions in the elements of the array at `path`. Fails if an allocation fails.
+/// Appends to `out` the mentions in the elements of the array at `path`. If an allocation fails, `out` has some of
+/// them.
 #[cycle(push_value)]
 fn push_items<'t, 'de>(
     alloc: Global,
@@ -274,8 +277,9 @@ fn push_items<'t, 'de>(
     Ok(())
 }
 
-/// Appends the mentions in a section's header and, if `with_assignments`, in its assignments. Counts in `opened` the
-/// element that a header with double brackets adds. Fails if an allocation fails.
+/// Appends to `out` the mentions in a section's header and, if `with_assignments`, in its assignments. Counts in
+/// `opened` the element that a header with double brackets adds. After a failure, `out` has some of the mentions, and
+/// `opened` has unspecified counts.
 fn push_section<'t, 'de>(
     alloc: Global,
     section: &'t Section<'de>,
@@ -304,8 +308,6 @@ fn push_section<'t, 'de>(
 
 /// Lists the mentions in the headers of these sections and, if `with_assignments`, in their assignments, in the order
 /// of the text.
-///
-/// Fails if an allocation fails, for the list, for a path, or for the count of the elements of an array of tables.
 pub(crate) fn mentions<'t, 'de>(
     alloc: Global,
     sections: &'t [Section<'de>],

@@ -19,9 +19,9 @@ use toml_span_tree::DateText;
 /// A form of syntax that TOML 1.0 lacks. The last three are not in any version of TOML, but this parser accepts them.
 #[derive(Clone, Copy, Debug, PartialEq, Eq)]
 pub enum NewerKind {
-    /// A line end in an inline table.
+    /// A line end in an inline table, outside its pairs.
     LineEnd,
-    /// A comment in an inline table. The span does not include its line end.
+    /// A comment in an inline table, outside its pairs. The span does not include its line end.
     Comment,
     /// The comma after the last pair of an inline table.
     TrailingComma,
@@ -58,7 +58,7 @@ pub(crate) enum Gap {
     AfterLast,
 }
 
-/// Appends a newer form that spans `start..end`. Fails if an allocation fails.
+/// Appends to `out` a form of the kind `kind` with the span `start..end`.
 fn push(
     kind: NewerKind,
     start: usize,
@@ -74,8 +74,8 @@ fn push(
 
 // ---- strings
 
-/// Appends the escape whose letter is at the offset `at`, if TOML 1.0 lacks it. `is_letter` says whether the byte at
-/// `at` is the letter of an escape at all. Fails if an allocation fails.
+/// Appends to `out` the escape whose letter is at the byte offset `at`, if it is `\e` or `\xHH`. `is_letter` says
+/// whether the byte at `at` is the letter of an escape; if not, appends nothing.
 ///
 /// `escape-seq-char =/ %x65`, `escape-seq-char =/ %x78 2HEXDIG` (TOML 1.1, String)
 fn push_escape(
@@ -94,14 +94,16 @@ fn push_escape(
     }
 }
 
-/// Returns whether the byte after `at` is the letter of an escape. `is_letter` says whether the byte at `at` is one.
+/// Returns whether the byte at the byte offset `at + 1` is the letter of an escape. `is_letter` says the same about the
+/// byte at `at`.
 fn begins_escape(text: &str, is_letter: bool, at: usize) -> bool
     ensures { result ≡ spec.begins_escape text.now is_letter at }
 {
     !is_letter && byte_at(text, at) == b'\\'
 }
 
-/// Appends the escapes that TOML 1.0 lacks, in the string or key with this span. Fails if an allocation fails.
+/// Appends to `out` each `\e` and `\xHH` in the string or key with the span `span`. Appends nothing for a literal
+/// string or a bare key. If an allocation fails, `out` has some of the escapes.
 #[tactic(auto, using(crate::proofs::Uses::escapes_next, crate::proofs::Uses::escapes_end))]
 fn push_escapes(text: &str, span: Span, out: &mut Vec<NewerForm>) -> Result<(), AllocError>
     ensures { OnOk result (out.new.items ≡ out.old.items ++ spec.string_forms text.now span) }
@@ -117,7 +119,7 @@ fn push_escapes(text: &str, span: Span, out: &mut Vec<NewerForm>) -> Result<(), 
     Ok(())
 }
 
-/// Appends the escapes that TOML 1.0 lacks, in these keys. Fails if an allocation fails.
+/// Appends to `out` each `\e` and `\xHH` in `keys`. If an allocation fails, `out` has some of them.
 fn push_keys<'de>(text: &str, keys: &[Key<'de>], out: &mut Vec<NewerForm>) -> Result<(), AllocError>
     ensures { OnOk result (out.new.items ≡ out.old.items ++ spec.key_forms text.now (map simple_key keys.now)) }
 {
@@ -127,7 +129,7 @@ fn push_keys<'de>(text: &str, keys: &[Key<'de>], out: &mut Vec<NewerForm>) -> Re
     Ok(())
 }
 
-/// Appends the escapes that TOML 1.0 lacks, in the parts of a key. Fails if an allocation fails.
+/// Appends to `out` each `\e` and `\xHH` in the parts of `key`. If an allocation fails, `out` has some of them.
 fn push_parts<'de>(
     text: &str,
     key: &DottedKey<'de>,
@@ -141,16 +143,15 @@ fn push_parts<'de>(
 
 // ---- dates and times
 
-/// Returns the offset at which the time begins: 0 for a time alone, otherwise 11, which is after the end of a date
-/// alone.
+/// Returns the byte offset in `date` at which the time begins: 0 for a time alone, otherwise 11. A date alone ends
+/// before 11.
 fn time_start(date: &str) -> usize
     ensures { result ≡ spec.time_start date.now }
 {
     if byte_at(date, 2) == b':' { 0 } else { 11 }
 }
 
-/// Appends the form `NoSeconds` if the date or time has hours and minutes, and no seconds follow them. `span` is the
-/// span of the value. Fails if an allocation fails.
+/// Appends the form `NoSeconds` to `out` if `date` has a time without seconds. `span` is the span of the value.
 fn push_date<'de>(
     date: &DateText<'de>,
     span: Span,
@@ -171,7 +172,7 @@ fn push_date<'de>(
 
 // ---- gaps in inline tables
 
-/// Returns the start of the line end whose line feed is at the offset `at`: one byte before it for CRLF.
+/// Returns the start of the line end whose line feed is at the byte offset `at`: `at - 1` for CRLF, otherwise `at`.
 fn line_end_start(text: &str, at: usize) -> usize
     ensures { result ≡ spec.line_end_start text.now at }
 {
@@ -202,8 +203,8 @@ fn line_end_kind(gap: Gap) -> NewerKind
     }
 }
 
-/// Appends the line end in this gap whose line feed is at the offset `at` and, before it, the comment that it ends.
-/// `comment` is the offset at which this comment begins, if there is one. Fails if an allocation fails.
+/// Appends to `out` the line end in `gap` whose line feed is at the byte offset `at`. If a comment before it begins at
+/// the offset `comment`, appends this comment first. If an allocation fails, `out` may have the comment alone.
 fn push_line_end(
     text: &str,
     gap: Gap,
@@ -221,9 +222,9 @@ fn push_line_end(
     push(line_end_kind(gap), end, at + 1, out)
 }
 
-/// Appends the newer forms in this gap that end with the byte at the offset `at`: for a line feed, the comment before
-/// the line end and the line end; for a comma outside comments, after the last pair, the trailing comma. `comment` is
-/// the offset at which the comment around the byte begins, if there is one. Fails if an allocation fails.
+/// Appends to `out` the newer forms in `gap` that end with the byte at the offset `at`: a line end and the comment
+/// before it, or the trailing comma. `comment` is where the comment begins that is open before this byte, or `None` if
+/// no comment is. If an allocation fails, `out` may have the comment alone.
 fn push_byte(
     text: &str,
     gap: Gap,
@@ -243,23 +244,23 @@ fn push_byte(
     }
 }
 
-/// Returns whether a byte may occur in a gap or between two gaps, outside comments.
+/// Returns whether `byte` may occur in a gap or between two gaps, outside comments.
 fn is_between(byte: u8) -> bool
     ensures { result ≡ spec.is_between byte }
 {
     is_blank(byte) || matches!(byte, b'\n' | b'\r' | b'#' | b',' | b'=')
 }
 
-/// Returns whether the gap ends at the offset `at`: outside comments, at a key, a value or a brace. `comment` is the
-/// offset at which the comment around the byte at `at` begins, if there is one.
+/// Returns whether the gap ends at the byte offset `at`: outside comments, at a key, a value or a brace. `comment` is
+/// where the comment begins that is open before the byte at `at`, or `None` if no comment is.
 fn ends_gap(text: &str, comment: Option<usize>, at: usize) -> bool
     ensures { result ≡ spec.ends_gap text.now comment at }
 {
     comment.is_none() && !is_between(byte_at(text, at))
 }
 
-/// Returns the offset at which the comment around the byte after `at` begins, or `None` if that byte is not in a
-/// comment. `comment` is the same for the byte at `at`.
+/// Returns where the comment begins that is open after the byte at `at`, or `None` if no comment is open there.
+/// `comment` is where the comment begins that is open before that byte.
 fn next_comment(text: &str, comment: Option<usize>, at: usize) -> Option<usize>
     ensures { result ≡ spec.next_comment text.now comment at }
 {
@@ -270,8 +271,8 @@ fn next_comment(text: &str, comment: Option<usize>, at: usize) -> Option<usize>
     }
 }
 
-/// Appends the newer forms in the gap that begins at `from`, up to the next key, value or brace. Fails if an allocation
-/// fails.
+/// Appends to `out` the newer forms in the gap that begins at the byte offset `from`, up to the next key, value or
+/// brace. If an allocation fails, `out` has some of the forms.
 #[tactic(auto, using(crate::proofs::Uses::gap_next, crate::proofs::Uses::gap_stop, crate::proofs::Uses::gap_end))]
 fn push_gap(text: &str, gap: Gap, from: usize, out: &mut Vec<NewerForm>) -> Result<(), AllocError>
     ensures { OnOk result (out.new.items ≡ out.old.items ++ spec.gap_forms text.now gap from) }
@@ -287,7 +288,8 @@ fn push_gap(text: &str, gap: Gap, from: usize, out: &mut Vec<NewerForm>) -> Resu
     Ok(())
 }
 
-/// Appends the newer forms in the gap after the opening brace at the offset `at`. Fails if an allocation fails.
+/// Appends to `out` the newer forms in the gap after the opening brace at the byte offset `at`. If an allocation fails,
+/// `out` has some of the forms.
 #[tactic(auto, using(crate::proofs::Uses::gap_past))]
 fn push_opened(text: &str, at: usize, out: &mut Vec<NewerForm>) -> Result<(), AllocError>
     ensures { OnOk result (out.new.items ≡ out.old.items ++ spec.gap_forms text.now Gap.BeforePair (at + 1)) }
@@ -301,7 +303,7 @@ fn push_opened(text: &str, at: usize, out: &mut Vec<NewerForm>) -> Result<(), Al
 
 // ---- values
 
-/// Returns the offset after a key, quotes included.
+/// Returns the byte offset after a key, quotes included.
 #[tactic(auto, using(crate::proofs::Uses::keys_end_last))]
 fn key_end<'de>(text: &str, key: &DottedKey<'de>) -> usize
     ensures { result ≡ spec.keys_end text.now 0 (parts key.now) }
@@ -321,8 +323,8 @@ fn gap_after(position: usize, count: usize) -> Gap
     }
 }
 
-/// Appends the newer forms in a pair of an inline table, and in the gap after it, whose kind is `after`. Fails if an
-/// allocation fails.
+/// Appends to `out` the newer forms in a pair of an inline table, and in the gap after the pair, which is of the kind
+/// `after`. If an allocation fails, `out` has some of the forms.
 #[cycle(push_value)]
 fn push_pair<'de>(
     text: &str,
@@ -339,7 +341,8 @@ fn push_pair<'de>(
     push_gap(text, after, pair.extent.end, out)
 }
 
-/// Appends the newer forms in the pairs of an inline table, and in the gaps after them. Fails if an allocation fails.
+/// Appends to `out` the newer forms in the pairs of an inline table, and in the gaps after them. If an allocation
+/// fails, `out` has some of the forms.
 #[cycle(push_value)]
 fn push_pairs<'de>(
     text: &str,
@@ -355,7 +358,7 @@ fn push_pairs<'de>(
     Ok(())
 }
 
-/// Appends the newer forms in the elements of an array. Fails if an allocation fails.
+/// Appends to `out` the newer forms in the elements of an array. If an allocation fails, `out` has some of the forms.
 #[cycle(push_value)]
 fn push_items<'de>(
     text: &str,
@@ -371,7 +374,7 @@ fn push_items<'de>(
     Ok(())
 }
 
-/// Appends the newer forms in a value. Fails if an allocation fails.
+/// Appends to `out` the newer forms in `value`. If an allocation fails, `out` has some of the forms.
 #[cycle(push_value)]
 fn push_value<'de>(text: &str, value: &Val<'de>, out: &mut Vec<NewerForm>) -> Result<(), AllocError>
     ensures { OnOk result (out.new.items ≡ out.old.items ++ spec.value_forms text.now (parsed_value value.now)) }
@@ -390,7 +393,7 @@ fn push_value<'de>(text: &str, value: &Val<'de>, out: &mut Vec<NewerForm>) -> Re
 
 // ---- the document
 
-/// Appends the newer forms in assignments. Fails if an allocation fails.
+/// Appends to `out` the newer forms in `assignments`. If an allocation fails, `out` has some of the forms.
 fn push_assignments<'de>(
     text: &str,
     assignments: &[Assignment<'de>],
@@ -406,11 +409,11 @@ fn push_assignments<'de>(
     Ok(())
 }
 
-/// Lists each use of syntax that TOML 1.0 lacks in these sections, in the order of the text: forms that TOML 1.1 added,
-/// and forms that only this parser accepts.
+/// Lists each use of syntax that TOML 1.0 lacks, in the order of the text: forms that TOML 1.1 added, and forms that
+/// only this parser accepts.
 ///
-/// `sections` must be what `read_sections` returned for the text. Takes time linear in the length of the text. Fails
-/// only if an allocation fails.
+/// `sections` must be what `read_sections` returned for the text. Takes time linear in the length of the text. Fails if
+/// an allocation fails.
 pub fn newer_forms<'de>(
     alloc: Global,
     text: &str,

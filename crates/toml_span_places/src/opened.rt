@@ -10,20 +10,20 @@ use std::alloc::{AllocError, Global};
 use std::collections::BTreeMap;
 use toml_span_tree::nodes::Step;
 
-/// A step of a path, with an order, so that a map can find paths.
+/// A step of a path, with an order, so that paths can be the keys of a map.
 #[derive(Clone, Copy, PartialEq, Eq, PartialOrd, Ord)]
 enum SortedStep<'t> {
     Key(&'t str),
     Position(usize),
 }
 
-/// How many elements the headers so far have added to each array of tables, by its path.
+/// How many elements the headers so far have added to each array of tables, by the path of the array.
 #[derive(Drop)]
 pub(crate) struct Opened<'t> {
     elements: BTreeMap<Vec<SortedStep<'t>>, usize>,
 }
 
-/// Converts a step to a step with an order.
+/// Converts a `Step` to a `SortedStep`.
 fn sorted_step<'t>(step: Step<'t>) -> SortedStep<'t>
     ensures { spec.sorted_step result ≡ step_of step.entry }
 {
@@ -33,7 +33,7 @@ fn sorted_step<'t>(step: Step<'t>) -> SortedStep<'t>
     }
 }
 
-/// Converts a path to steps that have an order, as the keys of the map need. Fails if an allocation fails.
+/// Converts each step of `path` to a `SortedStep`.
 fn sorted_path<'t>(alloc: Global, path: &[Step<'t>]) -> Result<Vec<SortedStep<'t>>, AllocError>
     ensures { IfOk result (λ sorted. map spec.sorted_step sorted.items ≡ map step_of path.now) }
 {
@@ -45,7 +45,7 @@ fn sorted_path<'t>(alloc: Global, path: &[Step<'t>]) -> Result<Vec<SortedStep<'t
 }
 
 impl<'t> Opened<'t> {
-    /// Returns an empty map.
+    /// Returns an `Opened` without elements.
     pub fn new(alloc: Global) -> Self
         ensures { counts_of result ≡ spec.no_counts }
     {
@@ -55,8 +55,8 @@ impl<'t> Opened<'t> {
     }
 }
 
-/// Returns how many elements the headers so far have added to the array of tables at this path. Fails if an allocation
-/// fails.
+/// Returns how many elements the headers so far have added to the array of tables at `path`, or 0 if `path` names no
+/// such array.
 pub(crate) fn elements_of<'t>(
     alloc: Global,
     opened: &Opened<'t>,
@@ -71,8 +71,8 @@ pub(crate) fn elements_of<'t>(
     }
 }
 
-/// Counts one more element of the array of tables at this path. Fails if an allocation fails, or if the count does not
-/// fit into a `usize`; the counts are then unspecified.
+/// Counts in `opened` one more element of the array of tables at `path`. Fails if an allocation fails, or if the count
+/// does not fit into a `usize`; `opened` then has unspecified counts.
 pub(crate) fn add<'t>(
     alloc: Global,
     opened: &mut Opened<'t>,
@@ -89,9 +89,9 @@ pub(crate) fn add<'t>(
     Ok(())
 }
 
-/// Returns the path of the table that a section fills, given the path of its header. If the header has double brackets
-/// (`array`), counts the element that the header adds, and appends the position of this element to the path. Fails if
-/// an allocation fails.
+/// Returns the path of the table that a section fills. `path` is the path of its header. If the header has double
+/// brackets (`array`), counts in `opened` the element that the header adds, and appends the position of this element to
+/// the path. After a failure, `opened` has unspecified counts.
 pub(crate) fn section_path<'t>(
     alloc: Global,
     array: bool,

@@ -9,7 +9,7 @@ use std::alloc::{AllocError, Global};
 use toml_span_tree::Value;
 use toml_span_tree::nodes::{Visited, nodes};
 
-/// Returns the start of a value or of its key, whichever comes first.
+/// Returns the byte offset at which a value or its key starts, whichever comes first.
 fn first_start(node: &Visited<'_, '_>) -> usize
     ensures { result ≡ start_of node.now }
 {
@@ -21,10 +21,11 @@ fn first_start(node: &Visited<'_, '_>) -> usize
 }
 
 /// Lists `value` and all values inside it, with their paths and keys, in the order in which they begin in the text. A
-/// value begins with its key or its span, whichever comes first, and a table with the first header that names it.
+/// value begins where its key or its span begins, whichever comes first. A table that headers name begins with the
+/// first of these headers.
 ///
 /// Values that begin at the same byte are in the order of `toml_span_tree::nodes`, a value before the values inside it:
-/// for `[[a]]`, the array before its first element. Fails if an allocation fails, for the list or for a path.
+/// for `[[a]]`, the array before its first element. Fails if an allocation fails.
 pub fn nodes_in_text_order<'t, 'de>(
     alloc: Global,
     value: &'t Value<'de>,

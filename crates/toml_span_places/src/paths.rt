@@ -12,7 +12,7 @@ use std::alloc::{AllocError, Global};
 use toml_span_lex::key::Key;
 use toml_span_tree::nodes::Step;
 
-/// Returns `path` with a step appended. Fails if an allocation fails.
+/// Returns `path` with `step` appended.
 pub(crate) fn extended<'t>(
     mut path: Vec<Step<'t>>,
     step: Step<'t>,
@@ -23,7 +23,7 @@ pub(crate) fn extended<'t>(
     Ok(path)
 }
 
-/// Returns `path` with a key appended. Fails if an allocation fails.
+/// Returns `path` with a step for `key` appended.
 pub(crate) fn with_key<'t, 'de>(
     path: Vec<Step<'t>>,
     key: &'t Key<'de>,
@@ -33,7 +33,7 @@ pub(crate) fn with_key<'t, 'de>(
     extended(path, Step::Key(key.name.as_ref()))
 }
 
-/// Returns a copy of a path. Fails if an allocation fails.
+/// Returns a copy of `path`.
 pub(crate) fn copied<'t>(alloc: Global, path: &[Step<'t>]) -> Result<Vec<Step<'t>>, AllocError>
     ensures { IfOk result (λ steps. steps_of steps ≡ map step_of path.now) }
 {
@@ -41,7 +41,7 @@ pub(crate) fn copied<'t>(alloc: Global, path: &[Step<'t>]) -> Result<Vec<Step<'t
     Ok(steps)
 }
 
-/// Returns the path of the element at `position` of the array at `path`. Fails if an allocation fails.
+/// Returns the path of the element at `position` of the array at `path`.
 pub(crate) fn element_path<'t>(
     alloc: Global,
     path: &[Step<'t>],
@@ -84,8 +84,8 @@ pub(crate) fn same_path(path: &[Step<'_>], other: &[Step<'_>]) -> bool
     same_step(step, other_step) && same_path(path_rest, other_rest)
 }
 
-/// Returns the position of the latest element of the array of tables at this path, or `None` if there is none. Fails if
-/// an allocation fails.
+/// Returns the position of the latest element in `opened` of the array of tables at `path`, or `None` if the array has
+/// no elements.
 pub(crate) fn latest<'t>(
     alloc: Global,
     opened: &Opened<'t>,
@@ -97,7 +97,7 @@ pub(crate) fn latest<'t>(
     Ok(added.checked_sub(1))
 }
 
-/// Returns `path` with the position of an element appended, if one is given. Fails if an allocation fails.
+/// Returns `path` with the position `element` appended, if there is one.
 pub(crate) fn entered<'t>(
     path: Vec<Step<'t>>,
     element: Option<usize>,

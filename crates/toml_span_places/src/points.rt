@@ -24,7 +24,7 @@ pub struct InsertionPoint {
     pub needs_line_end: bool,
 }
 
-/// Returns the offset after a byte order mark at the start of the text, or 0 if there is none.
+/// Returns the byte offset after a byte order mark at the start of the text, or 0 without one.
 pub(crate) fn text_start(text: &str) -> usize
     ensures { result ≡ spec.text_start text.now }
 {
@@ -34,8 +34,8 @@ pub(crate) fn text_start(text: &str) -> usize
     if is_marked { 3 } else { 0 }
 }
 
-/// Returns where to insert a line in a table that no section fills: for the root, at the start of the text, after a
-/// byte order mark. Returns `None` for any other table.
+/// Returns the insertion point for the table at `path` if no section fills it: for the root, the start of `text`, after
+/// a byte order mark. Returns `None` for any other table.
 fn without_section(text: &str, path: &[Step<'_>]) -> Option<InsertionPoint>
     ensures { result ≡ spec.without_section text.now (map step_of path.now) }
 {
@@ -48,7 +48,7 @@ fn without_section(text: &str, path: &[Step<'_>]) -> Option<InsertionPoint>
     })
 }
 
-/// Returns the insertion point after the lines of a section's assignments, which span `body`.
+/// Returns the insertion point after the lines of a section's assignments, whose span is `body`.
 fn after_body(text: &str, body: Span) -> InsertionPoint
     ensures { result ≡ spec.after_body text.now body }
 {
@@ -58,8 +58,7 @@ fn after_body(text: &str, body: Span) -> InsertionPoint
     }
 }
 
-/// Returns the insertion point after the last of these sections that fills the table at `path`, or `point` if none
-/// does.
+/// Returns the insertion point after the last of `places` that fills the table at `path`, or `point` if none does.
 fn last_point(
     text: &str,
     path: &[Step<'_>],
@@ -78,12 +77,12 @@ fn last_point(
 }
 
 /// Returns where to insert a line `key = value` into the table at `path`: after the last assignment below its own
-/// header or, if there is none, after the line of the header.
+/// header or, if it has no assignments there, after the line of the header.
 ///
-/// For the root, that is after the last assignment before the first header or, if there is none, at the start of the
-/// text, after a byte order mark. The path of an element ends with its position. Returns `None` if the table has no
-/// header of its own, because only longer headers or dotted keys name it, because it is an inline table or an array, or
-/// because it does not exist.
+/// For the root, returns the point after the last assignment before the first header. Without such an assignment,
+/// returns the start of the text, after a byte order mark. For an element of an array of tables, the last step of
+/// `path` is its position. Returns `None` if the table has no header of its own: if only longer headers or dotted keys
+/// name it, if it is an inline table or an array, or if it does not exist.
 ///
 /// Write the line with a line end after it and, if `needs_line_end`, another line end before it. `sections` must be
 /// what `read_sections` returned for the text. Fails if an allocation fails.

@@ -9,8 +9,8 @@ ghost use Rattle.toml_span_places.specs.Quoted as spec;
 use std::alloc::{AllocError, Global};
 use toml_span_lex::bytes::is_keylike;
 
-/// Returns the letter of the character's short escape (TOML 1.1, String), such as `n` for a line feed. Returns `None`
-/// for a character without one, and for a tab, which needs no escape.
+/// Returns the letter of the short escape of `c`, such as `n` for a line feed. Returns `None` if `c` has no short
+/// escape, and for a tab, which needs no escape.
 fn letter_of(c: char) -> Option<char>
     ensures { result ≡ spec.letter_of c }
 {
@@ -25,14 +25,14 @@ fn letter_of(c: char) -> Option<char>
     }
 }
 
-/// Returns whether the character is a control character other than a tab.
+/// Returns whether `c` is an ASCII control character other than a tab.
 fn is_control(c: char) -> bool
     ensures { result ≡ spec.is_control c }
 {
     (c < ' ' && c != '\t') || c == '\u{7f}'
 }
 
-/// Appends a hexadecimal digit. Fails if an allocation fails.
+/// Appends `digit` to `out` as a lower-case hexadecimal digit.
 fn push_digit(out: &mut String, digit: u32) -> Result<(), AllocError>
     requires { digit < 16 }
     ensures { OnOk result (string_bytes out.new ≡ string_bytes out.old ++ encode_utf8 (digit_char digit)) }
@@ -40,7 +40,7 @@ fn push_digit(out: &mut String, digit: u32) -> Result<(), AllocError>
     out.push(char::from_digit(digit, 16).unwrap_or('0'))
 }
 
-/// Appends the escape `\xHH` of a character. Fails if an allocation fails.
+/// Appends the escape `\xHH` of `c` to `out`. If an allocation fails, `out` may have a part of it.
 fn push_number(out: &mut String, c: char) -> Result<(), AllocError>
     requires { c < 256 }
     ensures { OnOk result (string_bytes out.new ≡ string_bytes out.old ++ spec.number_escape c) }
@@ -50,7 +50,7 @@ fn push_number(out: &mut String, c: char) -> Result<(), AllocError>
     push_digit(out, c as u32 % 16)
 }
 
-/// Appends the escape with this letter. Fails if an allocation fails.
+/// Appends a backslash and `letter` to `out`. If an allocation fails, `out` may have the backslash alone.
 fn push_letter(out: &mut String, letter: char) -> Result<(), AllocError>
     ensures { OnOk result (string_bytes out.new ≡ string_bytes out.old ++ spec.letter_escape letter) }
 {
@@ -58,7 +58,7 @@ fn push_letter(out: &mut String, letter: char) -> Result<(), AllocError>
     out.push(letter)
 }
 
-/// Appends a character as it is written in a basic string. Fails if an allocation fails.
+/// Appends `c` to `out` as it is written in a basic string. If an allocation fails, `out` may have a part of it.
 fn push_char(out: &mut String, c: char) -> Result<(), AllocError>
     ensures { OnOk result (string_bytes out.new ≡ string_bytes out.old ++ spec.basic_char c) }
 {
@@ -69,7 +69,8 @@ fn push_char(out: &mut String, c: char) -> Result<(), AllocError>
     }
 }
 
-/// Appends a text as it is written in a basic string, without the quotes. Fails if an allocation fails.
+/// Appends `text` to `out` as it is written in a basic string, without the quotes. If an allocation fails, `out` may
+/// have a part of it.
 fn push_basic(out: &mut String, text: &str) -> Result<(), AllocError>
     ensures { OnOk result (string_bytes out.new ≡ string_bytes out.old ++ spec.basic text.now) }
 {
@@ -79,14 +80,15 @@ fn push_basic(out: &mut String, text: &str) -> Result<(), AllocError>
     Ok(())
 }
 
-/// Returns whether the byte is a quotation mark or a backslash, which must be escaped in a basic string.
+/// Returns whether `byte` is a quotation mark or a backslash, which must be escaped in a basic string.
 fn is_escaped(byte: u8) -> bool
     ensures { result ≡ spec.is_escaped byte }
 {
     byte == b'"' || byte == b'\\'
 }
 
-/// Returns whether the byte must not occur in a literal string.
+/// Returns whether `byte` is an apostrophe or an ASCII control character other than a tab, which must not occur in a
+/// literal string.
 fn is_unliteral(byte: u8) -> bool
     ensures { result ≡ spec.is_unliteral byte }
 {
@@ -100,21 +102,21 @@ fn has_escaped(bytes: &[u8]) -> bool
     bytes.iter().any(|byte| is_escaped(*byte))
 }
 
-/// Returns whether one of the bytes must not occur in a literal string.
+/// Returns whether one of the bytes must not occur in a literal string (see `is_unliteral`).
 fn has_unliteral(bytes: &[u8]) -> bool
     ensures { result ≡ list_any spec.is_unliteral bytes.now }
 {
     bytes.iter().any(|byte| is_unliteral(*byte))
 }
 
-/// Returns whether the text can be a literal string, and is shorter as one.
+/// Returns whether `text` can be written as a literal string, and is then shorter than as a basic string.
 fn is_literal(text: &str) -> bool
     ensures { result ≡ spec.is_literal text.now }
 {
     has_escaped(text.as_bytes()) && !has_unliteral(text.as_bytes())
 }
 
-/// Returns the text as a basic or literal string, whichever is shorter. Fails if an allocation fails.
+/// Returns `text` as a basic or literal string, whichever is shorter.
 fn spelled_string(alloc: Global, text: &str) -> Result<String, AllocError>
     ensures { IfOk result (λ out. string_bytes out ≡ spec.quoted text.now) }
 {
@@ -131,11 +133,11 @@ fn spelled_string(alloc: Global, text: &str) -> Result<String, AllocError>
     Ok(out)
 }
 
-/// Returns the shortest string on one line that spells the text: a basic string with the necessary escapes, or a
-/// literal string if that is possible and shorter.
+/// Returns the shortest string on one line that spells `text`: a basic string with the necessary escapes, or a literal
+/// string if that is possible and shorter.
 ///
-/// Wherever a document contains the result, it is read as a string with this value, unless the bytes after the result
-/// continue it (see `parts_off` in `toml_span_read`). Fails only if an allocation fails.
+/// Where a string may begin in a document, the result is read as a string with this value, unless the bytes after the
+/// result continue it (see `parts_off` in `toml_span_read`). Fails if an allocation fails.
 ///
 /// `basic-string = quotation-mark *basic-char quotation-mark`, `literal-string = apostrophe *literal-char apostrophe`
 /// (TOML 1.1, String)
@@ -153,14 +155,14 @@ fn all_keylike(bytes: &[u8]) -> bool
     bytes.iter().all(|byte| is_keylike(*byte))
 }
 
-/// Returns whether a name can be written without quotes.
+/// Returns whether `name` can be written as a bare key.
 fn is_bare(name: &str) -> bool
     ensures { result ≡ spec.is_bare name.now }
 {
     !name.is_empty() && all_keylike(name.as_bytes())
 }
 
-/// Returns the name as a bare key if possible, otherwise as a string. Fails if an allocation fails.
+/// Returns `name` as a bare key if possible, otherwise as a string.
 fn spelled_key(alloc: Global, name: &str) -> Result<String, AllocError>
     ensures { IfOk result (λ out. string_bytes out ≡ spec.key_text name.now) }
 {
@@ -171,11 +173,11 @@ fn spelled_key(alloc: Global, name: &str) -> Result<String, AllocError>
     }
 }
 
-/// Returns the shortest key that spells the name: the name itself if it is not empty and consists of ASCII letters,
-/// digits, `-` and `_`, otherwise a string.
+/// Returns the shortest key that spells `name`: `name` itself if it is not empty and consists of ASCII letters, digits,
+/// `-` and `_`, otherwise a string.
 ///
-/// Wherever a document contains the result, it is read as one simple key with this name, unless the bytes after the
-/// result continue it (see `parts_off` in `toml_span_read`). Fails only if an allocation fails.
+/// Where a key may begin in a document, the result is read as one simple key with this name, unless the bytes after the
+/// result continue it (see `parts_off` in `toml_span_read`). Fails if an allocation fails.
 ///
 /// `simple-key = quoted-key / unquoted-key` (TOML 1.1, Keys)
 pub fn quote_key(alloc: Global, name: &str) -> Result<String, AllocError>

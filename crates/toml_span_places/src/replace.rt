@@ -39,7 +39,7 @@ pub struct ReplaceError {
     pub fault: SpanFault,
 }
 
-/// Returns whether the offset `at` is at a character boundary, or beyond the text.
+/// Returns whether the byte offset `at` is a character boundary of `text`, or after its end.
 fn is_boundary(text: &str, at: usize) -> bool
     ensures { result ≡ spec.is_boundary text.now at }
 {
@@ -47,7 +47,7 @@ fn is_boundary(text: &str, at: usize) -> bool
     byte < 0x80 || byte >= 0xC0
 }
 
-/// Returns what is wrong with a span, or `None` if the span is valid. `from` is the end of the span before it.
+/// Returns what is wrong with `span`, or `None` if it is valid. `from` is the end of the span before it.
 fn fault_of(text: &str, from: usize, span: Span) -> Option<SpanFault>
     ensures { result ≡ spec.fault_of text.now from span }
 {
@@ -64,7 +64,8 @@ fn fault_of(text: &str, from: usize, span: Span) -> Option<SpanFault>
     }
 }
 
-/// Appends the bytes `from..to` of `text`, and then the text `then`. Fails if an allocation fails.
+/// Appends to `new` the bytes `from..to` of `text`, and then `then`. If an allocation fails, `new` may have those bytes
+/// without `then`.
 fn push_part(
     new: &mut String,
     text: &str,
@@ -81,11 +82,11 @@ fn push_part(
     new.push_str(then)
 }
 
-/// Returns the text with all replacements made. The other bytes are unchanged.
+/// Returns `text` with all replacements made. The other bytes are unchanged.
 ///
 /// The spans must be in the order of the text, and must not overlap. Fails with `Stop::Fault`, which names the first
-/// replacement whose span is invalid, overlaps an earlier one or precedes it, and with `Stop::Memory` if an allocation
-/// fails.
+/// replacement whose span is invalid or starts before the end of the span before it, and with `Stop::Memory` if an
+/// allocation fails.
 pub fn replace_all(
     alloc: Global,
     text: &str,
@@ -107,7 +108,7 @@ pub fn replace_all(
     Ok(new)
 }
 
-/// Returns a list that replaces each of the spans with `text`. Fails if an allocation fails.
+/// Returns a list that replaces each of `spans` with `text`.
 fn with_each<'r>(
     alloc: Global,
     spans: &[Span],
@@ -122,8 +123,8 @@ fn with_each<'r>(
     Ok(list)
 }
 
-/// Returns the text with each of the spans replaced with the text `with`. Returns `None` if a span is invalid, or
-/// starts before the end of the span before it. Fails if an allocation fails.
+/// Returns `text` with each of `spans` replaced with `with`. Returns `None` if a span is invalid, or starts before the
+/// end of the span before it. Fails if an allocation fails.
 pub fn replaced(
     alloc: Global,
     text: &str,

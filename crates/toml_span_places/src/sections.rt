@@ -34,12 +34,14 @@ pub struct SectionPlace<'t> {
     pub form: SectionForm,
     /// The header's line, from its first bracket to the end of the line, including the line end. 0..0 without a header.
     pub header: Span,
-    /// The lines of the assignments, including the line ends. Without assignments it is empty, after the header's line.
+    /// From the end of the header's line to the end of the last assignment's line, including the line end. Without a
+    /// header, begins with the first assignment and the spaces and tabs before it. Without assignments, the empty span
+    /// after the header's line.
     pub body: Span,
 }
 
-/// Returns how a section begins, given the form of the mention at its start. Returns `None` if no section begins with a
-/// mention of this form.
+/// Returns how a section begins, given `named`, the form in which its header names its table (`None` for the root).
+/// Returns `None` for a form in which no header names the table of its section.
 fn form_of(named: Option<TableForm>) -> Option<SectionForm>
     ensures { result ≡ spec.form_of named }
 {
@@ -51,8 +53,8 @@ fn form_of(named: Option<TableForm>) -> Option<SectionForm>
     }
 }
 
-/// Returns the span of the lines of a section's assignments, given the section's form and the details of the mention at
-/// its start.
+/// Returns the `body` of a `SectionPlace`. `form` is how the section begins, and `details` has the details of a mention
+/// in its header or, without a header, of the root.
 fn body_of(text: &str, form: SectionForm, details: Details) -> Span
     ensures { result ≡ spec.body_of text.now form details }
 {
@@ -64,7 +66,8 @@ fn body_of(text: &str, form: SectionForm, details: Details) -> Span
     Span { start, end }
 }
 
-/// Returns the section that begins with this mention, or `None` if no section does. Fails if an allocation fails.
+/// Returns the section of `mention` if the mention is by the last part of the section's header, or names the root.
+/// Otherwise returns `None`.
 fn section_of<'t>(text: &str, mention: Mention<'t>) -> Result<Option<SectionPlace<'t>>, AllocError>
     ensures { IfOk result (λ place. option_map section_mention place
         ≡ spec.section_of text.now (mentioned mention.entry)) }
@@ -87,7 +90,7 @@ fn section_of<'t>(text: &str, mention: Mention<'t>) -> Result<Option<SectionPlac
 /// Lists these sections, in the order of the text, each with the path of the table that it fills.
 ///
 /// `sections` must be what `read_sections` returned for the text. The root is listed only if there are assignments
-/// before the first header. Fails if an allocation fails, for the list or for a path.
+/// before the first header. Fails if an allocation fails.
 pub fn section_places<'t, 'de>(
     alloc: Global,
     text: &str,

@@ -14,7 +14,7 @@ use std::alloc::{AllocError, Global};
 use std::fmt::Write;
 use toml_span_tree::{Table, Value, ValueInner};
 
-/// Appends a text as a TOML string. Fails if an allocation fails.
+/// Appends `text` to `out` as a TOML string.
 fn push_string(alloc: Global, text: &str, out: &mut String) -> Result<(), AllocError>
     ensures text { OnOk result (string_bytes out.new ≡ string_bytes out.old ++ quoted.quoted text.now) }
     ensures held { OnOk result (IsUtf8 text.now) }
@@ -23,7 +23,7 @@ fn push_string(alloc: Global, text: &str, out: &mut String) -> Result<(), AllocE
     out.push_str(spelled.as_str())
 }
 
-/// Appends a name as a TOML key, and ` = `. Fails if an allocation fails.
+/// Appends `name` to `out` as a TOML key, and then ` = `. If an allocation fails, `out` may have the key alone.
 fn push_key(alloc: Global, name: &str, out: &mut String) -> Result<(), AllocError>
     ensures text { OnOk result (string_bytes out.new ≡ string_bytes out.old ++ spec.key_equals name.now) }
     ensures held { OnOk result (IsUtf8 name.now) }
@@ -33,7 +33,7 @@ fn push_key(alloc: Global, name: &str, out: &mut String) -> Result<(), AllocErro
     out.push_str(" = ")
 }
 
-/// Appends an integer in decimal. Fails if an allocation fails.
+/// Appends `number` to `out` in decimal. If an allocation fails, `out` may have a part of it.
 fn push_integer(number: i64, out: &mut String) -> Result<(), AllocError>
     ensures text { OnOk result (string_bytes out.new ≡ string_bytes out.old ++ signed_decimal number) }
     ensures held { OnOk result (IsHeldScalar (integer number)) }
@@ -41,14 +41,14 @@ fn push_integer(number: i64, out: &mut String) -> Result<(), AllocError>
     write!(out, "{number}")
 }
 
-/// Appends the comma and space before an element or a pair, or nothing before the first. Fails if an allocation fails.
+/// Appends to `out` the comma and space before an element or a pair. Appends nothing before the first.
 fn push_separator(is_first: bool, out: &mut String) -> Result<(), AllocError>
     ensures { OnOk result (string_bytes out.new ≡ string_bytes out.old ++ spec.separator is_first) }
 {
     out.push_str(if is_first { "" } else { ", " })
 }
 
-/// Appends a value. Appends nothing for a value that has been taken. Fails if an allocation fails.
+/// Appends `value` to `out`. Appends nothing for a taken value. If an allocation fails, `out` has a part of the text.
 #[cycle(push_value)]
 fn push_value(alloc: Global, value: &Value<'_>, out: &mut String) -> Result<(), AllocError>
     ensures text { OnOk result (string_bytes out.new ≡ string_bytes out.old ++ spec.value_text (view value.now)) }
@@ -76,7 +76,8 @@ fn push_value(alloc: Global, value: &Value<'_>, out: &mut String) -> Result<(), 
     }
 }
 
-/// Appends the elements of an array, separated by commas. Fails if an allocation fails.
+/// Appends the elements of an array to `out`, separated by commas. If an allocation fails, `out` has a part of the
+/// text.
 #[cycle(push_value)]
 fn push_elements(alloc: Global, elements: &[Value<'_>], out: &mut String) -> Result<(), AllocError>
     ensures text { OnOk result (string_bytes out.new ≡ string_bytes out.old
@@ -92,7 +93,7 @@ fn push_elements(alloc: Global, elements: &[Value<'_>], out: &mut String) -> Res
     Ok(())
 }
 
-/// Appends the entries of a table, separated by commas. Fails if an allocation fails.
+/// Appends the entries of a table to `out`, separated by commas. If an allocation fails, `out` has a part of the text.
 #[cycle(push_value)]
 fn push_entries(alloc: Global, table: &Table<'_>, out: &mut String) -> Result<(), AllocError>
     ensures text { OnOk result (string_bytes out.new ≡ string_bytes out.old
@@ -109,7 +110,7 @@ fn push_entries(alloc: Global, table: &Table<'_>, out: &mut String) -> Result<()
     Ok(())
 }
 
-/// Returns a value as TOML on one line. Fails if an allocation fails.
+/// Returns `value` as TOML on one line.
 fn spelled_value(alloc: Global, value: &Value<'_>) -> Result<String, AllocError>
     ensures text { IfOk result (λ text. string_bytes text ≡ spec.value_text (view value.now)) }
     ensures held { OnOk result (IsHeld (view value.now)) }
@@ -119,14 +120,14 @@ fn spelled_value(alloc: Global, value: &Value<'_>) -> Result<String, AllocError>
     Ok(out)
 }
 
-/// Returns a value as TOML on one line: strings and keys as `quote_string` and `quote_key` write them, integers in
+/// Returns `value` as TOML on one line: strings and keys as `quote_string` and `quote_key` write them, integers in
 /// decimal, floats and dates as their texts, arrays in brackets, and tables as inline tables with their keys in the
 /// order of the names.
 ///
-/// Wherever a document contains the result, it is read as this value, unless the bytes after the result continue it
-/// (see `parts_off` in `toml_span_read`). That holds if nothing has been taken from the value (`is_whole`), the value
-/// is not nested deeper than the limit of the read, and the texts of its floats are valid, as in every tree that
-/// `parse` returns. Otherwise it may be read as another value, or not at all. Fails only if an allocation fails.
+/// Where a value may begin in a document, the result is read as this value, unless the bytes after the result continue
+/// it (see `parts_off` in `toml_span_read`). The value must be whole (`is_whole`), the texts of its floats must be
+/// valid, as in every tree that `parse` returns, and it must not be nested deeper than the limit of the read. Otherwise
+/// the result may be read as another value, or not at all. Fails if an allocation fails.
 pub fn to_toml(alloc: Global, value: &Value<'_>) -> Result<String, AllocError>
     ensures spelling { IfOk result (λ text. string_bytes text ≡ spec.value_text (view value.now)) }
     ensures reads { IfOk result (λ text. ReadsAsValue (view value.now) (string_bytes text)) }

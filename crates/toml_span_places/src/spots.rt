@@ -12,7 +12,7 @@ use toml_span_lex::span::Span;
 use toml_span_tree::Value;
 use toml_span_tree::nodes::{Step, Visited, nodes};
 
-/// Whether a place is the key of an entry, or the value of an entry or element.
+/// Whether a place is a key or a value.
 #[derive(Clone, Copy, Debug, PartialEq, Eq)]
 pub enum Part {
     Key,
@@ -22,7 +22,7 @@ pub enum Part {
 /// A key or a value of a tree, with its path and its span.
 #[derive(Drop)]
 pub struct NodePlace<'t, 'de> {
-    /// The path from the root to the value, or to the value whose key this is.
+    /// The path from the root to the value. For a key, the path to the value of the key.
     pub path: Vec<Step<'t>>,
     pub part: Part,
     /// The span of the key or value, quotes included.
@@ -31,16 +31,17 @@ pub struct NodePlace<'t, 'de> {
     pub value: &'t Value<'de>,
 }
 
-/// Returns whether the span contains the offset.
+/// Returns whether `span` contains the byte offset `offset`.
 fn holds(span: Span, offset: usize) -> bool
     ensures { result ≡ spec.holds span offset }
 {
     span.start <= offset && offset < span.end
 }
 
-/// Returns the part, key or value, that contains the offset, with the span of the part. `literal` is the span of the
-/// value, and `quoted` the span of its key, if it has one, both with quotes. If both contain the offset, returns the
-/// one that starts later, or the value if they start together. If neither does, returns the value.
+/// Returns the part, key or value, that contains the byte offset `offset`, with the span of the part. `literal` is the
+/// span of the value, and `quoted` the span of its key, if there is one, both with quotes. If both contain the offset,
+/// returns the part that starts later, or the value if they start together. If neither contains the offset, returns the
+/// value.
 fn chosen(offset: usize, literal: Span, quoted: Option<Span>) -> (Part, Span)
     ensures { result ≡ spec.chosen offset literal quoted }
 {
@@ -55,7 +56,7 @@ fn chosen(offset: usize, literal: Span, quoted: Option<Span>) -> (Part, Span)
     }
 }
 
-/// Returns the value of `node` or its key, as `chosen` chooses, or `None` if neither contains the offset.
+/// Returns the value of `node` or its key, as `chosen` chooses, or `None` if neither contains the byte offset `offset`.
 fn spot_of<'t, 'de>(text: &str, offset: usize, node: Visited<'t, 'de>) -> Option<NodePlace<'t, 'de>>
     ensures { option_map spot result ≡ spec.spot_of text.now offset (seen node.entry) }
 {
@@ -83,13 +84,14 @@ fn later<'t, 'de>(best: Option<NodePlace<'t, 'de>>, place: NodePlace<'t, 'de>) -
     }
 }
 
-/// Returns the innermost key or value that contains the byte at `offset`, with its path, or `None` if `offset` is not
-/// below the length of the text.
+/// Returns the innermost key or value that contains the byte at the offset `offset`, with its path. Returns `None` if
+/// `offset` is not below the length of the text.
 ///
 /// The innermost is the one that starts last among the keys and values whose spans, quotes included, contain the byte.
-/// If several start there, it is the deepest in the tree. In a header that names a table again, the result is the
-/// table, since the tree keeps only one key of each table. `root` must be the tree that `parse` returned for the text.
-/// Fails if an allocation fails, for the path of a value.
+/// If several start at the same offset, it is the deepest in the tree. The tree keeps only one key of each table: where
+/// another key names the table again, the result is the innermost value that contains the byte.
+///
+/// `root` must be the tree that `parse` returned for the text. Fails if an allocation fails.
 pub fn node_at<'t, 'de>(
     alloc: Global,
     root: &'t Value<'de>,

@@ -39,7 +39,7 @@ pub struct TablePlace<'t> {
     pub span: Span,
 }
 
-/// Returns the table that a mention names, or `None` if it does not name a table. Fails if an allocation fails.
+/// Returns the table that a mention names, or `None` if the mention does not name a table.
 fn table_of<'t>(mention: Mention<'t>) -> Result<Option<TablePlace<'t>>, AllocError>
     ensures { IfOk result (λ place. option_map table_mention place ≡ spec.table_of (mentioned mention.entry)) }
 {
@@ -56,8 +56,7 @@ fn table_of<'t>(mention: Mention<'t>) -> Result<Option<TablePlace<'t>>, AllocErr
 /// names one. The root is not listed.
 ///
 /// For `[a]`, `b.c = 1` and `[a.b.d]`, the table `a` is listed as `Header` and as `Passed`, and `a.b` as `Dotted` and
-/// as `Passed`. `sections` must be what `read_sections` returned for the text. Fails if an allocation fails, for the
-/// list or for a path.
+/// as `Passed`. `sections` must be what `read_sections` returned for the text. Fails if an allocation fails.
 pub fn table_places<'t, 'de>(
     alloc: Global,
     sections: &'t [Section<'de>],
@@ -74,7 +73,7 @@ pub fn table_places<'t, 'de>(
     Ok(out)
 }
 
-/// Returns how each of the places with this path names the table. Fails if an allocation fails.
+/// Returns the form of each of `places` whose path is `path`.
 fn forms_of(
     alloc: Global,
     places: &[TablePlace<'_>],

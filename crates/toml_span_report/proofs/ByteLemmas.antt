@@ -1,7 +1,7 @@
--- What is open before an offset, and the value of digits, with one more byte.
-use Rattle.toml_span_lex.proofs.Common.{◌≡◌, ℕ, ◌+◌, List, refl, add-one}
-use Rattle.std.specs.Prelude.{slice_index}
-use Rattle.toml_span_report.specs.found.Numbers.{next_value, value_of}
+-- What is open before an offset, the value of digits, and misplaced underscores, with one more byte.
+use Rattle.toml_span_lex.proofs.Common.{◌≡◌, ℕ, ◌+◌, List, refl, sym, ap, add-one}
+use Rattle.std.specs.Prelude.{◌||◌, slice_index}
+use Rattle.toml_span_report.specs.found.Numbers.{has_misplaced, is_misplaced, next_value, value_of}
 use Rattle.toml_span_report.specs.Scan.{scanned, step}
 
 -- what is open after one more byte
@@ -13,3 +13,8 @@ pub value-step : (digits : List ℕ) (base i : ℕ)
     → next_value (value_of digits base i) base (slice_index digits i) ≡ value_of digits base (i + 1)
 unfolding value_of
 value-step digits base i = rw (add-one i) refl
+
+pub misplaced-step : (number : List ℕ) (i : ℕ)
+    → (has_misplaced number i || is_misplaced number i) ≡ has_misplaced number (i + 1)
+unfolding has_misplaced
+misplaced-step number i = ap (has_misplaced number) (sym (add-one i))

@@ -1,6 +1,6 @@
 -- Bytes of a text at any offsets, and runs of bytes of a class.
 use Rattle.std.specs.Prelude.{ℕ, zero, suc, ◌+◌, ◌-◌, max, Bool, ◌==◌, ◌&&◌, ◌||◌, not, nat_eq, nat_lt, nat_le, List}
-use Rattle.std.specs.Prelude.{min, length, drop, slice_index, slice_range, if◌then◌else◌}
+use Rattle.std.specs.Prelude.{[], ◌∷◌, min, length, drop, slice_index, slice_range, if◌then◌else◌}
 use Rattle.std.specs.List.{position_or_len, starts_with}
 use Rattle.toml_span_report.specs.Places.{place}
 use Rattle.toml_span_report.specs.declared.bytes.Class.{Class}
@@ -50,6 +50,7 @@ is_in class.WithoutDouble b = not (b == 34) && is_line b
 is_in class.WithoutSingle b = not (b == 39) && is_line b
 is_in class.Continuation b = nat_le 0x80 b && nat_le b 0xBF
 is_in class.Straight b = is_line b && not (b == 0xE2)
+is_in class.Uncommented b = is_line b && not (b == 35)
 
 abbrev pub begins : List ℕ → ℕ → List ℕ → Bool
 begins text at front = starts_with nat_eq (drop at text) front
@@ -78,9 +79,15 @@ byte_before text at =
 abbrev pub byte_after : List ℕ → ℕ → ℕ
 byte_after text at = slice_index text (end_of class.Blank text at)
 
--- the offset of the first byte of a line that is not a blank, and the end of a line without trailing blanks
+-- the start of a line, after a byte order mark; the offset of its first byte there that is not a blank; and the end of
+-- a line without trailing blanks
+unfoldable pub line_begin : List ℕ → ℕ → ℕ
+line_begin text at =
+    let start = start_of class.Line text at in
+    if start == 0 && begins text 0 (0xEF ∷ 0xBB ∷ 0xBF ∷ []) then 3 else start
+
 abbrev pub first_of_line : List ℕ → ℕ → ℕ
-first_of_line text at = end_of class.Blank text (start_of class.Line text at)
+first_of_line text at = end_of class.Blank text (line_begin text at)
 
 abbrev pub last_of_line : List ℕ → ℕ → ℕ
 last_of_line text at = start_of class.Blank text (end_of class.Line text at)

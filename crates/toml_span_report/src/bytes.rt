@@ -1,4 +1,5 @@
-//! Bytes of a text at offsets that may lie beyond its end, and runs of bytes of one class.
+//! Bytes of a text at offsets that may lie beyond its end, and runs of bytes of one class. Here, each LF or CR ends a
+//! line.
 ghost use Rattle.std.specs.Prelude.{◌≡◌, ◌≤◌, length, slice_index};
 ghost use Rattle.std.specs.List.{position_or_len};
 ghost use Rattle.toml_span_report.specs.Bytes as spec;
@@ -10,9 +11,9 @@ use crate::places::place;
 pub(crate) enum Class {
     /// A space or a tab.
     Blank,
-    /// A space, a tab or a byte of a line end.
+    /// A space, a tab, LF or CR.
     Gap,
-    /// Any byte except those of a line end, LF and CR.
+    /// Any byte except LF and CR.
     Line,
     /// A byte of `Line`, except quotes and backticks.
     Unquoted,
@@ -20,19 +21,19 @@ pub(crate) enum Class {
     Enclosed,
     /// A byte of `Line`, except `=` and `#`.
     Left,
-    /// A byte of an unquoted value: anything except control characters, spaces, `"`, `'`, commas, `]` and `}`.
+    /// A byte of an unquoted value: anything except ASCII control characters, spaces, `"`, `'`, commas, `]` and `}`.
     Word,
     /// A byte of `Word`, except `=`, `[` and `{`.
     Atom,
-    /// A byte of several unquoted words: one of `Word` or a blank, but not `=` or `#`.
+    /// A byte of several unquoted words: a byte of `Word` or `Blank`, except `=` and `#`.
     Phrase,
-    /// A byte of an unquoted key, whether or not TOML allows it there: a byte of `Atom`, except `.`, `#` and `:`.
+    /// A byte of an unquoted key, even if TOML does not allow it there: a byte of `Atom`, except `.`, `#` and `:`.
     Name,
     /// A byte of `Name`, or `.`.
     Dotted,
     /// A byte of `Name`, or a blank.
     Spaced,
-    /// A byte between the brackets and dots of a header, except quotes.
+    /// A byte of `Line`, except `.`, `[`, `]`, `"` and `'`.
     Header,
     /// A digit.
     Digit,
@@ -54,10 +55,12 @@ pub(crate) enum Class {
     WithoutDouble,
     /// A byte of `Line`, except `'`.
     WithoutSingle,
-    /// A continuation byte: any byte of a character beyond ASCII except its first.
+    /// A continuation byte of UTF-8: any byte of a character beyond ASCII except the first.
     Continuation,
     /// A byte of `Line` that does not begin a character from U+2000 to U+2FFF.
     Straight,
+    /// A byte of `Line`, except `#`.
+    Uncommented,
 }
 
 /// Returns whether the byte is of the class `Word`.
@@ -102,7 +105,7 @@ fn is_digit(byte: u8) -> bool
     matches!(byte, b'0'..=b'9')
 }
 
-/// Returns whether the byte is of the class.
+/// Returns whether the byte is of the class `class`.
 pub(crate) fn is_in(class: Class, byte: u8) -> bool
     ensures { result ≡ spec.is_in class byte }
 {
@@ -134,10 +137,11 @@ pub(crate) fn is_in(class: Class, byte: u8) -> bool
         Class::WithoutSingle => byte != b'\'' && is_line(byte),
         Class::Continuation => matches!(byte, 0x80..=0xBF),
         Class::Straight => is_line(byte) && byte != 0xE2,
+        Class::Uncommented => is_line(byte) && byte != b'#',
     }
 }
 
-/// Returns the byte at the offset `at`, or 0 if the text ends before it.
+/// Returns the byte at the offset `at`, or 0 if `at` is at or beyond the end of the text.
 pub(crate) fn byte_at(text: &str, at: usize) -> u8
     ensures { result ≡ slice_index text.now at }
 {
@@ -174,8 +178,8 @@ fn run_of(class: Class, bytes: &[u8]) -> usize
     bytes.len()
 }
 
-/// Skips the bytes of a class, from the offset `at` forwards. Returns the offset of the first byte at or after `at`
-/// that is not of the class, or the length of the text if there is none. Returns `at` if it is beyond the text.
+/// Returns the offset of the first byte at or after `at` that is not of the class, or the length of the text if there
+/// is none. Returns `at` if it is beyond the text.
 #[tactic(auto, unfolding(crate::specs::Bytes::end_of))]
 pub(crate) fn end_of(class: Class, text: &str, at: usize) -> usize
     ensures { result ≡ spec.end_of class text.now at }
@@ -188,8 +192,8 @@ pub(crate) fn end_of(class: Class, text: &str, at: usize) -> usize
     at + run_of(class, rest)
 }
 
-/// Skips the bytes of a class, from the offset `at` backwards. Returns the offset after the last byte before `at` that
-/// is not of the class, or 0 if there is none.
+/// Returns the offset after the last byte before `at` that is not of the class, or 0 if there is none. Bytes beyond the
+/// text count as 0.
 #[tactic(auto, unfolding(crate::specs::Bytes::start_of))]
 pub(crate) fn start_of(class: Class, text: &str, at: usize) -> usize
     ensures { result ≡ spec.start_of class text.now at }
@@ -201,7 +205,8 @@ pub(crate) fn start_of(class: Class, text: &str, at: usize) -> usize
     start
 }
 
-/// Returns the last byte before the offset `at` that is not a blank, or 0 if there is none.
+/// Returns the last byte before the offset `at` that is not a blank. Returns 0 if there is none, or if `at` is beyond
+/// the text.
 pub(crate) fn byte_before(text: &str, at: usize) -> u8
     ensures { result ≡ spec.byte_before text.now at }
 {
@@ -216,30 +221,44 @@ pub(crate) fn byte_after(text: &str, at: usize) -> u8
     byte_at(text, end_of(Class::Blank, text, at))
 }
 
-/// Returns the offset of the first byte that is not a blank on the line that contains the offset `at`, or the end of
-/// the line if it has only blanks.
+/// Returns the start of the line of the offset `at`, after a byte order mark.
+#[tactic(auto, unfolding(crate::specs::Bytes::line_begin))]
+fn line_begin(text: &str, at: usize) -> usize
+    ensures { result ≡ spec.line_begin text.now at }
+{
+    let start = start_of(Class::Line, text, at);
+    if start == 0 && begins(text, 0, b"\xEF\xBB\xBF") {
+        3
+    } else {
+        start
+    }
+}
+
+/// Returns the offset of the first byte on the line of the offset `at` that is neither a blank nor a byte order mark,
+/// or the end of the line if there is no other byte.
 pub(crate) fn first_of_line(text: &str, at: usize) -> usize
     ensures { result ≡ spec.first_of_line text.now at }
 {
-    end_of(Class::Blank, text, start_of(Class::Line, text, at))
+    end_of(Class::Blank, text, line_begin(text, at))
 }
 
-/// Returns the end of the line that contains the offset `at`, without its line end and trailing blanks.
+/// Returns the offset after the last non-blank byte on the line of the offset `at`, or the start of the line if it has
+/// only blanks. Returns `at` if it is beyond the text.
 pub(crate) fn last_of_line(text: &str, at: usize) -> usize
     ensures { result ≡ spec.last_of_line text.now at }
 {
     start_of(Class::Blank, text, end_of(Class::Line, text, at))
 }
 
-/// Returns whether only blanks follow the offset `at` on its line.
+/// Returns whether only blanks are between the offset `at` and the next line end or NUL, or the end of the text.
 pub(crate) fn is_last(text: &str, at: usize) -> bool
     ensures { result ≡ spec.is_last text.now at }
 {
     matches!(byte_after(text, at), 0 | b'\n' | b'\r')
 }
 
-/// Returns the part of the text between two offsets. An offset inside a character, or beyond the text, is moved back to
-/// the nearest character boundary. If `to` is before `from`, the part is empty.
+/// Returns the part of the text from the offset `from` to the offset `to`. An offset inside a character, or beyond the
+/// text, is moved back to the nearest character boundary. If `to` is before `from`, the part is empty.
 #[tactic(auto, unfolding(crate::specs::Bytes::part))]
 pub(crate) fn part<'a>(text: &'a str, from: usize, to: usize) -> &'a str
     ensures { result.now ≡ spec.part text.now from to }

@@ -5,8 +5,8 @@ ghost use Rattle.toml_span_report.specs.Characters as spec;
 use std::alloc::{AllocError, Global};
 use unicode_width::UnicodeWidthStr;
 
-/// Returns whether a character is printed as U+FFFD: a control character above U+007F, a character that ends a line or
-/// changes the direction of the text, or a character without width (U+200B, U+200D, U+FEFF).
+/// Returns whether a character is printed as U+FFFD. Such characters are control characters above U+007F, U+2028 and
+/// U+2029, characters that change the direction of the text, and characters without width (U+200B, U+200D, U+FEFF).
 fn is_hidden(c: char) -> bool
     ensures { result ≡ spec.is_hidden c }
 {
@@ -22,9 +22,8 @@ fn is_hidden(c: char) -> bool
     )
 }
 
-/// Appends a character as a report prints it: a tab as four spaces, any other control character below U+0080 as its
-/// control picture (U+2400 to U+2421), a hidden character (`is_hidden`), such as a line separator, as U+FFFD, and any
-/// other character as itself. Fails if an allocation fails.
+/// Appends `c` to `out` as a report prints it. A tab becomes four spaces, any other control character below U+0080 its
+/// control picture (U+2400 to U+2421), and a hidden character (`is_hidden`) U+FFFD.
 fn push_char(out: &mut String, c: char) -> Result<(), AllocError>
     ensures { OnOk result (string_bytes out.new ≡ string_bytes out.old ++ spec.shown_char c) }
 {
@@ -44,8 +43,8 @@ fn push_char(out: &mut String, c: char) -> Result<(), AllocError>
     }
 }
 
-/// Appends a text as a report prints it, with control characters and hidden characters replaced (`push_char`). Fails if
-/// an allocation fails.
+/// Appends `text` to `out` as a report prints it, with control characters and hidden characters replaced (`push_char`).
+/// If an allocation fails, `out` has a part of the text.
 pub(crate) fn push_shown(out: &mut String, text: &str) -> Result<(), AllocError>
     ensures { OnOk result (string_bytes out.new ≡ string_bytes out.old ++ spec.shown text.now) }
 {
@@ -55,8 +54,7 @@ pub(crate) fn push_shown(out: &mut String, text: &str) -> Result<(), AllocError>
     Ok(())
 }
 
-/// Returns a text as a report prints it, with control characters and hidden characters replaced (`push_char`). Fails if
-/// an allocation fails.
+/// Returns `text` as a report prints it, with control characters and hidden characters replaced (`push_char`).
 pub(crate) fn shown(alloc: Global, text: &str) -> Result<String, AllocError>
     ensures { IfOk result (λ out. string_bytes out ≡ spec.shown text.now) }
 {
@@ -65,7 +63,8 @@ pub(crate) fn shown(alloc: Global, text: &str) -> Result<String, AllocError>
     Ok(out)
 }
 
-/// Returns the number of columns of a text in which control and hidden characters have been replaced (`push_shown`).
+/// Returns the number of columns of `text` in a terminal (`unicode_width`). Control and hidden characters must have
+/// been replaced (`push_shown`).
 #[tactic(auto, unfolding(crate::specs::Characters::columns))]
 pub(crate) fn columns(text: &str) -> usize
     ensures { result ≡ spec.columns text.now }
@@ -73,7 +72,7 @@ pub(crate) fn columns(text: &str) -> usize
     text.width()
 }
 
-/// Appends the character `times` times. Fails if an allocation fails.
+/// Appends `times` copies of `c` to `out`. If an allocation fails, `out` has some of the characters.
 pub(crate) fn push_times(out: &mut String, times: usize, c: char) -> Result<(), AllocError>
     requires { c < 128 }
     ensures { OnOk result (string_bytes out.new ≡ string_bytes out.old ++ replicate times c) }

@@ -13,10 +13,10 @@ pub enum Style {
     Coloured,
 }
 
-/// The parts of a report that have colors of their own.
+/// A color, and the parts of a report that are printed in it.
 #[derive(Clone, Copy, PartialEq, Eq)]
 pub(crate) enum Ink {
-    /// The word `error` with its code, and the marks and messages of primary labels.
+    /// The word `error` with its code, and the marks and messages of primary labels in an error.
     Red,
     /// The word `warning` with its code, and the marks and messages of primary labels in a warning.
     Yellow,
@@ -24,7 +24,7 @@ pub(crate) enum Ink {
     Green,
     /// The left margin, and the marks and messages of secondary labels.
     Blue,
-    /// The message.
+    /// The message of the report, and the words `note:` and `help:` before remarks.
     Bold,
 }
 
@@ -41,7 +41,8 @@ fn beginning(ink: Ink) -> &'static str
     }
 }
 
-/// Appends a text, in a color if the style has colors. Fails if an allocation fails.
+/// Appends `text` to `out`, in the color `ink` if the style has colors. If an allocation fails, `out` may have a part
+/// of the text.
 pub(crate) fn push_painted(
     out: &mut String,
     style: Style,

@@ -30,7 +30,7 @@ use toml_span_lex::stop::Stop;
 use toml_span_tree::{Error, ErrorKind, Label};
 use toml_span_typed::DeserError;
 
-/// Returns the message of an error without a recognized mistake. Fails if an allocation fails.
+/// Returns the message of the report on an error without a recognized mistake.
 fn message(alloc: Global, error: &Error<'_>) -> Result<String, AllocError>
     ensures { IfOk result (λ text. string_bytes text ≡ spec.message (kind_of error.now.kind)) }
 {
@@ -47,7 +47,7 @@ fn message(alloc: Global, error: &Error<'_>) -> Result<String, AllocError>
     }
 }
 
-/// Returns a list with one primary label, which has the message `text`. Fails if an allocation fails.
+/// Returns a list with one primary label at `span`, with the message `text`.
 fn one_label(alloc: Global, span: Span, text: &str) -> Result<Vec<Label<()>>, AllocError>
     ensures { IfOk result (λ labels. map label_content labels.items ≡ spec.one_label span text.now) }
 {
@@ -61,7 +61,7 @@ fn one_label(alloc: Global, span: Span, text: &str) -> Result<Vec<Label<()>>, Al
     Ok(labels)
 }
 
-/// Returns the labels of `Error::to_diagnostic`, but with the primary label at `span`. Fails if an allocation fails.
+/// Returns the labels that `Error::to_diagnostic` would return if the span of `error` were `span`.
 fn own_labels(alloc: Global, error: &Error<'_>, span: Span) -> Result<Vec<Label<()>>, AllocError>
     ensures { IfOk result (λ labels. map label_content labels.items ≡ labels_of tt span (kind_of error.now.kind)) }
 {
@@ -71,8 +71,8 @@ fn own_labels(alloc: Global, error: &Error<'_>, span: Span) -> Result<Vec<Label<
     Ok(diagnostic.labels)
 }
 
-/// Returns the labels of an error without a recognized mistake. `span` is what the primary label marks. Fails if an
-/// allocation fails.
+/// Returns the labels of an error without a recognized mistake. The primary label is at `span`, except for
+/// `UnexpectedKeys`, which has a primary label at each unknown key.
 fn labels(alloc: Global, error: &Error<'_>, span: Span) -> Result<Vec<Label<()>>, AllocError>
     ensures { IfOk result (λ labels. map label_content labels.items ≡ spec.labels span (kind_of error.now.kind)) }
 {
@@ -85,7 +85,7 @@ fn labels(alloc: Global, error: &Error<'_>, span: Span) -> Result<Vec<Label<()>>
     }
 }
 
-/// Returns the notes of an error, such as the list of expected keys. Fails if an allocation fails.
+/// Returns the notes of an error. Only `UnexpectedKeys` has a note (`what_is_expected`).
 fn notes(alloc: Global, kind: &ErrorKind<'_>) -> Result<Vec<String>, AllocError>
     ensures { IfOk result (λ notes. map string_bytes notes.items ≡ spec.notes (kind_of kind.now)) }
 {
@@ -97,9 +97,7 @@ fn notes(alloc: Global, kind: &ErrorKind<'_>) -> Result<Vec<String>, AllocError>
     Ok(notes)
 }
 
-/// Returns a list with one line of help, which states the range of the number type with this name. Returns an empty
-/// list for `i64` and `isize`, which represent every integer of TOML, and for any other name. Fails if an allocation
-/// fails.
+/// Returns a list with the line of help from `range_help`, or an empty list if `range_help` returns `None`.
 fn range(alloc: Global, name: &str) -> Result<Vec<String>, AllocError>
     ensures { IfOk result (λ help. map string_bytes help.items ≡ option_to_list (range_help name.now)) }
 {
@@ -110,7 +108,7 @@ fn range(alloc: Global, name: &str) -> Result<Vec<String>, AllocError>
     Ok(help)
 }
 
-/// Returns the lines of help for an error without a recognized mistake. Fails if an allocation fails.
+/// Returns the lines of help for an error without a recognized mistake.
 fn help(alloc: Global, kind: &ErrorKind<'_>) -> Result<Vec<String>, AllocError>
     ensures { IfOk result (λ help. map string_bytes help.items ≡ spec.help (kind_of kind.now)) }
 {
@@ -129,7 +127,7 @@ fn help(alloc: Global, kind: &ErrorKind<'_>) -> Result<Vec<String>, AllocError>
     }
 }
 
-/// Returns the headline of the finding or, if it has none, the message of the error. Fails if an allocation fails.
+/// Returns the headline of `finding`, or the message of `error` if the headline is empty.
 fn headline(alloc: Global, error: &Error<'_>, finding: Finding<'_>) -> Result<String, AllocError>
     ensures { IfOk result (λ text. string_bytes text
         ≡ spec.headline (kind_of error.now.kind) (finding_content finding.entry)) }
@@ -141,7 +139,7 @@ fn headline(alloc: Global, error: &Error<'_>, finding: Finding<'_>) -> Result<St
     }
 }
 
-/// Makes the report of an error that a recognized mistake caused. Fails if an allocation fails.
+/// Returns the report of an error whose mistake is recognized. `finding` describes the mistake.
 fn mistaken(
     alloc: Global,
     severity: Severity,
@@ -162,7 +160,7 @@ fn mistaken(
     })
 }
 
-/// Makes the report of an error without a recognized mistake. Fails if an allocation fails.
+/// Returns the report of an error without a recognized mistake. `text` is the source.
 fn unrecognized(
     alloc: Global,
     severity: Severity,
@@ -183,7 +181,7 @@ fn unrecognized(
     })
 }
 
-/// Makes the report of an error in the source `text`. The report has this severity. Fails if an allocation fails.
+/// Returns the report of an error in the source `text`, with this severity.
 fn report_of(
     alloc: Global,
     severity: Severity,
@@ -199,21 +197,23 @@ fn report_of(
 }
 
 impl Report {
-    /// Makes the report of an error in the source `text`.
+    /// Returns the report of an error in the source `text`.
     ///
-    /// If there is a typical mistake at the error's span, the report names it, marks all of it, and says what to write,
-    /// with a replacement if the repair is known. Otherwise it has the message and labels of the error, except:
+    /// For a typical mistake, such as `True` instead of `true`, the report usually names the mistake and says what to
+    /// write, and may have a replacement. All other reports have the message and labels of the error, except:
     ///
-    /// - A `Wanted` error of `parse` may span more or less than the token at its start. Then that token is marked, up
-    ///   to the end of its line at most. If there is no token, as at the end of the source, the mark is empty.
-    /// - A table that lacks a key is marked at its header, up to the end of the line, or at its braces. The root is
-    ///   marked at the start of the source.
-    /// - Each unknown key is marked. A note lists the expected keys, and a line of help names the nearest one
-    ///   (`nearest`). For an unexpected value, a line of help names the nearest expected value in the same way.
-    /// - Most errors of typed reads have other messages, such as "missing key" with the name of the key. For a number
-    ///   that is out of range, a line of help states the range of its type.
+    /// - For a `Wanted` error of `parse`, the mark is the token at the start of the span, up to the end of the line at
+    ///   most. If there is no token, as at the end of the source, the mark is empty.
+    /// - For a table that lacks a key, the mark is the span of the table, or only the header's line if the table begins
+    ///   with a header. If the span is the whole source, as for the root, the mark is empty, at the start of the
+    ///   source.
+    /// - Each unknown key is marked. A note lists the expected keys, or says that there are none. For each unknown key,
+    ///   a line of help names the nearest expected key, if one is near enough (`nearest`). Help for an unexpected value
+    ///   names the nearest expected value, if one is near enough.
+    /// - Most errors of typed reads have other messages, such as "missing key" with the name of the key. For most types
+    ///   of numbers, help for a number that is out of range states the range.
     ///
-    /// Fails only if an allocation fails.
+    /// Fails if an allocation fails.
     pub fn from_error(alloc: Global, error: &Error<'_>, text: &str) -> Result<Report, AllocError>
         ensures { IfOk result (λ made. ReportsError severities.Error text.now (content_of error.now)
             (report_content made)) }
@@ -221,8 +221,8 @@ impl Report {
         report_of(alloc, Severity::Error, error, text)
     }
 
-    /// Makes the same report as `from_error`, but as a warning, for a program that continues in spite of the error.
-    /// Fails only if an allocation fails.
+    /// Returns the same report as `from_error`, but as a warning, for a program that continues in spite of the error.
+    /// Fails if an allocation fails.
     pub fn from_warning(alloc: Global, error: &Error<'_>, text: &str) -> Result<Report, AllocError>
         ensures { IfOk result (λ made. ReportsError severities.Warning text.now (content_of error.now)
             (report_content made)) }
@@ -232,7 +232,7 @@ impl Report {
 }
 
 /// Returns the report of an error as text, as `render` formats it. `name` is the name of the file, `text` the source.
-/// Fails only if an allocation fails.
+/// Fails if an allocation fails.
 pub fn render_error(
     alloc: Global,
     style: Style,
@@ -246,8 +246,8 @@ pub fn render_error(
     render(alloc, style, &report, name, text)
 }
 
-/// Makes the report of each error of a read, and appends it to `reports`. `text` is the source. Fails if an allocation
-/// fails.
+/// Appends the report of each error in `errors` to `reports`. `text` is the source. If an allocation fails, `reports`
+/// has the reports of some errors.
 pub(crate) fn push_errors(
     alloc: Global,
     errors: &DeserError<'_>,
@@ -263,7 +263,7 @@ pub(crate) fn push_errors(
     Ok(())
 }
 
-/// Returns the reports of all errors of a read, in order. `text` is the source. Fails if an allocation fails.
+/// Returns the reports of all errors in `errors`, in the same order. `text` is the source.
 pub(crate) fn error_reports(
     alloc: Global,
     errors: &DeserError<'_>,
@@ -277,8 +277,8 @@ pub(crate) fn error_reports(
     Ok(reports)
 }
 
-/// Returns the reports of all errors of a read as text, as `render_all` formats them. `name` is the name of the file,
-/// `text` the source. Fails only if an allocation fails.
+/// Returns the reports of all errors in `errors` as text, as `render_all` formats them. `name` is the name of the file,
+/// `text` the source. Fails if an allocation fails.
 pub fn render_errors(
     alloc: Global,
     style: Style,
@@ -292,9 +292,8 @@ pub fn render_errors(
     render_all(alloc, style, reports.as_slice(), name, text)
 }
 
-/// Returns the text of the reports for a failed `from_str`: the report of the one error of `parse`, or the reports of
-/// all errors of the read. `name` is the name of the file, `text` the source. Fails if `stop` is `Stop::Memory`, or if
-/// an allocation fails.
+/// Returns the reports of all errors in `stop`, the error of `from_str`, as text, as `render_all` formats them. `name`
+/// is the name of the file, `text` the source. Fails if `stop` is `Stop::Memory`, or if an allocation fails.
 pub fn render_stop(
     alloc: Global,
     style: Style,

@@ -4,8 +4,8 @@ ghost use Rattle.toml_span_report.specs.Explanations as spec;
 
 use crate::tables::text_in;
 
-/// The codes that `explain` knows: first the codes of errors of `parse`, then those of typed reads, and last
-/// `newer-toml`, for something that TOML 1.0 lacks.
+/// The codes that `explain` knows. The codes of errors of `parse` come first, then the other codes of typed reads. The
+/// last is `newer-toml`, for syntax that TOML 1.0 lacks.
 pub const CODES: [&str; 25] = [
     "unexpected",
     "unterminated-string",
@@ -138,9 +138,9 @@ const PAGES: [(&str, &str); 25] = [
     ),
 ];
 
-/// Returns the explanation of an error code: a title, an empty line, and a few lines with an example and the repair.
-/// Its lines have at most 80 columns, and no line feed follows its last line. Returns `None` for a code that is not in
-/// `CODES`, such as one of a program's own reports.
+/// Returns the explanation of an error code: a title, an empty line, and lines that describe the error and its repair.
+/// A line has at most 80 columns, and no line feed follows the last line. Returns `None` for a code that is not in
+/// `CODES`, such as a code of a program's own reports.
 pub fn explain(code: &str) -> Option<&'static str>
     ensures { option_map (λ page. page.now) result ≡ spec.explained code.now }
 {

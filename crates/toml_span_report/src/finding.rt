@@ -8,8 +8,8 @@ use crate::bytes::{Class, end_of, part};
 use crate::words::{Mistake, Words, words_of};
 use toml_span_lex::span::Span;
 
-/// A text in up to six pieces, each of which is a part of the source or a constant. Most often the text is code to
-/// write.
+/// A text in six pieces, each of which may be empty. A piece is a part of the source or a constant. The text is usually
+/// code to write.
 #[derive(Clone, Copy)]
 pub(crate) struct Code<'a> {
     pub(crate) first: &'a str,
@@ -22,7 +22,7 @@ pub(crate) struct Code<'a> {
     pub(crate) number: Option<u64>,
 }
 
-/// A typical mistake that was recognized in a text.
+/// A typical mistake that was recognized in the source.
 #[derive(Clone, Copy)]
 pub(crate) struct Finding<'a> {
     pub(crate) words: Words,
@@ -34,9 +34,9 @@ pub(crate) struct Finding<'a> {
     pub(crate) label: Code<'a>,
     /// The span that `code` replaces, if there is a replacement.
     pub(crate) edit: Option<Span>,
-    /// The code to write, which is empty if there is none.
+    /// The code to write. Empty if there is none.
     pub(crate) code: Code<'a>,
-    /// Other code that may have been meant, which is empty if there is none.
+    /// Other code that may have been meant. Empty if there is none.
     pub(crate) other: Code<'a>,
 }
 
@@ -49,7 +49,7 @@ pub(crate) struct Meant {
     pub(crate) code: &'static str,
 }
 
-/// Returns a `Meant` with these parts, in `Some`.
+/// Returns `Some` of a `Meant` with these parts.
 pub(crate) fn as_meant(mistake: Mistake, name: &'static str, code: &'static str) -> Option<Meant>
     ensures { option_map meant_content result ≡ Some (spec.as_meant (texts mistake.entry) name.now code.now) }
 {
@@ -60,7 +60,7 @@ pub(crate) fn as_meant(mistake: Mistake, name: &'static str, code: &'static str)
     })
 }
 
-/// Returns a text of six pieces.
+/// Returns a text of these six pieces, without a number.
 pub(crate) fn six<'a>(
     first: &'a str,
     second: &'a str,
@@ -82,7 +82,7 @@ pub(crate) fn six<'a>(
     }
 }
 
-/// Returns a text of three pieces.
+/// Returns a text of these three pieces, without a number.
 pub(crate) fn pieces<'a>(first: &'a str, second: &'a str, third: &'a str) -> Code<'a>
     ensures { code_content result ≡ spec.pieces first.now second.now third.now }
 {
@@ -96,7 +96,7 @@ pub(crate) fn span_of(start: usize, end: usize) -> Span
     Span { start, end }
 }
 
-/// Returns a finding that marks `mark` and `also`, and shows code to write, without a replacement.
+/// Returns a finding with the spans `mark` and `also`, and with `code` to write, but without a replacement.
 pub(crate) fn shown<'a>(mistake: Mistake, mark: Span, also: Span, code: Code<'a>) -> Finding<'a>
     ensures { finding_content result ≡ spec.shown (texts mistake.entry) mark also (code_content code.entry) }
 {
@@ -111,7 +111,7 @@ pub(crate) fn shown<'a>(mistake: Mistake, mark: Span, also: Span, code: Code<'a>
     }
 }
 
-/// Returns a finding that marks the bytes `from..to`, with no code to write.
+/// Returns a finding that marks the bytes `from..to`, without code to write.
 pub(crate) fn marked<'a>(mistake: Mistake, from: usize, to: usize) -> Finding<'a>
     ensures { finding_content result ≡ spec.marked (texts mistake.entry) from to }
 {
@@ -119,7 +119,7 @@ pub(crate) fn marked<'a>(mistake: Mistake, from: usize, to: usize) -> Finding<'a
     shown(mistake, mark, mark, pieces("", "", ""))
 }
 
-/// Returns a finding that marks `mark`, with code that replaces `edit`.
+/// Returns a finding that marks `mark`, with a replacement of `edit` by `code`.
 pub(crate) fn mended<'a>(mistake: Mistake, mark: Span, edit: Span, code: Code<'a>) -> Finding<'a>
     ensures { finding_content result ≡ spec.mended (texts mistake.entry) mark edit (code_content code.entry) }
 {
@@ -128,22 +128,22 @@ pub(crate) fn mended<'a>(mistake: Mistake, mark: Span, edit: Span, code: Code<'a
     found
 }
 
-/// Returns a finding that marks the bytes from `from` to `to`, with code that replaces them.
+/// Returns a finding that marks the bytes `from..to`, with a replacement of these bytes by `code`.
 pub(crate) fn replaced<'a>(mistake: Mistake, from: usize, to: usize, code: Code<'a>) -> Finding<'a>
     ensures { finding_content result ≡ spec.replaced (texts mistake.entry) from to (code_content code.entry) }
 {
     mended(mistake, span_of(from, to), span_of(from, to), code)
 }
 
-/// Returns a finding that marks the bytes from `from` to `to`, with a replacement that removes them.
+/// Returns a finding that marks the bytes `from..to`, with a replacement that removes them.
 pub(crate) fn removed<'a>(mistake: Mistake, from: usize, to: usize) -> Finding<'a>
     ensures { finding_content result ≡ spec.removed (texts mistake.entry) from to }
 {
     replaced(mistake, from, to, pieces("", "", ""))
 }
 
-/// Returns the quote to put around the bytes `from..to` of the text: `'` if they contain a backslash, which `'` leaves
-/// as it is, otherwise `"`.
+/// Returns the quote to put around the bytes `from..to` of the text: `'` if they contain a backslash or reach beyond
+/// the text, otherwise `"`.
 pub(crate) fn quote_for<'a>(text: &'a str, from: usize, to: usize) -> &'a str
     ensures { result.now ≡ spec.quote_for text.now from to }
 {
@@ -154,7 +154,8 @@ pub(crate) fn quote_for<'a>(text: &'a str, from: usize, to: usize) -> &'a str
     }
 }
 
-/// Returns a finding that marks the bytes `from..to` of the text, with a replacement that puts them in quotes.
+/// Returns a finding that marks the bytes `from..to` of the text, with a replacement that puts them in quotes
+/// (`quote_for`).
 pub(crate) fn quoted<'a>(mistake: Mistake, text: &'a str, from: usize, to: usize) -> Finding<'a>
     ensures { finding_content result ≡ spec.quoted (texts mistake.entry) text.now from to }
 {

@@ -2,7 +2,7 @@
 ghost use Rattle.std.specs.Prelude.{◌≡◌, option_map};
 ghost use Rattle.toml_span_report.specs.Help as spec;
 
-/// Returns the help line with the range of `f32` or `f64`, or `None` for another name.
+/// Returns a line of help with the range of `f32` or `f64`, or `None` for any other name.
 #[tactic(auto, unfolding(crate::specs::Help::float_help))]
 fn float_help(name: &str) -> Option<&'static str>
     ensures { option_map (λ help. help.now) result ≡ spec.float_help name.now }
@@ -16,8 +16,8 @@ fn float_help(name: &str) -> Option<&'static str>
     }
 }
 
-/// Returns the help line with the range of the number type of this name. Returns `None` for any other name, and for
-/// `i64` and `isize`, which can represent every integer of TOML.
+/// Returns a line of help with the range of the number type `name`. Returns `None` for `i64` and `isize`, which can
+/// represent every integer of TOML, and for unknown names.
 #[tactic(auto, unfolding(crate::specs::Help::range_help))]
 pub(crate) fn range_help(name: &str) -> Option<&'static str>
     ensures { option_map (λ help. help.now) result ≡ spec.range_help name.now }

@@ -1,4 +1,4 @@
-//! Formats a report as one line of JSON.
+//! Formats a report as one line of JSON. If an allocation fails, the output so far is dropped.
 ghost use Rattle.std.specs.Prelude.{◌≡◌, ◌++◌, codes, IfOk, OnOk, map, string_bytes};
 ghost use Rattle.std.specs.Fmt.{decimal};
 ghost use Rattle.std.specs.List.{flat_map, join_by};
@@ -16,8 +16,7 @@ use std::fmt::Write;
 use toml_span_lex::span::Span;
 use toml_span_tree::Label;
 
-/// Appends a member whose value is a number. `title` is the text before the number, with the name of the member. Fails
-/// if an allocation fails.
+/// Appends a member whose value is a number to `out`. `title` is the text before the number, such as `,"start":`.
 fn push_number(out: &mut String, title: &str, number: usize) -> Result<(), AllocError>
     ensures { OnOk result (string_bytes out.new ≡ string_bytes out.old ++ title.now ++ decimal number) }
 {
@@ -25,8 +24,8 @@ fn push_number(out: &mut String, title: &str, number: usize) -> Result<(), Alloc
     write!(out, "{number}")
 }
 
-/// Appends a member whose value is a string. `title` is the text before the string, with the name of the member. Fails
-/// if an allocation fails.
+/// Appends a member whose value is the string `text` to `out`. `title` is the text before the string, such as
+/// `,"code":`.
 fn push_member(alloc: Global, out: &mut String, title: &str, text: &str) -> Result<(), AllocError>
     ensures { OnOk result (string_bytes out.new ≡ string_bytes out.old ++ spec.member_json title.now text.now) }
 {
@@ -34,7 +33,7 @@ fn push_member(alloc: Global, out: &mut String, title: &str, text: &str) -> Resu
     push_quoted(alloc, out, text)
 }
 
-/// Appends the beginning of a label's object, with the member `primary`. Fails if an allocation fails.
+/// Appends the beginning of a label's object to `out`, with the member `primary`.
 fn push_role(out: &mut String, is_primary: bool) -> Result<(), AllocError>
     ensures { OnOk result (string_bytes out.new ≡ string_bytes out.old ++ spec.role_json is_primary) }
 {
@@ -45,7 +44,7 @@ fn push_role(out: &mut String, is_primary: bool) -> Result<(), AllocError>
     }
 }
 
-/// Appends the members `start` and `end` of a label. Fails if an allocation fails.
+/// Appends the members `start` and `end` of a span to `out`.
 #[tactic(auto, unfolding(crate::specs::JsonLine::span_json))]
 fn push_span(out: &mut String, span: Span) -> Result<(), AllocError>
     ensures { OnOk result (string_bytes out.new ≡ string_bytes out.old ++ spec.span_json span) }
@@ -54,7 +53,7 @@ fn push_span(out: &mut String, span: Span) -> Result<(), AllocError>
     push_number(out, ",\"end\":", span.end)
 }
 
-/// Appends the members `line` and `column` for the offset `at` in the source. Fails if an allocation fails.
+/// Appends the members `line` and `column` to `out`, for the offset `at` in the source `text`.
 #[tactic(auto, unfolding(crate::specs::JsonLine::place_json))]
 fn push_place(out: &mut String, text: &str, at: usize) -> Result<(), AllocError>
     ensures { OnOk result (string_bytes out.new ≡ string_bytes out.old ++ spec.place_json text.now at) }
@@ -64,7 +63,7 @@ fn push_place(out: &mut String, text: &str, at: usize) -> Result<(), AllocError>
     push_number(out, ",\"column\":", column)
 }
 
-/// Appends the members `start`, `end`, `line` and `column` of a label. Fails if an allocation fails.
+/// Appends the members `start`, `end`, `line` and `column` of a label to `out`. `text` is the source.
 #[tactic(auto, unfolding(crate::specs::JsonLine::spot_json))]
 fn push_spot(out: &mut String, text: &str, span: Span) -> Result<(), AllocError>
     ensures { OnOk result (string_bytes out.new ≡ string_bytes out.old ++ spec.spot_json text.now span) }
@@ -73,7 +72,7 @@ fn push_spot(out: &mut String, text: &str, span: Span) -> Result<(), AllocError>
     push_place(out, text, span.start)
 }
 
-/// Appends the label with these parts as a JSON object. Fails if an allocation fails.
+/// Appends the label with these parts to `out`, as a JSON object. `text` is the source.
 #[tactic(auto, unfolding(crate::specs::JsonLine::parts_json))]
 fn push_parts(
     alloc: Global,
@@ -92,7 +91,7 @@ fn push_parts(
     out.push_str("}")
 }
 
-/// Appends a label as a JSON object. Fails if an allocation fails.
+/// Appends a label to `out`, as a JSON object. `text` is the source.
 #[tactic(auto, unfolding(crate::specs::JsonLine::label_json))]
 fn push_label(
     alloc: Global,
@@ -107,7 +106,7 @@ fn push_label(
     push_parts(alloc, out, text, is_primary, span, label.message.as_str())
 }
 
-/// Appends each label as a JSON object after a comma. Fails if an allocation fails.
+/// Appends each label to `out`, as a JSON object after a comma. `text` is the source.
 fn push_more_labels(
     alloc: Global,
     out: &mut String,
@@ -124,7 +123,7 @@ fn push_more_labels(
     Ok(())
 }
 
-/// Appends the labels as JSON objects, separated by commas. Fails if an allocation fails.
+/// Appends the labels to `out`, as JSON objects, separated by commas. `text` is the source.
 fn push_labels(
     alloc: Global,
     out: &mut String,
@@ -143,7 +142,7 @@ fn push_labels(
     }
 }
 
-/// Appends each text as a JSON string after a comma. Fails if an allocation fails.
+/// Appends each text to `out`, as a JSON string after a comma.
 fn push_more_texts(alloc: Global, out: &mut String, texts: &[String]) -> Result<(), AllocError>
     ensures { OnOk result (string_bytes out.new ≡ string_bytes out.old
         ++ flat_map (λ text. codes "," ++ quoted text) (map string_bytes texts.now)) }
@@ -155,7 +154,7 @@ fn push_more_texts(alloc: Global, out: &mut String, texts: &[String]) -> Result<
     Ok(())
 }
 
-/// Appends the texts as JSON strings, separated by commas. Fails if an allocation fails.
+/// Appends the texts to `out`, as JSON strings, separated by commas.
 fn push_texts(alloc: Global, out: &mut String, texts: &[String]) -> Result<(), AllocError>
     ensures { OnOk result (string_bytes out.new ≡ string_bytes out.old
         ++ join_by quoted (codes ",") (map string_bytes texts.now)) }
@@ -169,8 +168,8 @@ fn push_texts(alloc: Global, out: &mut String, texts: &[String]) -> Result<(), A
     }
 }
 
-/// Appends a member whose value is an array of strings. `title` is the text before the array, with the name of the
-/// member. Fails if an allocation fails.
+/// Appends a member whose value is an array of strings to `out`. `title` is the text before the array, such as
+/// `,"notes":`.
 fn push_array(
     alloc: Global,
     out: &mut String,
@@ -186,7 +185,7 @@ fn push_array(
     out.push_str("]")
 }
 
-/// Appends the beginning of a replacement's object, with the member `safe`. Fails if an allocation fails.
+/// Appends the beginning of a replacement's object to `out`, with the member `safe`.
 fn push_safety(out: &mut String, is_safe: bool) -> Result<(), AllocError>
     ensures { OnOk result (string_bytes out.new ≡ string_bytes out.old ++ spec.safety_json is_safe) }
 {
@@ -197,7 +196,7 @@ fn push_safety(out: &mut String, is_safe: bool) -> Result<(), AllocError>
     }
 }
 
-/// Appends the replacement with these parts as a JSON object. Fails if an allocation fails.
+/// Appends the replacement with these parts to `out`, as a JSON object.
 #[tactic(auto, unfolding(crate::specs::JsonLine::fix_parts_json))]
 fn push_fix_parts(
     alloc: Global,
@@ -215,7 +214,7 @@ fn push_fix_parts(
     out.push_str("}")
 }
 
-/// Appends a replacement as a JSON object. Fails if an allocation fails.
+/// Appends a replacement to `out`, as a JSON object.
 #[tactic(auto, unfolding(crate::specs::JsonLine::fix_json))]
 fn push_fix(alloc: Global, out: &mut String, fix: &Replacement) -> Result<(), AllocError>
     ensures { OnOk result (string_bytes out.new ≡ string_bytes out.old
@@ -225,7 +224,7 @@ fn push_fix(alloc: Global, out: &mut String, fix: &Replacement) -> Result<(), Al
     push_fix_parts(alloc, out, is_safe, span, fix.text.as_str())
 }
 
-/// Appends each replacement as a JSON object after a comma. Fails if an allocation fails.
+/// Appends each replacement to `out`, as a JSON object after a comma.
 fn push_more_fixes(alloc: Global, out: &mut String, fixes: &[Replacement]) -> Result<(), AllocError>
     ensures { OnOk result (string_bytes out.new ≡ string_bytes out.old
         ++ flat_map (λ fix. codes "," ++ spec.fix_json fix) (map repair_of fixes.now)) }
@@ -237,7 +236,7 @@ fn push_more_fixes(alloc: Global, out: &mut String, fixes: &[Replacement]) -> Re
     Ok(())
 }
 
-/// Appends the replacements as JSON objects, separated by commas. Fails if an allocation fails.
+/// Appends the replacements to `out`, as JSON objects, separated by commas.
 fn push_fixes(alloc: Global, out: &mut String, fixes: &[Replacement]) -> Result<(), AllocError>
     ensures { OnOk result (string_bytes out.new ≡ string_bytes out.old
         ++ join_by spec.fix_json (codes ",") (map repair_of fixes.now)) }
@@ -251,7 +250,7 @@ fn push_fixes(alloc: Global, out: &mut String, fixes: &[Replacement]) -> Result<
     }
 }
 
-/// Appends the members `file`, `code` and `message`. Fails if an allocation fails.
+/// Appends the beginning of a report's object to `out`, with the members `file`, `code` and `message`.
 fn push_head(alloc: Global, out: &mut String, report: &Report, name: &str) -> Result<(), AllocError>
     ensures { OnOk result (string_bytes out.new ≡ string_bytes out.old
         ++ spec.head_json (report_content report.now) name.now) }
@@ -261,7 +260,7 @@ fn push_head(alloc: Global, out: &mut String, report: &Report, name: &str) -> Re
     push_member(alloc, out, ",\"message\":", report.message.as_str())
 }
 
-/// Appends the members `severity`, `notes` and `help`. Fails if an allocation fails.
+/// Appends the members `severity`, `notes` and `help` of a report to `out`.
 fn push_remarks(alloc: Global, out: &mut String, report: &Report) -> Result<(), AllocError>
     ensures { OnOk result (string_bytes out.new ≡ string_bytes out.old
         ++ spec.remarks_json (report_content report.now)) }
@@ -271,14 +270,18 @@ fn push_remarks(alloc: Global, out: &mut String, report: &Report) -> Result<(), 
     push_array(alloc, out, ",\"help\":", report.help.as_slice())
 }
 
-/// Returns a report as one line of JSON, which ends with a line feed. `name` is the name of the file, `text` the
+/// Returns a report as one line of JSON, with a line feed at the end. `name` is the name of the file, `text` the
 /// source. The line is an object with the members `file`, `code`, `message`, `labels`, `severity` (`error`, `warning`
 /// or `note`), `notes`, `help` and `fixes`, in this order.
 ///
-/// A label is an object with the members `primary`, `start` and `end` (byte offsets from 0, end exclusive), `line` and
-/// `column` of its start (both from 1, as `line_column` counts them) and `message`. Labels are in the order of the
-/// report. A fix has the members `safe`, `start` and `end` (as in a label), and `text`, which replaces these bytes.
-/// Nothing is cut, and strings are escaped as in `visible::push_quoted`. Fails only if an allocation fails.
+/// A label is an object with the members `primary`, `start`, `end`, `line`, `column` and `message`, in this order. Its
+/// span is from `start` to `end` (byte offsets from 0, end exclusive). `line` and `column` are those of the start, as
+/// `line_column` counts them. Labels are in the order of the report.
+///
+/// A fix is an object with the members `safe`, `start`, `end` and `text`. `text` replaces the bytes from `start` to
+/// `end`.
+///
+/// Nothing is cut, and strings are escaped as in `visible::push_quoted`. Fails if an allocation fails.
 pub fn render_json(
     alloc: Global,
     report: &Report,

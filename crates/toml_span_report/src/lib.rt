@@ -1,5 +1,5 @@
-//! Reports on TOML documents: errors, or findings of a program's own. Formats them as text with a message, source
-//! lines, and marks below them.
+//! Makes reports of errors in TOML documents, or of a program's own findings. Formats reports as text, as one line, or
+//! as JSON.
 #![tactic(auto)]
 
 mod bytes;

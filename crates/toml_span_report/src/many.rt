@@ -1,4 +1,4 @@
-//! Formats several reports.
+//! Formats several reports. If an allocation fails, the output so far is dropped.
 ghost use Rattle.std.specs.Prelude.{◌≡◌, ◌++◌, codes, IfOk, OnOk, map, option_map, string_bytes};
 ghost use Rattle.std.specs.List.{count_by, flat_map};
 ghost use Rattle.toml_span_report.specs.Many as spec;
@@ -20,7 +20,7 @@ pub(crate) struct Drawn {
     text: String,
 }
 
-/// Returns the offset of a strip, or 0 if there is none.
+/// Returns the offset of a strip, or 0 for `None`.
 fn place_of(strip: Option<Strip<'_>>) -> usize
     ensures { result ≡ spec.place_of (option_map marked_line_of strip.entry) }
 {
@@ -30,9 +30,8 @@ fn place_of(strip: Option<Strip<'_>>) -> usize
     }
 }
 
-/// Formats a report. Returns its text with the offset by which it is sorted: the offset of its first primary mark or,
-/// if no mark is primary, of its first mark, or 0 if it has no marks. `name` is the name of the file, `text` the
-/// source. Fails if an allocation fails.
+/// Returns the text of a report with the offset of its `main_strip`, or with 0 if it has no labels. `name` is the name
+/// of the file, `text` the source.
 fn draw(
     alloc: Global,
     style: Style,
@@ -49,8 +48,8 @@ fn draw(
     Ok(Drawn { at, text })
 }
 
-/// Formats each report. Returns the texts, each with the offset by which it is sorted. `name` is the name of the file,
-/// `text` the source. Fails if an allocation fails.
+/// Returns the text of each report with the offset by which it is sorted (`draw`). `name` is the name of the file,
+/// `text` the source.
 fn draw_all(
     alloc: Global,
     style: Style,
@@ -68,7 +67,7 @@ fn draw_all(
     Ok(made)
 }
 
-/// Appends each text with a blank line after it. Fails if an allocation fails.
+/// Appends the texts of the reports to `out`, each with a blank line after it.
 fn push_texts(out: &mut String, drawn: &[Drawn]) -> Result<(), AllocError>
     ensures { OnOk result (string_bytes out.new ≡ string_bytes out.old
         ++ flat_map spec.with_blank_line (map drawn_content drawn.now)) }
@@ -104,8 +103,8 @@ fn count_of(severity: Severity, reports: &[Report]) -> usize
     count
 }
 
-/// Appends a count with its word, such as `3 errors`, with a comma before it unless `line` is empty. `word` is the
-/// singular. Appends nothing if the count is 0. Fails if an allocation fails.
+/// Appends `count` and `word` to `line`, such as `3 errors`, or nothing if `count` is 0. A comma comes first unless
+/// `line` is empty. `word` is the singular.
 fn push_count(line: &mut String, count: usize, word: &str) -> Result<(), AllocError>
     ensures { OnOk result (string_bytes line.new ≡ spec.with_count (string_bytes line.old) count word.now) }
 {
@@ -122,7 +121,8 @@ fn push_count(line: &mut String, count: usize, word: &str) -> Result<(), AllocEr
     Ok(())
 }
 
-/// Returns the last line, which counts errors, warnings and notes. Fails if an allocation fails.
+/// Returns the number of errors, warnings and notes as text, such as `3 errors, 1 warning`. Without reports, the text
+/// is empty.
 fn total(alloc: Global, reports: &[Report]) -> Result<String, AllocError>
     ensures { IfOk result (λ line. string_bytes line ≡ spec.total (map report_content reports.now)) }
 {
@@ -145,8 +145,8 @@ fn total(alloc: Global, reports: &[Report]) -> Result<String, AllocError>
     Ok(line)
 }
 
-/// Returns the texts, each with a blank line after it, and then the line that counts the reports. Fails if an
-/// allocation fails.
+/// Returns the texts in `drawn`, each with a blank line after it, and then a line that counts `reports` (`total`).
+/// Without reports, the line is left out.
 fn joined(alloc: Global, drawn: &[Drawn], reports: &[Report]) -> Result<String, AllocError>
     ensures { IfOk result (λ out. string_bytes out
         ≡ spec.joined (map drawn_content drawn.now) (map report_content reports.now)) }
@@ -158,11 +158,13 @@ fn joined(alloc: Global, drawn: &[Drawn], reports: &[Report]) -> Result<String, 
     Ok(out)
 }
 
-/// Returns the text of several reports on one source: each as `render` formats it, followed by a blank line, and at the
-/// end a line such as `3 errors, 1 warning`. `name` is the name of the file, `text` the source.
+/// Returns the text of several reports on one source. Each report is formatted by `render`, and followed by a blank
+/// line. The last line counts the reports, as in `3 errors, 1 warning`. `name` is the name of the file, `text` the
+/// source.
 ///
-/// Reports are sorted by their places in the source. Reports at the same place keep their order, and a report without
-/// labels is sorted as if it were at the start. Without reports, the text is empty. Fails only if an allocation fails.
+/// Reports are sorted by the place that `render` prints. Reports at the same place keep their order, and a report
+/// without labels is sorted as if it were at the start. Without reports, the text is empty. Fails if an allocation
+/// fails.
 pub fn render_all(
     alloc: Global,
     style: Style,

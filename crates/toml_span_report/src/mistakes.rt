@@ -1,4 +1,7 @@
 //! Recognizes the typical mistake that probably caused an error.
+//!
+//! The functions of the submodules take byte offsets in `text`. Unless they say otherwise, `at` is the start of the
+//! error's span. A function that returns an `Option` returns `None` if it does not recognize a mistake.
 ghost use Rattle.std.specs.Prelude.{◌≡◌, option_map};
 ghost use Rattle.toml_span_tree.specs.Error.{kind_of};
 ghost use Rattle.toml_span_report.specs.Finding.{finding_content};
@@ -19,11 +22,8 @@ use crate::words::ARRAY_AFTER_TABLE;
 use toml_span_lex::span::Span;
 use toml_span_tree::ErrorKind;
 
-/// Recognizes the typical mistake that probably caused an error, given the kind of the error, its span, and the source
-/// `text`. Returns `None` if no typical mistake is recognized.
-///
-/// The functions of the submodules take byte offsets in `text`. Unless they say otherwise, `at` is the start of the
-/// error's span, and a function that returns an `Option` returns `None` if it does not recognize a mistake.
+/// Recognizes the typical mistake that probably caused an error. `kind` and `span` are those of the error, `text` is
+/// the source. Returns `None` if no mistake is recognized.
 pub(crate) fn mistake_of<'a>(kind: &ErrorKind<'_>, text: &'a str, span: Span) -> Option<Finding<'a>>
     ensures { option_map finding_content result ≡ spec.mistake_of (kind_of kind.now) text.now span }
 {

@@ -6,8 +6,8 @@ use crate::places::characters;
 use std::alloc::{AllocError, Global};
 use strsim::osa_distance;
 
-/// Returns the highest distance at which a name is suggested for a word: a third of the number of its characters,
-/// rounded to the nearest integer.
+/// Returns the highest distance from `word` at which a name is suggested: a third of the number of characters in
+/// `word`, rounded to the nearest integer.
 #[tactic(auto, unfolding(crate::specs::Names::reach))]
 fn reach(word: &str) -> usize
     ensures value { result ≡ spec.reach word.now }
@@ -16,7 +16,7 @@ fn reach(word: &str) -> usize
     (characters(word) + 1) / 3
 }
 
-/// Returns the distance between a word and a name (`strsim::osa_distance`). Fails if an allocation fails.
+/// Returns the distance between a word and a name (`strsim::osa_distance`).
 #[tactic(auto, unfolding(crate::specs::Names::distance))]
 fn distance(alloc: Global, word: &str, name: &str) -> Result<usize, AllocError>
     ensures { IfOk result (λ d. d ≡ spec.distance word.now name.now) }
@@ -25,12 +25,12 @@ fn distance(alloc: Global, word: &str, name: &str) -> Result<usize, AllocError>
 }
 
 /// Returns the name that a misspelled word probably means: the nearest name, or the first of several that are equally
-/// near. Returns `None` if none is near enough.
+/// near. Returns `None` if no name is near enough.
 ///
-/// The distance between a word and a name is the number of edits that turn the word into the name, where an edit
-/// inserts, removes or replaces a character, or swaps two neighbors (`strsim::osa_distance`). A name is near enough if
-/// its distance is at most a third of the number of characters in `word`, rounded to the nearest integer. So a word of
-/// one character matches only itself. Fails only if an allocation fails.
+/// The distance between a word and a name is the number of edits that turn the word into the name
+/// (`strsim::osa_distance`). An edit inserts, removes or replaces a character, or swaps two neighbors. A name is near
+/// enough if its distance is at most a third of the number of characters in `word`, rounded to the nearest integer. So
+/// a word of one character matches only itself. Fails if an allocation fails.
 pub fn nearest<'a>(
     alloc: Global,
     word: &str,

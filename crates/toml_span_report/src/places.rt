@@ -6,7 +6,8 @@ ghost use Rattle.toml_span_report.specs.Places as spec;
 
 use toml_span_lex::span::Span;
 
-/// Returns the nearest character boundary at or before the offset `at`, at most the length of the text.
+/// Returns the last character boundary at or before the offset `at`. Returns the length of `text` if `at` is beyond the
+/// text.
 pub(crate) fn place(text: &str, at: usize) -> usize
     ensures value { result ≡ spec.place text.now at }
     ensures boundary { IsCharBoundary text.now result }
@@ -30,8 +31,8 @@ fn mark_end(text: &str) -> usize
     }
 }
 
-/// Returns the start of the line that contains the offset `at`. The first line starts after the byte order mark, if the
-/// text begins with one.
+/// Returns the start of the line that contains the offset `at`. A byte order mark at the start of the text is not part
+/// of the first line, unless `at` is 0.
 pub(crate) fn line_start(text: &str, at: usize) -> usize
     requires { IsCharBoundary text.now at }
     ensures value { result ≡ spec.line_start text.now at }
@@ -61,7 +62,8 @@ fn line_feed(bytes: &[u8]) -> usize
     bytes.len()
 }
 
-/// Returns the end of the line that contains the offset `at`: before its LF or CRLF, or at the end of the text.
+/// Returns the end of the line that contains the offset `at`: before its LF or CRLF, or at the end of the text. Returns
+/// `at` if it is between CR and LF.
 pub(crate) fn line_end(text: &str, at: usize) -> usize
     requires { IsCharBoundary text.now at }
     ensures value { result ≡ spec.line_end text.now at }
@@ -114,9 +116,9 @@ pub(crate) fn span_start(text: &str, span: Span) -> usize
     place(text, span.start).max(mark_end(text))
 }
 
-/// Returns the end of a span, moved back to the nearest character boundary, and before the line feed if the span ends
-/// with a line feed. For a reversed span, this is its start. An end in the byte order mark of the text is moved to the
-/// end of the mark.
+/// Returns the end of a span, moved back to the nearest character boundary. If the span then ends with a line feed,
+/// returns the offset before the line feed. Returns `span_start` for a reversed span, and for an end in the byte order
+/// mark of the text.
 #[tactic(auto, unfolding(crate::specs::Places::span_start, crate::specs::Places::span_end))]
 pub(crate) fn span_end(text: &str, span: Span) -> usize
     ensures value { result ≡ spec.span_end text.now span }
@@ -133,8 +135,8 @@ pub(crate) fn span_end(text: &str, span: Span) -> usize
     }
 }
 
-/// Returns the line and the column of the offset `at`, both counted from 1, the column in characters, as editors show
-/// them. An offset inside a character, or beyond the text, is moved back to the nearest character boundary.
+/// Returns the line and the column of the offset `at`, as editors show them. Both are counted from 1, the column in
+/// characters. An offset inside a character, or beyond the text, is moved back to the nearest character boundary.
 ///
 /// `toml_span::line_and_byte` also counts lines and columns from 1, but columns in bytes. `Error::line_info` counts
 /// both from 0, and columns in bytes.

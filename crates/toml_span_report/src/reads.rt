@@ -13,7 +13,8 @@ use toml_span_lex::stop::Stop;
 use toml_span_tree::Error;
 use toml_span_typed::DeserError;
 
-/// Appends the report of each warning. Fails if an allocation fails.
+/// Appends the report of each warning to `reports`. `text` is the source. If an allocation fails, `reports` has the
+/// reports of some warnings.
 fn push_warnings(
     alloc: Global,
     warnings: &[Error<'_>],
@@ -29,8 +30,8 @@ fn push_warnings(
     Ok(())
 }
 
-/// Returns the reports of a read, for `render_all`: those of its warnings and, if it failed, those of its errors.
-/// `text` is the source. Fails if the read failed with `Stop::Memory`, or if an allocation fails.
+/// Returns the reports of all warnings of a read and then, if the read failed, the reports of its errors. `render_all`
+/// formats them. `text` is the source. Fails if the read failed with `Stop::Memory`, or if an allocation fails.
 pub fn reports_of<T>(
     alloc: Global,
     read: &Result<T, Stop<DeserError<'_>>>,

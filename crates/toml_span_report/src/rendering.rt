@@ -1,4 +1,4 @@
-//! Formats one report.
+//! Formats one report. If an allocation fails, the output so far is dropped.
 ghost use Rattle.std.specs.Prelude.{◌≡◌, ◌++◌, IfOk, OnOk, map, None, option_map, string_bytes};
 ghost use Rattle.std.specs.List.{flat_map};
 ghost use Rattle.toml_span_report.specs.Rendering as spec;
@@ -13,7 +13,7 @@ use crate::strips::{Strip, Window, all_strips, is_near, seen_in, window_of};
 use std::alloc::{AllocError, Global};
 use std::fmt::Write;
 
-/// Appends a sign and a text, or nothing if the text is empty. Fails if an allocation fails.
+/// Appends `sign` and then `text` to `out`, or nothing if `text` is empty.
 fn push_after(out: &mut String, sign: &str, text: &str) -> Result<(), AllocError>
     ensures { OnOk result (string_bytes out.new ≡ string_bytes out.old ++ spec.after sign.now text.now) }
 {
@@ -24,7 +24,7 @@ fn push_after(out: &mut String, sign: &str, text: &str) -> Result<(), AllocError
     out.push_str(text)
 }
 
-/// Appends `...` if the line is cut. Fails if an allocation fails.
+/// Appends `...` to `out` if `is_cut` is set.
 fn push_dots(out: &mut String, is_cut: bool) -> Result<(), AllocError>
     ensures { OnOk result (string_bytes out.new ≡ string_bytes out.old ++ spec.dots is_cut) }
 {
@@ -34,7 +34,8 @@ fn push_dots(out: &mut String, is_cut: bool) -> Result<(), AllocError>
     Ok(())
 }
 
-/// Appends a text as a report prints it, cut after 1,000 bytes. Fails if an allocation fails.
+/// Appends `text` to `out` as `push_shown` prints it, but cuts `text` after 1,000 bytes, moved back to a character
+/// boundary, with `...` at the cut.
 #[tactic(auto, unfolding(crate::specs::Rendering::shortened))]
 fn push_shortened(out: &mut String, text: &str) -> Result<(), AllocError>
     ensures { OnOk result (string_bytes out.new ≡ string_bytes out.old ++ spec.shortened text.now) }
@@ -44,7 +45,7 @@ fn push_shortened(out: &mut String, text: &str) -> Result<(), AllocError>
     push_dots(out, end < text.len())
 }
 
-/// Returns a text as a report prints it, cut after 1,000 bytes. Fails if an allocation fails.
+/// Returns `text` as `shown` prints it, but cuts `text` as `push_shortened` does.
 fn shortened(alloc: Global, text: &str) -> Result<String, AllocError>
     ensures { IfOk result (λ out. string_bytes out ≡ spec.shortened text.now) }
 {
@@ -53,7 +54,7 @@ fn shortened(alloc: Global, text: &str) -> Result<String, AllocError>
     Ok(out)
 }
 
-/// Returns the word with which a report begins: `error`, `warning` or `note`.
+/// Returns the word with which a report of this severity begins: `error`, `warning` or `note`.
 pub(crate) fn word(severity: Severity) -> &'static str
     ensures { result.now ≡ spec.word severity }
 {
@@ -64,7 +65,7 @@ pub(crate) fn word(severity: Severity) -> &'static str
     }
 }
 
-/// Returns the color in which the word for a severity and the marks of primary labels are printed.
+/// Returns the color for the word of this severity, and for the marks of primary labels.
 fn ink_of(severity: Severity) -> Ink
     ensures { result ≡ spec.ink_of severity }
 {
@@ -75,7 +76,7 @@ fn ink_of(severity: Severity) -> Ink
     }
 }
 
-/// Appends a text in brackets, or nothing if it is empty. Fails if an allocation fails.
+/// Appends `text` in brackets to `out`, or nothing if `text` is empty.
 fn push_in_brackets(out: &mut String, text: &str) -> Result<(), AllocError>
     ensures { OnOk result (string_bytes out.new ≡ string_bytes out.old ++ spec.in_brackets text.now) }
 {
@@ -87,7 +88,8 @@ fn push_in_brackets(out: &mut String, text: &str) -> Result<(), AllocError>
     out.push_str("]")
 }
 
-/// Appends the first line: the severity, the code and the message. Fails if an allocation fails.
+/// Appends the first line of a report to `out`: the severity, the code in brackets, and the message. An empty code or
+/// message is left out.
 fn push_headline(
     alloc: Global,
     style: Style,
@@ -121,7 +123,7 @@ pub(crate) fn main_strip<'a>(strips: &[Strip<'a>]) -> Option<Strip<'a>>
     strips.first().copied()
 }
 
-/// Appends the place of a strip, if there is one, as `:line:column`. Fails if an allocation fails.
+/// Appends the line and column of `strip` to `out`, as `:line:column`. Appends nothing for `None`.
 fn push_place(out: &mut String, strip: Option<Strip<'_>>) -> Result<(), AllocError>
     ensures { OnOk result (string_bytes out.new ≡ string_bytes out.old
         ++ spec.line_and_column (option_map marked_line_of strip.entry)) }
@@ -133,7 +135,7 @@ fn push_place(out: &mut String, strip: Option<Strip<'_>>) -> Result<(), AllocErr
     write!(out, ":{number}:{column}")
 }
 
-/// Returns the number of digits of the highest line number of the strips. Fails if an allocation fails.
+/// Returns the number of digits of the highest line number of the strips, or 1 without strips.
 fn width_of(alloc: Global, strips: &[Strip<'_>]) -> Result<usize, AllocError>
     ensures { IfOk result (λ width. width ≡ spec.width_of (map marked_line_of strips.now)) }
 {
@@ -151,11 +153,12 @@ struct Frame {
     alloc: Global,
     style: Style,
     severity: Severity,
-    /// The number of columns of the line numbers.
+    /// The number of columns that line numbers take.
     width: usize,
 }
 
-/// Appends the left margin, with a line number or blanks, and a bar. Fails if an allocation fails.
+/// Appends the left margin to `out`: `number`, aligned to the right, and a bar. `number` is empty for a line that is
+/// not a source line.
 fn push_gutter(frame: Frame, out: &mut String, number: &str) -> Result<(), AllocError>
     ensures { OnOk result (string_bytes out.new ≡ string_bytes out.old
         ++ spec.gutter frame.style frame.width number.now) }
@@ -167,7 +170,7 @@ fn push_gutter(frame: Frame, out: &mut String, number: &str) -> Result<(), Alloc
     push_painted(out, frame.style, Ink::Blue, left.as_str())
 }
 
-/// Appends the source line of a strip. Fails if an allocation fails.
+/// Appends the source line of `strip` to `out`, with its number, and with `...` where the line is cut.
 fn push_source_line(frame: Frame, out: &mut String, strip: &Strip<'_>) -> Result<(), AllocError>
     ensures { OnOk result (string_bytes out.new ≡ string_bytes out.old
         ++ spec.source_line frame.style frame.width (marked_line_of strip.now)) }
@@ -184,7 +187,8 @@ fn push_source_line(frame: Frame, out: &mut String, strip: &Strip<'_>) -> Result
     out.push_str("\n")
 }
 
-/// Appends the marks under a strip, `^` or `-`. Fails if an allocation fails.
+/// Appends blanks to `out`, up to the column of the marked part, and then marks: `^` for a primary label, `-` for a
+/// secondary one. A strip has at least one mark.
 fn push_marks(alloc: Global, out: &mut String, strip: &Strip<'_>) -> Result<(), AllocError>
     ensures { OnOk result (string_bytes out.new ≡ string_bytes out.old ++ spec.marks (marked_line_of strip.now)) }
 {
@@ -197,7 +201,7 @@ fn push_marks(alloc: Global, out: &mut String, strip: &Strip<'_>) -> Result<(), 
     push_times(out, columns(marked.as_str()).max(1), sign)
 }
 
-/// Returns the color of the marks of a label.
+/// Returns the color of the marks of a label in a report of this severity.
 fn ink(severity: Severity, is_primary: bool) -> Ink
     ensures { result ≡ spec.ink severity is_primary }
 {
@@ -208,7 +212,7 @@ fn ink(severity: Severity, is_primary: bool) -> Ink
     }
 }
 
-/// Appends the line under a source line: marks, and the message of the label. Fails if an allocation fails.
+/// Appends the line under the source line of `strip` to `out`: the marks, and the message of the label.
 fn push_marks_line(frame: Frame, out: &mut String, strip: &Strip<'_>) -> Result<(), AllocError>
     ensures { OnOk result (string_bytes out.new ≡ string_bytes out.old
         ++ spec.marks_line frame.style frame.severity frame.width (marked_line_of strip.now)) }
@@ -228,9 +232,9 @@ fn push_marks_line(frame: Frame, out: &mut String, strip: &Strip<'_>) -> Result<
     out.push_str("\n")
 }
 
-/// Appends the source line of a strip. `above` is the window of the strip before this one. If that window shows this
-/// strip too, appends nothing. If source lines between the two are left out, a line with `...` comes first. If `above`
-/// is `None`, a line with only a bar comes first. Fails if an allocation fails.
+/// Appends the source line of `strip` to `out`, or nothing if `above`, the window of the previous strip, shows the
+/// strip. Before the source line, appends a line with only a bar if `above` is `None`, or a line with `...` if lines
+/// between the window and the strip are left out.
 fn push_opening(
     frame: Frame,
     out: &mut String,
@@ -257,7 +261,7 @@ fn push_opening(
     push_source_line(frame, out, strip)
 }
 
-/// Appends the source line and the marks of each strip. Fails if an allocation fails.
+/// Appends the source lines and the marks of all strips to `out`.
 fn push_strips(frame: Frame, out: &mut String, strips: &[Strip<'_>]) -> Result<(), AllocError>
     ensures { OnOk result (string_bytes out.new ≡ string_bytes out.old
         ++ spec.drawn frame.style frame.severity frame.width None (map marked_line_of strips.now)) }
@@ -274,7 +278,6 @@ fn push_strips(frame: Frame, out: &mut String, strips: &[Strip<'_>]) -> Result<(
 }
 
 /// Returns the beginning of a report: its first line, and the line with its place. `name` is the name of the file.
-/// Fails if an allocation fails.
 fn front(
     frame: Frame,
     report: &Report,
@@ -297,7 +300,7 @@ fn front(
     Ok(out)
 }
 
-/// Appends a line with a note or help. `title` is `note: ` or `help: `. Fails if an allocation fails.
+/// Appends a line with the note or help `text` to `out`. `title` is `note: ` or `help: `.
 fn push_remark(frame: Frame, out: &mut String, title: &str, text: &str) -> Result<(), AllocError>
     ensures { OnOk result (string_bytes out.new ≡ string_bytes out.old
         ++ spec.remark frame.style frame.width title.now text.now) }
@@ -311,7 +314,7 @@ fn push_remark(frame: Frame, out: &mut String, title: &str, text: &str) -> Resul
     out.push_str("\n")
 }
 
-/// Appends each text as a line with a note or help. `title` is `note: ` or `help: `. Fails if an allocation fails.
+/// Appends a line to `out` for each note or help in `texts`. `title` is `note: ` or `help: `.
 fn push_each(
     frame: Frame,
     out: &mut String,
@@ -327,7 +330,7 @@ fn push_each(
     Ok(())
 }
 
-/// Appends a line with only a bar in its margin. Fails if an allocation fails.
+/// Appends a line to `out` with only a bar in its margin.
 fn push_bar(frame: Frame, out: &mut String) -> Result<(), AllocError>
     ensures { OnOk result (string_bytes out.new ≡ string_bytes out.old ++ spec.bar frame.style frame.width) }
 {
@@ -335,7 +338,7 @@ fn push_bar(frame: Frame, out: &mut String) -> Result<(), AllocError>
     out.push_str("\n")
 }
 
-/// Appends a line with only a bar in its margin if there is help. Fails if an allocation fails.
+/// Appends a line to `out` with only a bar in its margin, if there is help.
 fn push_bar_above_help(frame: Frame, out: &mut String, help: &[String]) -> Result<(), AllocError>
     ensures { OnOk result (string_bytes out.new ≡ string_bytes out.old
         ++ spec.bar_above frame.style frame.width (map string_bytes help.now)) }
@@ -346,7 +349,7 @@ fn push_bar_above_help(frame: Frame, out: &mut String, help: &[String]) -> Resul
     }
 }
 
-/// Appends a line with only a bar in its margin if there are notes or help. Fails if an allocation fails.
+/// Appends a line to `out` with only a bar in its margin, if there are notes or help.
 fn push_bar_above(
     frame: Frame,
     out: &mut String,
@@ -362,7 +365,7 @@ fn push_bar_above(
     }
 }
 
-/// Appends the notes and the help, with a line with a bar above them if there are any. Fails if an allocation fails.
+/// Appends the notes and the help of a report to `out`, if there are any, below a line with only a bar.
 fn push_remarks(frame: Frame, out: &mut String, report: &Report) -> Result<(), AllocError>
     ensures { OnOk result (string_bytes out.new ≡ string_bytes out.old
         ++ spec.remarks frame.style frame.width (report_content report.now)) }
@@ -373,8 +376,8 @@ fn push_remarks(frame: Frame, out: &mut String, report: &Report) -> Result<(), A
     push_each(frame, out, "help: ", help)
 }
 
-/// Returns a report as text. `name` is the name of the file, and `strips` are the strips of the report's labels. Fails
-/// if an allocation fails.
+/// Returns a report as text, as `render` does. `name` is the name of the file, and `strips` are the strips of the
+/// report's labels.
 pub(crate) fn drawn(
     alloc: Global,
     style: Style,
@@ -400,21 +403,28 @@ pub(crate) fn drawn(
 
 /// Returns a report as text. `name` is the name of the file, `text` the source.
 ///
-/// The text has a first line with the message; the place of the first primary label as `name:line:column`, both counted
-/// from 1, the column in characters; the source lines on which labels begin and end, with marks under them: `^` for a
-/// primary label, `-` for a secondary label; and the notes and help. Labels are in the order of the source. They may
-/// have any spans: an offset inside a character, or beyond the source, is moved back to the nearest character boundary,
-/// and a reversed span counts as empty. An empty span has one mark.
+/// The text has:
+///
+/// - a first line with the severity, the code and the message;
+/// - the place of the primary label that comes first in the source or, if no label is primary, of the label that comes
+///   first, as `name:line:column`. Line and column are counted from 1, the column in characters. A report without
+///   labels has only `name`;
+/// - the source lines on which labels begin and end, in the order of the source. Marks are under them: `^` for a
+///   primary label, `-` for a secondary label;
+/// - the notes and the help.
+///
+/// Labels may have any spans. An offset inside a character, or beyond the source, is moved back to the nearest
+/// character boundary. A reversed span counts as empty, and an empty span has one mark.
 ///
 /// A tab is printed as four spaces, any other control character below U+0080 as its control picture (U+2400 to U+2421).
-/// Control characters above U+007F, characters that end a line or change the direction of the text, and characters
+/// Control characters above U+007F, U+2028 and U+2029, characters that change the direction of the text, and characters
 /// without width (U+200B, U+200D, U+FEFF) are printed as U+FFFD. Marks count a wide character as two columns
 /// (`unicode_width`). A byte order mark at the start of the source is not printed.
 ///
-/// Long lines are cut: 80 bytes before the first label are shown, and 160 bytes from the start of the last label that
-/// begins within 240 bytes of the first label. For labels further on, the line is printed again. Codes, messages,
-/// notes, help and names are cut after 1,000 bytes. With colors, the text differs only by their escape sequences. Fails
-/// only if an allocation fails.
+/// Only a part of a long line is printed. The part begins 80 bytes before the first label, and ends 160 bytes after the
+/// start of the last label that begins within 240 bytes of the first label. For labels further on, the line is printed
+/// again. Codes, messages, notes, help and names are cut after 1,000 bytes. Each cut is moved back to a character
+/// boundary. Colors only add escape sequences to the text. Fails if an allocation fails.
 pub fn render(
     alloc: Global,
     style: Style,
@@ -429,7 +439,7 @@ pub fn render(
     drawn(alloc, style, report, name, strips.as_slice())
 }
 
-/// Appends a text and a sign, or nothing if the text is empty. Fails if an allocation fails.
+/// Appends `text` and then `sign` to `out`, or nothing if `text` is empty.
 pub(crate) fn push_before(out: &mut String, sign: &str, text: &str) -> Result<(), AllocError>
     ensures { OnOk result (string_bytes out.new ≡ string_bytes out.old ++ spec.before sign.now text.now) }
 {
@@ -440,7 +450,7 @@ pub(crate) fn push_before(out: &mut String, sign: &str, text: &str) -> Result<()
     out.push_str(sign)
 }
 
-/// Returns what precedes the code in a one-line report of this severity: an empty string for an error.
+/// Returns the word before the code in a one-line report: `warning: `, `note: `, or an empty string for an error.
 fn grade(severity: Severity) -> &'static str
     ensures { result.now ≡ spec.grade severity }
 {
@@ -451,8 +461,8 @@ fn grade(severity: Severity) -> &'static str
     }
 }
 
-/// Returns `./` for a name that begins like a workflow command of GitHub, otherwise an empty string, so that no output
-/// line is taken for a command.
+/// Returns `./` if `name` begins with `::`, or with white space and `::`, otherwise an empty string. GitHub takes an
+/// output line that begins with `::` for a workflow command.
 fn unlike_command(name: &str) -> &'static str
     ensures { result.now ≡ spec.unlike_command name.now }
 {
@@ -463,8 +473,8 @@ fn unlike_command(name: &str) -> &'static str
     }
 }
 
-/// Returns a report as one line. `name` is the name of the file, and `strips` are the strips of the report's labels.
-/// Fails if an allocation fails.
+/// Returns a report as one line, as `render_line` does. `name` is the name of the file, and `strips` are the strips of
+/// the report's labels.
 fn brief(
     alloc: Global,
     report: &Report,
@@ -486,13 +496,12 @@ fn brief(
     Ok(out)
 }
 
-/// Returns a report as one line in the form that editors read, `name:line:column: code: message`, which ends with a
-/// line feed. `name` is the name of the file, `text` the source.
+/// Returns a report as one line, `name:line:column: code: message`, with a line feed at the end. Editors can read lines
+/// of this form. `name` is the name of the file, `text` the source.
 ///
-/// A warning or note has `warning: ` or `note: ` before the code. The place is the start of the first primary label or,
-/// if no label is primary, of the first label. It is left out if the report has no labels. An empty code is left out. A
-/// name that begins with `::`, as workflow commands of GitHub do, or with white space and `::`, gets the prefix `./`.
-/// Fails only if an allocation fails.
+/// A warning or note has `warning: ` or `note: ` before the code. An empty code is left out. The place is the one that
+/// `render` prints. Without labels, line and column are left out. A name that begins with `::`, as workflow commands of
+/// GitHub do, or with white space and `::`, gets the prefix `./`. Fails if an allocation fails.
 pub fn render_line(
     alloc: Global,
     report: &Report,

@@ -12,7 +12,7 @@ use std::alloc::{AllocError, Global};
 use toml_span_lex::span::Span;
 use toml_span_tree::Label;
 
-/// Returns the pieces of code as one string. Fails if an allocation fails.
+/// Returns one string: the pieces of `code`, and then its number, if there is one.
 #[tactic(auto, unfolding(crate::specs::Repairs::code_text))]
 fn code_text(alloc: Global, code: Code<'_>) -> Result<String, AllocError>
     ensures { IfOk result (λ text. string_bytes text ≡ spec.code_text (code_content code.entry)) }
@@ -29,7 +29,8 @@ fn code_text(alloc: Global, code: Code<'_>) -> Result<String, AllocError>
     Ok(text)
 }
 
-/// Appends `joint` and the code in backticks, or nothing if one of the two is empty. Fails if an allocation fails.
+/// Appends `joint` to `out`, and then `code` in backticks, escaped by `push_visible`. Appends nothing if `joint` or
+/// `code` is empty. If an allocation fails, `out` may have a part of the text.
 fn push_code(out: &mut String, joint: &str, code: &str) -> Result<(), AllocError>
     ensures { OnOk result (string_bytes out.new ≡ string_bytes out.old ++ spec.code_shown joint.now code.now) }
 {
@@ -42,8 +43,7 @@ fn push_code(out: &mut String, joint: &str, code: &str) -> Result<(), AllocError
     out.push_str("`")
 }
 
-/// Returns a list with the line of help of a finding. The list is empty if the finding has no help. Fails if an
-/// allocation fails.
+/// Returns a list with the line of help of a finding, or an empty list if the finding has no help.
 pub(crate) fn finding_help(alloc: Global, finding: Finding<'_>) -> Result<Vec<String>, AllocError>
     ensures { IfOk result (λ help. map string_bytes help.items ≡ spec.help (finding_content finding.entry)) }
 {
@@ -63,7 +63,7 @@ pub(crate) fn finding_help(alloc: Global, finding: Finding<'_>) -> Result<Vec<St
     Ok(help)
 }
 
-/// Appends a label with a copy of the text. Fails if an allocation fails.
+/// Appends a label at `span` to `labels`, with the message `text`.
 fn push_label(
     alloc: Global,
     labels: &mut Vec<Label<()>>,
@@ -83,7 +83,8 @@ fn push_label(
     Ok(())
 }
 
-/// Returns the labels of a finding. Fails if an allocation fails.
+/// Returns the labels of a finding. If `words.also` is not empty, the first is a secondary label at `also`. The last is
+/// the primary label, at `mark`.
 pub(crate) fn finding_labels(
     alloc: Global,
     finding: Finding<'_>,
@@ -105,8 +106,7 @@ pub(crate) fn finding_labels(
     Ok(labels)
 }
 
-/// Returns a list with the replacement of a finding. The list is empty if the finding has no replacement. Fails if an
-/// allocation fails.
+/// Returns a list with the replacement of a finding, or an empty list if the finding has no replacement.
 pub(crate) fn finding_repairs(
     alloc: Global,
     finding: Finding<'_>,

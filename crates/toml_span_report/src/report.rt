@@ -19,10 +19,10 @@ pub enum Severity {
     Note,
 }
 
-/// A repair: the bytes of the text to replace, and the new text.
+/// A repair of the source: a span, and the text that replaces it.
 #[derive(Debug, Drop)]
 pub struct Replacement {
-    /// The bytes to replace, as offsets in the text, end exclusive. Empty for an insertion.
+    /// The bytes to replace, as offsets in the source, end exclusive. Empty for an insertion.
     pub span: Span,
     /// The new text. Empty for a removal.
     pub text: String,
@@ -30,8 +30,9 @@ pub struct Replacement {
     pub is_safe: bool,
 }
 
-/// A message about a text, with labels at places in the text. A report is made from an error (`from_error`), or built
-/// step by step: `Report::warning(alloc, "name-twice", "the name appears twice")?.primary(span, "here")?`.
+/// A message about a text, with labels at places in the text. `from_error` makes a report from an error. A program can
+/// also build its own reports step by step:
+/// `Report::warning(alloc, "name-twice", "the name appears twice")?.primary(span, "here")?`.
 ///
 /// Methods that add something consume the report, and drop it if an allocation fails.
 #[derive(Debug, Drop)]
@@ -41,19 +42,19 @@ pub struct Report {
     pub code: String,
     /// What is wrong, in one line.
     pub message: String,
-    /// The places, with their messages. Spans are byte offsets in the text, end exclusive.
+    /// The marked spans (byte offsets in the text, end exclusive), with their messages.
     pub labels: Vec<Label<()>>,
-    /// Further remarks, one per line.
+    /// Further remarks, each in one line.
     pub notes: Vec<String>,
-    /// What to do, one line each.
+    /// What to do, each element in one line.
     pub help: Vec<String>,
-    /// Replacements that repair the text. Their spans don't overlap.
+    /// Replacements that repair the text. Their spans must not overlap.
     pub replacements: Vec<Replacement>,
 }
 
 impl Report {
-    /// Returns a report without labels, notes, help and replacements. Copies the code, which may be empty, and the
-    /// message. Fails only if an allocation fails.
+    /// Returns a report without labels, notes, help and replacements. Copies `code`, which may be empty, and `message`.
+    /// Fails if an allocation fails.
     pub fn new(
         alloc: Global,
         severity: Severity,
@@ -73,24 +74,24 @@ impl Report {
         })
     }
 
-    /// Returns a report of the severity `Error`, without labels, notes, help and replacements. Copies the code, which
-    /// may be empty, and the message. Fails only if an allocation fails.
+    /// Returns a report of the severity `Error`, without labels, notes, help and replacements. Copies `code`, which may
+    /// be empty, and `message`. Fails if an allocation fails.
     pub fn error(alloc: Global, code: &str, message: &str) -> Result<Report, AllocError>
         ensures { IfOk result (λ made. report_content made ≡ spec.bare Error code.now message.now) }
     {
         Report::new(alloc, Severity::Error, code, message)
     }
 
-    /// Returns a report of the severity `Warning`, without labels, notes, help and replacements. Copies the code, which
-    /// may be empty, and the message. Fails only if an allocation fails.
+    /// Returns a report of the severity `Warning`, without labels, notes, help and replacements. Copies `code`, which
+    /// may be empty, and `message`. Fails if an allocation fails.
     pub fn warning(alloc: Global, code: &str, message: &str) -> Result<Report, AllocError>
         ensures { IfOk result (λ made. report_content made ≡ spec.bare Warning code.now message.now) }
     {
         Report::new(alloc, Severity::Warning, code, message)
     }
 
-    /// Adds a primary label, which marks the problem. `text` is the message of the label; it may be empty. Fails only
-    /// if an allocation fails.
+    /// Adds a primary label at `span`, which marks the problem. `text` is the message of the label, and may be empty.
+    /// Fails if an allocation fails.
     pub fn primary(self, span: Span, text: &str) -> Result<Report, AllocError>
         ensures { IfOk result (λ made. report_content made
             ≡ spec.with_primary (report_content self) span text.now) }
@@ -98,8 +99,8 @@ impl Report {
         self.label(true, span, text)
     }
 
-    /// Adds a secondary label, which marks something that explains the problem. `text` is the message of the label; it
-    /// may be empty. Fails only if an allocation fails.
+    /// Adds a secondary label at `span`, which marks something that explains the problem. `text` is the message of the
+    /// label, and may be empty. Fails if an allocation fails.
     pub fn secondary(self, span: Span, text: &str) -> Result<Report, AllocError>
         ensures { IfOk result (λ made. report_content made
             ≡ spec.with_secondary (report_content self) span text.now) }
@@ -107,7 +108,7 @@ impl Report {
         self.label(false, span, text)
     }
 
-    /// Adds a label with a copy of the text. Fails if an allocation fails.
+    /// Adds a label at `span`, with a copy of `text` as its message.
     fn label(mut self, primary: bool, span: Span, text: &str) -> Result<Report, AllocError>
         ensures { IfOk result (λ made. report_content made
             ≡ spec.with_label (report_content self) primary span text.now) }
@@ -122,7 +123,7 @@ impl Report {
         Ok(self)
     }
 
-    /// Adds a note. Fails only if an allocation fails.
+    /// Adds a note with a copy of `text`. Fails if an allocation fails.
     pub fn note(mut self, text: &str) -> Result<Report, AllocError>
         ensures { IfOk result (λ made. report_content made ≡ spec.with_note (report_content self) text.now) }
     {
@@ -131,7 +132,7 @@ impl Report {
         Ok(self)
     }
 
-    /// Adds a line of help. Fails only if an allocation fails.
+    /// Adds a line of help with a copy of `text`. Fails if an allocation fails.
     pub fn help(mut self, text: &str) -> Result<Report, AllocError>
         ensures { IfOk result (λ made. report_content made ≡ spec.with_help (report_content self) text.now) }
     {
@@ -140,8 +141,8 @@ impl Report {
         Ok(self)
     }
 
-    /// Adds a replacement that a program may apply without asking: `text` replaces the bytes of `span`. The text of a
-    /// report does not show replacements, so describe the repair with `help` too. Fails only if an allocation fails.
+    /// Adds a replacement that a program may apply without asking: `text` replaces the bytes of `span`. `render` does
+    /// not show replacements, so describe the repair with `help` too. Fails if an allocation fails.
     pub fn replace(self, span: Span, text: &str) -> Result<Report, AllocError>
         ensures { IfOk result (λ made. report_content made
             ≡ spec.with_replacement (report_content self) span text.now true) }
@@ -149,8 +150,8 @@ impl Report {
         self.repair(span, text, true)
     }
 
-    /// Adds a replacement that a person should review first: `text` replaces the bytes of `span`. The text of a report
-    /// does not show replacements, so describe the repair with `help` too. Fails only if an allocation fails.
+    /// Adds a replacement that a person should review first: `text` replaces the bytes of `span`. `render` does not
+    /// show replacements, so describe the repair with `help` too. Fails if an allocation fails.
     pub fn suggest(self, span: Span, text: &str) -> Result<Report, AllocError>
         ensures { IfOk result (λ made. report_content made
             ≡ spec.with_replacement (report_content self) span text.now false) }
@@ -158,7 +159,7 @@ impl Report {
         self.repair(span, text, false)
     }
 
-    /// Adds a replacement with a copy of the text. Fails if an allocation fails.
+    /// Adds a replacement: a copy of `text` replaces the bytes of `span`.
     fn repair(mut self, span: Span, text: &str, is_safe: bool) -> Result<Report, AllocError>
         ensures { IfOk result (λ made. report_content made
             ≡ spec.with_replacement (report_content self) span text.now is_safe) }

@@ -13,19 +13,19 @@ use std::fmt::{Display, Formatter, Write};
 use toml_span_lex::stop::Stop;
 use toml_span_typed::DeserError;
 
-/// The reports of a failed read, or of the warnings of a successful one. Unlike a `DeserError`, they do not borrow from
-/// the source, so a function that reads a file and drops its text can return them.
+/// The reports of a read's errors and warnings. Unlike a `DeserError`, a `Reported` does not borrow from the source, so
+/// a function that reads a file can return a `Reported` and drop the source.
 #[derive(Debug, Drop)]
 pub struct Reported {
-    /// The reports: those of warnings, if there are any, then those of errors.
+    /// The reports of the warnings, and then the reports of the errors.
     pub reports: Vec<Report>,
     /// The text of all reports, as `render_all` formats it.
     pub text: String,
 }
 
 impl Reported {
-    /// Returns the reports of all errors with which `from_str` failed, and their text. `name` is the name of the file,
-    /// `text` the source. Fails if `stop` is `Stop::Memory`, or if an allocation fails.
+    /// Returns the reports of all errors in `stop`, the error of `from_str`, and their text. `name` is the name of the
+    /// file, `text` the source. Fails if `stop` is `Stop::Memory`, or if an allocation fails.
     pub fn of(
         alloc: Global,
         style: Style,

@@ -13,11 +13,11 @@ pub(crate) struct Open {
     pub(crate) bracket: usize,
     /// The quote of the open string, `#` in a comment, otherwise 0.
     pub(crate) quote: u8,
-    /// The offset of the first quote of the latest string.
+    /// The offset of the first quote of the latest string, or 0 before the first string.
     pub(crate) string: usize,
     /// Whether the latest string has three quotes on each side.
     pub(crate) is_long: bool,
-    /// The number of bytes from the current offset that belong to quotes or an escape that began before it.
+    /// The number of bytes at the current offset that are the rest of quotes or of an escape.
     pub(crate) skip: usize,
 }
 
@@ -28,7 +28,8 @@ pub(crate) fn is_long(text: &str, at: usize) -> bool
     begins(text, at, b"\"\"\"") || begins(text, at, b"'''")
 }
 
-/// Returns what is open after the byte at `at`, which is not in a string or comment. `state` is what is open before it.
+/// Returns what is open after the byte at `at`, which is outside strings and comments. `state` is what is open before
+/// the byte.
 fn outside(text: &str, state: Open, at: usize) -> Open
     ensures { result ≡ spec.outside text.now state at }
 {
@@ -51,7 +52,7 @@ fn outside(text: &str, state: Open, at: usize) -> Open
     next
 }
 
-/// Returns what is open after the byte at `at`, which is in a string. `state` is what is open before it.
+/// Returns what is open after the byte at `at`, which is in a string. `state` is what is open before the byte.
 fn inside(text: &str, state: Open, at: usize) -> Open
     ensures { result ≡ spec.inside text.now state at }
 {
@@ -70,7 +71,7 @@ fn inside(text: &str, state: Open, at: usize) -> Open
     next
 }
 
-/// Returns what is open after the byte at `at`. `state` is what is open before it.
+/// Returns what is open after the byte at `at`. `state` is what is open before the byte.
 #[tactic(auto, unfolding(crate::specs::Scan::step))]
 fn step(text: &str, state: Open, at: usize) -> Open
     ensures { result ≡ spec.step text.now state at }
@@ -89,7 +90,8 @@ fn step(text: &str, state: Open, at: usize) -> Open
     }
 }
 
-/// Returns what is open before the byte at `at`. Takes time linear in `at`.
+/// Returns what is open before the byte at `at`, or at the end of the text if `at` is beyond it. Takes time linear in
+/// `at`.
 #[tactic(auto, unfolding(crate::specs::Scan::scanned))]
 pub(crate) fn open_before(text: &str, at: usize) -> Open
     ensures { result ≡ spec.open_before text.now at }
@@ -108,8 +110,8 @@ pub(crate) fn open_before(text: &str, at: usize) -> Open
     state
 }
 
-/// Returns whether the outermost open bracket of `state` begins a table header, that is, is the first byte of a line
-/// except for blanks. Returns `false` if no bracket is open.
+/// Returns whether the outermost open bracket of `state` begins a table header: it is at the `first_of_line`. Returns
+/// `false` if no bracket is open.
 pub(crate) fn is_in_header(text: &str, state: Open) -> bool
     ensures { result ≡ spec.is_in_header text.now state }
 {

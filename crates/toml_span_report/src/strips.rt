@@ -10,25 +10,25 @@ use crate::places::{column, line_end, line_number, line_start, place, span_end, 
 use std::alloc::{AllocError, Global};
 use toml_span_tree::Label;
 
-/// A part of a long line that is printed once, to show one or more strips.
+/// A part of a line that is printed once, with the marks of one or more strips below it.
 #[derive(Clone, Copy)]
 pub(crate) struct Window {
     /// The number of the line, counted from 1.
     pub(crate) number: usize,
-    /// The offset at which the first strip in the window begins.
+    /// The offset in the source at which the first strip in the window begins.
     pub(crate) first: usize,
-    /// The offset at which the last strip in the window begins.
+    /// The offset in the source at which the last strip in the window begins.
     pub(crate) last: usize,
 }
 
-/// A marked part of a line, with the rest of that line before and after it.
+/// A marked part of a line, with the text before and after it on the line, which may be cut.
 #[derive(Clone, Copy)]
 pub(crate) struct Strip<'a> {
-    /// The offset at which the marked part begins.
+    /// The offset in the source at which the marked part begins.
     pub(crate) at: usize,
     /// The number of the line, counted from 1.
     pub(crate) number: usize,
-    /// The column, counted from 1 in characters.
+    /// The column of the marked part, counted from 1 in characters.
     pub(crate) column: usize,
     pub(crate) is_cut_before: bool,
     pub(crate) before: &'a str,
@@ -40,8 +40,8 @@ pub(crate) struct Strip<'a> {
     pub(crate) message: &'a str,
 }
 
-/// Returns the strip from the offset `from` to the offset `to`, or to the end of its line if that comes first.
-/// `message` is the message of its label.
+/// Returns the strip from the offset `from` to the offset `to`, or to the end of the line of `from` if that comes
+/// first. `message` is the message of its label.
 fn strip_at<'a>(
     text: &'a str,
     from: usize,
@@ -71,7 +71,8 @@ fn strip_at<'a>(
     }
 }
 
-/// Returns how many of the strips, which are sorted by their offsets, begin at or before the offset `at`.
+/// Returns the position of the first strip that begins after the offset `at`, or the number of strips if all begin at
+/// or before `at`.
 fn earlier(strips: &[Strip<'_>], at: usize) -> usize
     ensures { result ≡ spec.earlier (map marked_line_of strips.now) at }
 {
@@ -83,7 +84,7 @@ fn earlier(strips: &[Strip<'_>], at: usize) -> usize
     strips.len()
 }
 
-/// Inserts a strip into a sorted list, after those that begin at the same offset. Fails if an allocation fails.
+/// Inserts `strip` into `strips`, which are sorted by their offsets. Strips at the same offset come before `strip`.
 fn place_strip<'a>(strips: &mut Vec<Strip<'a>>, strip: Strip<'a>) -> Result<(), AllocError>
     ensures { OnOk result (map marked_line_of strips.new.items
         ≡ spec.placed (map marked_line_of strips.old.items) (marked_line_of strip.entry)) }
@@ -93,8 +94,8 @@ fn place_strip<'a>(strips: &mut Vec<Strip<'a>>, strip: Strip<'a>) -> Result<(), 
     Ok(())
 }
 
-/// Inserts the strips of a label into a sorted list: one for the line where it begins and, if it ends on another line,
-/// one for that line. Fails if an allocation fails.
+/// Inserts the strips of `label` into `strips`, which are sorted by their offsets. A label has a strip on its first
+/// line and, if it ends on another line, a strip there. If an allocation fails, `strips` may lack some of them.
 fn place_label<'a, F>(
     strips: &mut Vec<Strip<'a>>,
     text: &'a str,
@@ -122,7 +123,7 @@ fn place_label<'a, F>(
     Ok(())
 }
 
-/// Returns the strips of all labels, sorted by their offsets. Fails if an allocation fails.
+/// Returns the strips of all labels, sorted by their offsets. `text` is the source.
 #[tactic(auto, unfolding(crate::specs::Strips::all_marked_lines))]
 pub(crate) fn all_strips<'a, F>(
     alloc: Global,
@@ -139,15 +140,16 @@ pub(crate) fn all_strips<'a, F>(
     Ok(strips)
 }
 
-/// Returns whether a window shows a strip: the strip begins on the line of the window, within 240 bytes of the first
-/// strip in the window.
+/// Returns whether `window` shows `strip`: the strip is on the line of the window, and begins at most 240 bytes after
+/// the first strip in the window.
 pub(crate) fn is_near(window: Window, strip: &Strip<'_>) -> bool
     ensures { result ≡ spec.is_near window (marked_line_of strip.now) }
 {
     strip.number == window.number && strip.at.saturating_sub(window.first) <= 240
 }
 
-/// Widens a window to show as many of the following strips as it can.
+/// Returns `window`, widened to show the strips at the beginning of `strips`, up to the first strip that is not near
+/// (`is_near`).
 fn window_from(window: Window, strips: &[Strip<'_>]) -> Window
     ensures { result ≡ spec.window_from window (map marked_line_of strips.now) }
 {
@@ -161,8 +163,8 @@ fn window_from(window: Window, strips: &[Strip<'_>]) -> Window
     wide
 }
 
-/// Returns the window that shows a strip: `above` if that window shows it, otherwise a new window. A new window also
-/// shows as many of the strips that follow, `strips`, as it can.
+/// Returns `above` if that window shows `strip`, otherwise a new window. `strips` are the strips after `strip`. A new
+/// window also shows `strips`, up to the first one that is not near (`is_near`).
 pub(crate) fn window_of(above: Option<Window>, strip: &Strip<'_>, strips: &[Strip<'_>]) -> Window
     ensures { result ≡ spec.window_of above (marked_line_of strip.now) (map marked_line_of strips.now) }
 {
@@ -179,8 +181,8 @@ pub(crate) fn window_of(above: Option<Window>, strip: &Strip<'_>, strips: &[Stri
     window_from(own, strips)
 }
 
-/// Cuts the line of a strip to what its window shows: 80 bytes before the first strip in the window, and 160 bytes from
-/// the start of its last strip.
+/// Returns `strip` with its line cut to the part that `window` shows. The part begins 80 bytes before the first strip
+/// in the window, and ends 160 bytes after the start of the last one. Both ends are moved back to character boundaries.
 #[tactic(auto, unfolding(crate::specs::Strips::seen_in))]
 pub(crate) fn seen_in<'a>(window: Window, strip: &Strip<'a>) -> Strip<'a>
     ensures { marked_line_of result ≡ spec.seen_in window (marked_line_of strip.now) }

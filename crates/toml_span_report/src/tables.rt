@@ -2,7 +2,7 @@
 ghost use Rattle.std.specs.Prelude.{◌≡◌, map, option_map};
 ghost use Rattle.toml_span_report.specs.Tables as spec;
 
-/// Returns the text that a table has for a key, or `None` if it has none.
+/// Returns the text after `key` in the first entry of `table` with this key, or `None` if there is none.
 #[tactic(auto, unfolding(crate::specs::Tables::text_in))]
 pub(crate) fn text_in<'p>(table: &[(&'p str, &'p str)], key: &str) -> Option<&'p str>
     ensures { option_map (λ text. text.now) result

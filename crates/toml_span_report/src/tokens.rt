@@ -1,4 +1,4 @@
-//! Finds what to mark for an error whose span only says where a token begins.
+//! Finds the span to mark for an error, such as the token at which the error's span begins.
 ghost use Rattle.std.specs.Prelude.{◌≡◌, IfOk};
 ghost use Rattle.std.specs.Str.{IsCharBoundary};
 ghost use Rattle.toml_span_tree.specs.Error.{kind_of};
@@ -12,8 +12,7 @@ use toml_span_lex::strings::string_at;
 use toml_span_lex::tokenizer::token_at;
 use toml_span_tree::ErrorKind;
 
-/// Returns the end of the token that begins at the offset `at`, or `None` if no token begins there. Fails if an
-/// allocation fails.
+/// Returns the end of the token that begins at the offset `at`, or `None` if no token begins there.
 fn token_after(alloc: Global, text: &str, at: usize) -> Result<Option<usize>, AllocError>
     requires { IsCharBoundary text.now at }
     ensures { IfOk result (λ found. spec.FindsToken text.now at found) }
@@ -36,8 +35,8 @@ fn token_after(alloc: Global, text: &str, at: usize) -> Result<Option<usize>, Al
     }
 }
 
-/// Returns the end of the mark for the token at the offset `at`: the end of the token, or of its line if that comes
-/// first. Returns `at` itself if no token begins there. Fails if an allocation fails.
+/// Returns the end of the token that begins at the offset `at`, or the end of its line if that comes first. Returns
+/// `at` if no token begins there.
 fn marks_end(alloc: Global, text: &str, at: usize) -> Result<usize, AllocError>
     requires { IsCharBoundary text.now at }
     ensures { IfOk result (λ end. spec.MarksToken text.now at end) }
@@ -48,7 +47,7 @@ fn marks_end(alloc: Global, text: &str, at: usize) -> Result<usize, AllocError>
     }
 }
 
-/// Returns whether the `found` of an error names a token or the end of the text, rather than a kind of value.
+/// Returns whether `found`, from the error `Wanted`, names a token or the end of the text, rather than a kind of value.
 fn names_token(found: &str) -> bool
     ensures { result ≡ spec.names_token found.now }
 {
@@ -59,7 +58,8 @@ fn names_token(found: &str) -> bool
         || found.starts_with(b"whitespace")
 }
 
-/// Returns whether the span of an error says only where the unexpected token begins.
+/// Returns whether the span of an error says only where the unexpected token begins. `kind` and `span` are those of the
+/// error.
 fn is_at_token(kind: &ErrorKind<'_>, span: Span) -> bool
     ensures { result ≡ spec.is_at_token (kind_of kind.now) span }
 {
@@ -72,8 +72,8 @@ fn is_at_token(kind: &ErrorKind<'_>, span: Span) -> bool
     }
 }
 
-/// Returns what to mark of a table that lacks a field: its header, up to the end of the line, or its braces. For the
-/// root, the mark is empty, at the start.
+/// Returns the span to mark for a table at `span` that lacks a key: only the header's line if the table begins with a
+/// header, otherwise `span`. If `span` is the whole text, as for the root, the mark is empty, at its start.
 #[tactic(auto, unfolding(crate::specs::Tokens::table_mark))]
 fn table_mark(text: &str, span: Span) -> Span
     ensures { result ≡ spec.table_mark text.now span }
@@ -93,8 +93,8 @@ fn table_mark(text: &str, span: Span) -> Span
     }
 }
 
-/// Returns the span to mark for an error: the token at its start, the header or braces of a table, or the span of the
-/// error. Fails if an allocation fails.
+/// Returns the span to mark for an error at `span`: the token that begins there if `is_at_token`, the `table_mark` for
+/// `MissingField`, otherwise `span`.
 pub(crate) fn marked_span(
     alloc: Global,
     kind: &ErrorKind<'_>,

@@ -1,4 +1,4 @@
-//! The messages for unknown keys.
+//! The messages for unknown keys and unexpected values. If an allocation fails, the output so far is dropped.
 ghost use Rattle.std.specs.Prelude.{◌≡◌, ◌++◌, codes, IfOk, OnOk, map, option_map, string_bytes};
 ghost use Rattle.std.specs.Option.{option_to_list};
 ghost use Rattle.std.specs.List.{flat_map};
@@ -11,7 +11,7 @@ use std::alloc::{AllocError, Global};
 use toml_span_lex::span::Span;
 use toml_span_tree::Label;
 
-/// Appends a name in backticks. Fails if an allocation fails.
+/// Appends `name` in backticks to `out`.
 fn push_named(out: &mut String, name: &str) -> Result<(), AllocError>
     ensures { OnOk result (string_bytes out.new ≡ string_bytes out.old ++ spec.named name.now) }
 {
@@ -20,7 +20,7 @@ fn push_named(out: &mut String, name: &str) -> Result<(), AllocError>
     out.push_str("`")
 }
 
-/// Appends each name in backticks after a comma. Fails if an allocation fails.
+/// Appends the names in backticks to `out`, each after a comma.
 fn push_more(out: &mut String, names: &[&str]) -> Result<(), AllocError>
     ensures { OnOk result (string_bytes out.new ≡ string_bytes out.old
         ++ flat_map (λ name. codes ", " ++ spec.named name) (map (λ name. name.now) names.now)) }
@@ -32,7 +32,7 @@ fn push_more(out: &mut String, names: &[&str]) -> Result<(), AllocError>
     Ok(())
 }
 
-/// Appends names in backticks, separated by commas. Fails if an allocation fails.
+/// Appends the names in backticks to `out`, separated by commas.
 fn push_listed(out: &mut String, names: &[&str]) -> Result<(), AllocError>
     ensures { OnOk result (string_bytes out.new ≡ string_bytes out.old
         ++ spec.listed (map (λ name. name.now) names.now)) }
@@ -46,7 +46,7 @@ fn push_listed(out: &mut String, names: &[&str]) -> Result<(), AllocError>
     }
 }
 
-/// Returns the names of the keys as string slices. Fails if an allocation fails.
+/// Returns the names of the keys as string slices.
 pub(crate) fn key_names<'a>(
     alloc: Global,
     keys: &'a [(String, Span)],
@@ -60,7 +60,7 @@ pub(crate) fn key_names<'a>(
     Ok(names)
 }
 
-/// Returns the names as string slices. Fails if an allocation fails.
+/// Returns the names in `owned` as string slices.
 pub(crate) fn lent_names<'a>(alloc: Global, owned: &'a [String]) -> Result<Vec<&'a str>, AllocError>
     ensures { IfOk result (λ names. map (λ name. name.now) names.items ≡ map string_bytes owned.now) }
 {
@@ -71,7 +71,7 @@ pub(crate) fn lent_names<'a>(alloc: Global, owned: &'a [String]) -> Result<Vec<&
     Ok(names)
 }
 
-/// Returns the message for unknown keys with these names. Fails if an allocation fails.
+/// Returns the message for the unknown keys `names`.
 pub(crate) fn unknown_keys(alloc: Global, names: &[&str]) -> Result<String, AllocError>
     ensures { IfOk result (λ out. string_bytes out ≡ spec.unknown_keys (map (λ name. name.now) names.now)) }
 {
@@ -85,7 +85,7 @@ pub(crate) fn unknown_keys(alloc: Global, names: &[&str]) -> Result<String, Allo
     Ok(out)
 }
 
-/// Returns the note that lists the expected keys. Fails if an allocation fails.
+/// Returns a note that lists the expected keys `names`, or says that no key is expected if `names` is empty.
 pub(crate) fn what_is_expected(alloc: Global, names: &[&str]) -> Result<String, AllocError>
     ensures { IfOk result (λ out. string_bytes out ≡ spec.what_is_expected (map (λ name. name.now) names.now)) }
 {
@@ -97,7 +97,7 @@ pub(crate) fn what_is_expected(alloc: Global, names: &[&str]) -> Result<String, 
     Ok(out)
 }
 
-/// Returns the message for an unexpected value, which lists the expected ones. Fails if an allocation fails.
+/// Returns the message for an unexpected value, which lists the expected values `names`.
 pub(crate) fn one_of(alloc: Global, names: &[&str]) -> Result<String, AllocError>
     ensures { IfOk result (λ out. string_bytes out ≡ spec.one_of (map (λ name. name.now) names.now)) }
 {
@@ -111,7 +111,7 @@ pub(crate) fn one_of(alloc: Global, names: &[&str]) -> Result<String, AllocError
     Ok(out)
 }
 
-/// Returns the message that the key `old` is deprecated, and that `new` replaces it. Fails if an allocation fails.
+/// Returns the message that the key `old` is deprecated, and that `new` replaces it.
 pub(crate) fn deprecated(alloc: Global, old: &str, new: &str) -> Result<String, AllocError>
     ensures { IfOk result (λ out. string_bytes out ≡ spec.deprecated old.now new.now) }
 {
@@ -122,7 +122,7 @@ pub(crate) fn deprecated(alloc: Global, old: &str, new: &str) -> Result<String, 
     Ok(out)
 }
 
-/// Returns a primary label at each key. Fails if an allocation fails.
+/// Returns a list with a primary label at each key.
 pub(crate) fn key_labels(
     alloc: Global,
     keys: &[(String, Span)],
@@ -141,8 +141,8 @@ pub(crate) fn key_labels(
     Ok(labels)
 }
 
-/// Appends ` in place of ` and the unknown key `name` if there are several unknown keys. `count` is their number. Fails
-/// if an allocation fails.
+/// Appends ` in place of ` and `name` in backticks to `out`, unless `count` is 1. `count` is the number of unknown
+/// names.
 fn push_in_place_of(out: &mut String, count: usize, name: &str) -> Result<(), AllocError>
     ensures { OnOk result (string_bytes out.new ≡ string_bytes out.old ++ spec.in_place_of count name.now) }
 {
@@ -153,8 +153,7 @@ fn push_in_place_of(out: &mut String, count: usize, name: &str) -> Result<(), Al
     push_named(out, name)
 }
 
-/// Returns the line of help that suggests the name `meant` for the unknown key `name`. `count` is the number of unknown
-/// keys. Fails if an allocation fails.
+/// Returns the line of help that suggests `meant` for the unknown name `name`. `count` is the number of unknown names.
 fn suggestion(alloc: Global, count: usize, name: &str, meant: &str) -> Result<String, AllocError>
     ensures { IfOk result (λ out. string_bytes out ≡ spec.suggestion count name.now meant.now) }
 {
@@ -165,8 +164,8 @@ fn suggestion(alloc: Global, count: usize, name: &str, meant: &str) -> Result<St
     Ok(out)
 }
 
-/// Returns the line of help that suggests an expected name for the unknown key `name`, or `None` if no expected name is
-/// near enough. `count` is the number of unknown keys. Fails if an allocation fails.
+/// Returns the line of help that suggests one of the names in `expected` for the unknown name `name`. Returns `None` if
+/// none is near enough (`nearest`). `count` is the number of unknown names.
 fn suggestion_for(
     alloc: Global,
     count: usize,
@@ -182,7 +181,7 @@ fn suggestion_for(
     }
 }
 
-/// Appends a text, if there is one. Fails if an allocation fails.
+/// Appends `text` to `texts`, if it is not `None`.
 fn push_text(texts: &mut Vec<String>, text: Option<String>) -> Result<(), AllocError>
     ensures { OnOk result (map string_bytes texts.new.items
         ≡ map string_bytes texts.old.items ++ option_to_list (option_map string_bytes text)) }
@@ -193,8 +192,7 @@ fn push_text(texts: &mut Vec<String>, text: Option<String>) -> Result<(), AllocE
     Ok(())
 }
 
-/// Returns a suggestion for each unknown key in `names` for which an expected name is near enough. Fails if an
-/// allocation fails.
+/// Returns a line of help for each unknown name in `names` that is near enough to an expected name (`nearest`).
 pub(crate) fn suggestions(
     alloc: Global,
     names: &[&str],

@@ -1,4 +1,5 @@
-//! Escapes characters that terminals act on, and quotes texts as JSON strings.
+//! Escapes characters that terminals act on, and quotes texts as JSON strings. If an allocation fails, functions that
+//! append to `out` may leave a part there.
 ghost use Rattle.std.specs.Prelude.{◌≡◌, ◌<◌, ◌++◌, IfOk, OnOk, string_bytes, encode_utf8};
 ghost use Rattle.std.specs.Char.{digit_char};
 ghost use Rattle.toml_span_report.specs.Visible as spec;
@@ -16,7 +17,7 @@ fn is_escaped(c: char) -> bool
     )
 }
 
-/// Appends a hexadecimal digit. Fails if an allocation fails.
+/// Appends `digit` to `out`, as a hexadecimal digit.
 fn push_digit(out: &mut String, digit: u32) -> Result<(), AllocError>
     requires { digit < 16 }
     ensures { OnOk result (string_bytes out.new ≡ string_bytes out.old ++ encode_utf8 (digit_char digit)) }
@@ -24,7 +25,7 @@ fn push_digit(out: &mut String, digit: u32) -> Result<(), AllocError>
     out.push(char::from_digit(digit, 16).unwrap_or('0'))
 }
 
-/// Appends a number below 2 ^ 16 as four hexadecimal digits. Fails if an allocation fails.
+/// Appends `\u` and the four hexadecimal digits of `code`, which is below 2^16, to `out`.
 fn push_code(out: &mut String, code: u32) -> Result<(), AllocError>
     requires { code < 65536 }
     ensures { OnOk result (string_bytes out.new ≡ string_bytes out.old ++ spec.escape code) }
@@ -36,8 +37,8 @@ fn push_code(out: &mut String, code: u32) -> Result<(), AllocError>
     push_digit(out, code % 16)
 }
 
-/// Appends a character. A control character, or a character that ends a line or changes the direction of the text, is
-/// written by number, as in `\u202e`. Fails only if an allocation fails.
+/// Appends `c` to `out`. A character that is a control character, ends a line, or changes the direction of the text is
+/// written as an escape, such as `\u202e`. Fails if an allocation fails. `out` may then have a part of the escape.
 pub fn push_char(out: &mut String, c: char) -> Result<(), AllocError>
     ensures { OnOk result (string_bytes out.new ≡ string_bytes out.old ++ spec.visible_char c) }
 {
@@ -48,9 +49,9 @@ pub fn push_char(out: &mut String, c: char) -> Result<(), AllocError>
     }
 }
 
-/// Appends a text, with escapes for the characters that terminals act on: control characters, characters that end a
-/// line (U+2028, U+2029), and characters that change the direction of the text. These are written by number, as in
-/// `\u202e`. Fails only if an allocation fails.
+/// Appends `text` to `out`, with escapes such as `\u202e` for characters that terminals act on. These are control
+/// characters, characters that end a line (U+2028, U+2029), and characters that change the direction of the text. Fails
+/// if an allocation fails. `out` may then have a part of the text.
 pub fn push_visible(out: &mut String, text: &str) -> Result<(), AllocError>
     ensures { OnOk result (string_bytes out.new ≡ string_bytes out.old ++ spec.visible text.now) }
 {
@@ -60,8 +61,8 @@ pub fn push_visible(out: &mut String, text: &str) -> Result<(), AllocError>
     Ok(())
 }
 
-/// Returns a text, with escapes such as `\u202e` for control characters and for characters that end a line or change
-/// the direction of the text (`push_visible`). Fails only if an allocation fails.
+/// Returns `text` with escapes, such as `\u202e`, for characters that terminals act on (`push_visible`). Fails if an
+/// allocation fails.
 pub fn visible(alloc: Global, text: &str) -> Result<String, AllocError>
     ensures { IfOk result (λ out. string_bytes out ≡ spec.visible text.now) }
 {
@@ -70,8 +71,7 @@ pub fn visible(alloc: Global, text: &str) -> Result<String, AllocError>
     Ok(out)
 }
 
-/// Appends a character, with an escape if terminals act on it (`push_visible`) and it is not a line feed. Fails if an
-/// allocation fails.
+/// Appends `c` to `out`, as `push_char` does, but a line feed without an escape.
 fn push_line_char(out: &mut String, c: char) -> Result<(), AllocError>
     ensures { OnOk result (string_bytes out.new ≡ string_bytes out.old ++ spec.line_char c) }
 {
@@ -82,8 +82,8 @@ fn push_line_char(out: &mut String, c: char) -> Result<(), AllocError>
     }
 }
 
-/// Returns a text with escapes for the characters that terminals act on (`push_visible`), except for its line feeds.
-/// Fails only if an allocation fails.
+/// Returns `text` with escapes for characters that terminals act on (`push_visible`), except for line feeds. Fails if
+/// an allocation fails.
 pub fn visible_lines(alloc: Global, text: &str) -> Result<String, AllocError>
     ensures { IfOk result (λ out. string_bytes out ≡ spec.visible_lines text.now) }
 {
@@ -94,8 +94,9 @@ pub fn visible_lines(alloc: Global, text: &str) -> Result<String, AllocError>
     Ok(out)
 }
 
-/// Appends a text as a JSON string, in quotes. Characters that JSON leaves unescaped but terminals act on, such as
-/// U+202E, are escaped too, as in `push_visible`. Fails only if an allocation fails.
+/// Appends `text` to `out` as a JSON string, in quotes. Characters that terminals act on (`push_visible`), such as
+/// U+202E, are escaped even if JSON does not require it. Fails if an allocation fails. `out` may then have a part of
+/// the string.
 pub fn push_quoted(alloc: Global, out: &mut String, text: &str) -> Result<(), AllocError>
     ensures { OnOk result (string_bytes out.new ≡ string_bytes out.old ++ spec.quoted text.now) }
 {

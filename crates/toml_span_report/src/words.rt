@@ -2,7 +2,7 @@
 ghost use Rattle.std.specs.Prelude.{◌≡◌};
 ghost use Rattle.toml_span_report.specs.Words as spec;
 
-/// The fields of `Words`, in their order.
+/// The values of the fields of `Words`, in their order.
 pub(crate) type Mistake = (
     &'static str,
     &'static str,
@@ -12,10 +12,10 @@ pub(crate) type Mistake = (
     bool,
 );
 
-/// The messages for a typical mistake. Each may be empty.
+/// The messages for a typical mistake. Each text may be empty.
 #[derive(Clone, Copy)]
 pub(crate) struct Words {
-    /// The headline, or an empty string to keep the message of the error.
+    /// The headline. If it is empty, the report keeps the message of the error.
     pub(crate) headline: &'static str,
     /// The primary label.
     pub(crate) label: &'static str,
@@ -43,20 +43,20 @@ pub(crate) fn words_of(mistake: Mistake) -> Words
     }
 }
 
-/// A text, or an empty string if it is left out.
+/// Expands to the given text, or to an empty string.
 macro_rules! text {
     () => { "" };
     ($text:literal) => { $text };
 }
 
-/// A boolean, or `false` if it is left out.
+/// Expands to the given boolean, or to `false`.
 macro_rules! flag {
     () => { false };
     ($flag:literal) => { $flag };
 }
 
-/// Defines a `Mistake`: the headline, which is empty to keep the message of the error, and then the fields that are not
-/// empty, in the order of `Words`. After `code:` comes the text between the help and the code.
+/// Expands to a `Mistake`. The arguments are the headline and the other fields of `Words` that are not empty, in their
+/// order. `code:` sets the field `joint`.
 macro_rules! words {
     ($headline:literal $(, label: $label:literal)? $(, also: $also:literal)? $(, help: $help:literal)?
         $(, code: $joint:literal)? $(, is_safe: $safe:literal)?) => {
@@ -378,6 +378,13 @@ pub(crate) const SIGNS: Mistake =
 pub(crate) const UNDERSCORE: Mistake = words!(
     "each `_` in a number needs a digit on both sides", help: "write", code: " ", is_safe: true
 );
+
+pub(crate) const MISPLACED: Mistake = words!("each `_` in a number needs a digit on both sides");
+
+pub(crate) const NO_DIGITS: Mistake = words!("this number has no digits");
+
+pub(crate) const NO_EXPONENT: Mistake =
+    words!("this exponent has no digits", help: "write a number after `e`, as in `1e6`");
 
 pub(crate) const SIGNED_PREFIX: Mistake = words!("only decimal numbers can have a sign");
 

@@ -8,13 +8,13 @@ use Rattle.toml_span_report.specs.Bytes.{is_last, part, start_of}
 use Rattle.toml_span_report.specs.Finding.{FindingContent, first_found, marked, mended, pieces, removed, replaced}
 use Rattle.toml_span_report.specs.Finding.{span_of}
 use Rattle.toml_span_report.specs.Scan.{is_in_header, is_long, open_before}
-use Rattle.toml_span_report.specs.found.Keys.{header_key, other_sign}
+use Rattle.toml_span_report.specs.found.Keys.{header_key, missing_key, other_sign}
 use Rattle.toml_span_report.specs.found.Values.{unquoted, unquoted_value}
 use Rattle.toml_span_report.specs.declared.bytes.Class.TheVariants as class
 use Rattle.toml_span_report.specs.Words.{WordsContent, said}
 use Rattle.toml_span_report.specs.declared.words.TheConstants.{ARRAY_ALONE, CLOSED_BY_BRACE, CLOSED_BY_BRACKET}
 use Rattle.toml_span_report.specs.declared.words.TheConstants.{EQUALS, EXTRA_COMMA, HASH_VALUE, LEADING_POINT}
-use Rattle.toml_span_report.specs.declared.words.TheConstants.{NO_COMMA, NO_COMMA_IN_TABLE, NO_VALUE_BEHIND}
+use Rattle.toml_span_report.specs.declared.words.TheConstants.{NO_COMMA, NO_COMMA_IN_TABLE, NO_NAME, NO_VALUE_BEHIND}
 use Rattle.toml_span_report.specs.declared.words.TheConstants.{OPEN_ARRAY, OPEN_HEADER, OPEN_TABLE, VALUE_BELOW}
 
 -- the outermost open bracket
@@ -30,6 +30,13 @@ unclosed text at =
 
 unfoldable pub open_end : List ℕ → ℕ → Option FindingContent
 open_end text at = if nat_lt 0 (open_before text at).depth then Some (unclosed text at) else None
+
+-- the end of the line or of the text, where a key is expected
+unfoldable pub unfinished_key : List ℕ → ℕ → Option FindingContent
+unfinished_key text at =
+    if byte_before text at == 46 || is_in_header text (open_before text at)
+    then Some (missing_key (said NO_NAME) text at)
+    else open_end text at
 
 -- a value that begins on the line below its key
 unfoldable pub value_below : List ℕ → ℕ → Option FindingContent
@@ -87,9 +94,9 @@ no_value found text at =
     else None
 
 -- a header that is not closed on its line
-unfoldable pub open_header : List ℕ → ℕ → FindingContent
-open_header text bracket =
-    let end = start_of class.Blank text (end_of class.Left text bracket) in
+unfoldable pub open_header : List ℕ → ℕ → ℕ → FindingContent
+open_header text at bracket =
+    let end = start_of class.Blank text at in
     replaced (said OPEN_HEADER) bracket end
     (pieces (part text bracket end)
     (if begins text bracket (codes "[[") && not (slice_index text (end - 1) == 93) then codes "]]" else codes "]") [])
@@ -97,7 +104,7 @@ open_header text bracket =
 unfoldable pub header : List ℕ → List ℕ → ℕ → ℕ → Option FindingContent
 header found text at bracket =
     if bytes_eq found (codes "a newline") || bytes_eq found (codes "eof") || bytes_eq found (codes "a comment")
-    then Some (open_header text bracket)
+    then Some (open_header text at bracket)
     else if bytes_eq found (codes "a comma") then Some (marked (said ARRAY_ALONE) bracket (last_of_line text at))
     else header_key text at
 
@@ -125,7 +132,7 @@ word text at =
 unfoldable pub missing_comma : WordsContent → List ℕ → ℕ → FindingContent
 missing_comma mistake text at =
     let end = start_of class.Gap text at in
-    if slice_index text (end_of class.Left text (start_of class.Line text end)) == 35
+    if nat_lt (end_of class.Uncommented text (start_of class.Line text end)) end
     then marked mistake at (end_of class.Word text at)
     else mended mistake (span_of at (end_of class.Word text at)) (span_of end end) (pieces (codes ",") [] [])
 

@@ -1,14 +1,16 @@
 -- Mistakes in numbers.
-use Rattle.std.specs.Prelude.{ℕ, zero, suc, ◌+◌, ◌-◌, ◌*◌, min, ◌==◌, ◌&&◌, ◌||◌, not, nat_lt, nat_le, List, []}
-use Rattle.std.specs.Prelude.{codes, length, slice_index, Option, Some, None, if◌then◌else◌}
+use Rattle.std.specs.Prelude.{ℕ, zero, suc, ◌+◌, ◌-◌, ◌*◌, min, ◌==◌, ◌&&◌, ◌||◌, Bool, false, not, nat_lt, nat_le}
+use Rattle.std.specs.Prelude.{List, [], codes, length, slice_index, Option, Some, None, if◌then◌else◌}
 use Rattle.toml_span_report.specs.Bytes.{ahead, begins, end_of, is_digit, part, start_of}
-use Rattle.toml_span_report.specs.Finding.{FindingContent, first_found, marked, pieces, quoted, replaced, six}
+use Rattle.toml_span_report.specs.Finding.{CodeContent, FindingContent, first_found, marked, pieces, quoted}
+use Rattle.toml_span_report.specs.Finding.{replaced, six}
 use Rattle.toml_span_report.specs.found.Dates.{slash_date}
 use Rattle.toml_span_report.specs.declared.bytes.Class.TheVariants as class
-use Rattle.toml_span_report.specs.Words.{said}
-use Rattle.toml_span_report.specs.declared.words.TheConstants.{LEADING_ZERO, OCTAL, OTHER_DIGIT, SIGNED_DECIMAL}
-use Rattle.toml_span_report.specs.declared.words.TheConstants.{SIGNED_PREFIX, SIGNS, THOUSANDS, TOO_LARGE}
-use Rattle.toml_span_report.specs.declared.words.TheConstants.{TRAILING_POINT, UNDERSCORE, UNQUOTED, UPPER_PREFIX}
+use Rattle.toml_span_report.specs.Words.{WordsContent, said}
+use Rattle.toml_span_report.specs.declared.words.TheConstants.{LEADING_ZERO, MISPLACED, NO_DIGITS, NO_EXPONENT}
+use Rattle.toml_span_report.specs.declared.words.TheConstants.{OCTAL, OTHER_DIGIT, SIGNED_DECIMAL, SIGNED_PREFIX}
+use Rattle.toml_span_report.specs.declared.words.TheConstants.{SIGNS, THOUSANDS, TOO_LARGE, TRAILING_POINT}
+use Rattle.toml_span_report.specs.declared.words.TheConstants.{UNDERSCORE, UNQUOTED, UPPER_PREFIX}
 
 abbrev pub after_sign : List ℕ → ℕ → ℕ
 after_sign text at = if slice_index text at == 43 || slice_index text at == 45 then ahead text at 1 else at
@@ -49,13 +51,17 @@ unfoldable pub value_of : List ℕ → ℕ → ℕ → Option ℕ
 value_of digits base zero = Some 0
 value_of digits base (suc i) = next_value (value_of digits base i) base (slice_index digits i)
 
+-- a number with this value and the minus sign, if it is there, as code
+abbrev pub decimal_code : List ℕ → ℕ → ℕ → CodeContent
+decimal_code text start value =
+    record (pieces (if slice_index text start == 45 then codes "-" else []) [] []) { number = Some value }
+
 -- a sign before a prefix
 abbrev pub signed_value : List ℕ → ℕ → ℕ → Option ℕ → FindingContent
 signed_value text start end None = marked (said SIGNED_PREFIX) start end
 signed_value text start end (Some value) =
     if nat_le value 9223372036854775808
-    then replaced (said SIGNED_DECIMAL) start end
-    (record (pieces (if slice_index text start == 45 then codes "-" else []) [] []) { number = Some value })
+    then replaced (said SIGNED_DECIMAL) start end (decimal_code text start value)
     else marked (said SIGNED_PREFIX) start end
 
 unfoldable pub signed_prefix : List ℕ → ℕ → ℕ → ℕ → FindingContent
@@ -63,6 +69,24 @@ signed_prefix text start zero_at end =
     let digits = part text (ahead text zero_at 2) end in
     signed_value text start end
     (value_of digits (base_of (slice_index text (ahead text zero_at 1))) (length digits))
+
+abbrev pub with_digits : FindingContent → ℕ → FindingContent
+with_digits found letter = record found { label = pieces (digits_of letter) [] [] }
+
+-- A number with a lowercase prefix and without a sign. If its digits are valid and it is not too large, a `_` is
+-- misplaced.
+abbrev pub unsigned_value : List ℕ → ℕ → ℕ → ℕ → Option ℕ → FindingContent
+unsigned_value text start end letter None = with_digits (marked (said OTHER_DIGIT) start end) letter
+unsigned_value text start end letter (Some value) =
+    if length (part text (ahead text start 2) end) == 0
+    then with_digits (marked (said NO_DIGITS) start end) letter
+    else if nat_le value 9223372036854775807 then marked (said MISPLACED) start end
+    else marked (said TOO_LARGE) start end
+
+unfoldable pub unsigned_prefix : List ℕ → ℕ → ℕ → ℕ → FindingContent
+unsigned_prefix text start end letter =
+    let digits = part text (ahead text start 2) end in
+    unsigned_value text start end letter (value_of digits (base_of letter) (length digits))
 
 -- a mistake in a number with a prefix
 unfoldable pub prefixed : List ℕ → ℕ → ℕ → ℕ → Option FindingContent
@@ -74,7 +98,7 @@ prefixed text start zero_at end =
     else if length (digits_of letter) == 0
     then Some (replaced (said UPPER_PREFIX) start end
     (pieces (lower_prefix letter) (part text (ahead text zero_at 2) end) []))
-    else Some (record (marked (said OTHER_DIGIT) start end) { label = pieces (digits_of letter) [] [] })
+    else Some (unsigned_prefix text start end letter)
 
 -- leading zeros
 unfoldable pub zeros : List ℕ → ℕ → ℕ → ℕ → FindingContent
@@ -98,16 +122,60 @@ trailing_point text start point end =
     (pieces (part text start next) (codes "0") (part text next end)))
     else None
 
--- an integer of digits and `_`
+-- an integer of digits and `_`, which is too large, or has a leading zero or a misplaced `_`
+abbrev pub largest : List ℕ → ℕ → ℕ
+largest text start = if slice_index text start == 45 then 9223372036854775808 else 9223372036854775807
+
+abbrev pub grouping_mistake : List ℕ → ℕ → WordsContent
+grouping_mistake text digits =
+    if begins text digits (codes "0_") && is_digit (slice_index text (ahead text digits 2)) then said LEADING_ZERO
+    else said UNDERSCORE
+
+-- the integer with one `_` where two follow the first digits, or else without any `_`
+abbrev pub regrouped : List ℕ → ℕ → ℕ → ℕ → ℕ → CodeContent
+regrouped text start digits end value =
+    let first = end_of class.Digit text digits in
+    let rest = ahead text first 2 in
+    if (nat_lt digits first && begins text first (codes "__") && nat_lt rest end) && end_of class.Digit text rest == end
+    then pieces (part text start first) (codes "_") (part text rest end)
+    else decimal_code text start value
+
+abbrev pub integer_value : List ℕ → ℕ → ℕ → ℕ → Option ℕ → FindingContent
+integer_value text start digits end None = marked (said TOO_LARGE) start end
+integer_value text start digits end (Some value) =
+    if nat_le value (largest text start)
+    then replaced (grouping_mistake text digits) start end (regrouped text start digits end value)
+    else marked (said TOO_LARGE) start end
+
 unfoldable pub integer : List ℕ → ℕ → ℕ → ℕ → FindingContent
 integer text start digits end =
-    let first = end_of class.Digit text digits in
-    let second = ahead text first 1 in
-    if slice_index text (end - 1) == 95 && second == end
-    then replaced (said UNDERSCORE) start end (pieces (part text start first) [] [])
-    else if begins text first (codes "__")
-    then replaced (said UNDERSCORE) start end (pieces (part text start second) (part text (ahead text second 1) end) [])
-    else marked (said TOO_LARGE) start end
+    let number = part text digits end in
+    integer_value text start digits end (value_of number 10 (length number))
+
+-- whether the byte is a `_` without a digit on both sides; whether one of so many bytes is
+abbrev pub is_misplaced : List ℕ → ℕ → Bool
+is_misplaced number at =
+    slice_index number at == 95
+    && not (is_digit (slice_index number (at - 1)) && is_digit (slice_index number (ahead number at 1)))
+
+unfoldable pub has_misplaced : List ℕ → ℕ → Bool
+has_misplaced number zero = false
+has_misplaced number (suc i) = has_misplaced number i || is_misplaced number i
+
+-- a float without digits after `e`, or with a misplaced `_`
+abbrev pub lacks_exponent : List ℕ → ℕ → Bool
+lacks_exponent text end =
+    let last = slice_index text (end - 1) in
+    let letter = if last == 43 || last == 45 then slice_index text (end - 2) else last in
+    letter == 101 || letter == 69
+
+unfoldable pub float : List ℕ → ℕ → ℕ → ℕ → Option FindingContent
+float text start point end =
+    first_found (trailing_point text start point end)
+    (if lacks_exponent text end then Some (marked (said NO_EXPONENT) start end)
+    else if (let number = part text start end in has_misplaced number (length number))
+    then Some (marked (said MISPLACED) start end)
+    else None)
 
 unfoldable pub plain : List ℕ → ℕ → ℕ → ℕ → Option FindingContent
 plain text start digits end =
@@ -115,7 +183,7 @@ plain text start digits end =
     let has_zero = slice_index text digits == 48 && is_digit (slice_index text (ahead text digits 1)) in
     if has_zero && nat_le end (end_of class.Decimal text digits) then Some (zeros text start digits end)
     else if nat_lt digits point && point == end then Some (integer text start digits end)
-    else if nat_le end (end_of class.Number text start) then trailing_point text start point end
+    else if nat_le end (end_of class.Number text start) then float text start point end
     else Some (quoted (said UNQUOTED) text start end)
 
 abbrev pub signed : List ℕ → ℕ → ℕ → ℕ → Option FindingContent

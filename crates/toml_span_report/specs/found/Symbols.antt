@@ -46,8 +46,9 @@ unfoldable pub curly : List ℕ → ℕ → List ℕ → FindingContent
 curly text at name =
     let content = ahead text at 3 in
     let close = end_of class.Straight text content in
-    if begins text close (0xE2 ∷ 0x80 ∷ []) && (nat_le close (end_of class.Unquoted text content)
-    && nat_le close (end_of class.Unescaped text content))
+    let last = slice_index text (ahead text close 2) in
+    if (begins text close (0xE2 ∷ 0x80 ∷ []) && (nat_le 0x98 last && nat_le last 0x9E))
+    && (nat_le close (end_of class.Unquoted text content) && nat_le close (end_of class.Unescaped text content))
     then record (marked (said CURLY_QUOTES) at (ahead text at 1)) {
       label = pieces name [] [];
       edit = Some (span_of at (ahead text close 3));

@@ -7,7 +7,7 @@ use Rattle.toml_span_report.specs.Bytes.{ahead, byte_before, byte_after, end_of,
 use Rattle.toml_span_report.specs.Bytes.{last_of_line, part, start_of}
 use Rattle.toml_span_report.specs.Finding.{FindingContent, marked, mended, pieces, quoted, removed, replaced, span_of}
 use Rattle.toml_span_report.specs.found.Keys.{extra, no_equals, no_key}
-use Rattle.toml_span_report.specs.found.Lists.{no_bracket, no_comma, no_value, open_end}
+use Rattle.toml_span_report.specs.found.Lists.{no_bracket, no_comma, no_value, unfinished_key}
 use Rattle.toml_span_report.specs.found.Numbers.{thousands}
 use Rattle.toml_span_report.specs.found.Strings.{quote_in_string}
 use Rattle.toml_span_report.specs.found.Values.{unquoted_value}
@@ -138,11 +138,15 @@ other_kind expected found text span =
     then Some (quoted (said STRING_DUE) text span.start span.end)
     else None
 
+abbrev pub ends_line : List ℕ → Bool
+ends_line found =
+    bytes_eq found (codes "eof") || bytes_eq found (codes "a newline") || bytes_eq found (codes "a comment")
+
 unfoldable pub wanted : List ℕ → List ℕ → List ℕ → Span → Option FindingContent
 wanted expected found text span =
     if bytes_eq expected (codes "a value") then no_value found text span.start
     else if bytes_eq expected (codes "an equals") then no_equals found text span.start
-    else if bytes_eq expected (codes "a table key") && bytes_eq found (codes "eof") then open_end text span.start
+    else if bytes_eq expected (codes "a table key") && ends_line found then unfinished_key text span.start
     else if bytes_eq expected (codes "a table key") then no_key found text span.start
     else if bytes_eq expected (codes "newline") then no_newline found text span.start
     else if bytes_eq expected (codes "a right bracket") then no_bracket found text span.start

@@ -1,4 +1,4 @@
-//! Mistakes in keys and headers that clash.
+//! Mistakes in keys and headers that clash. The module `mistakes` says what the functions take and return.
 ghost use Rattle.std.specs.Prelude.{◌≡◌, option_map};
 ghost use Rattle.toml_span_report.specs.Finding.{code_content, finding_content};
 ghost use Rattle.toml_span_report.specs.found.Clashes as spec;
@@ -14,14 +14,16 @@ use crate::words::{
 };
 use toml_span_lex::span::Span;
 
-/// Returns the end of the header that begins at `at`, without the blanks and the comment after it.
+/// Returns the end of the header that begins at `at`: before the next `=`, `#` or line end, without the blanks before
+/// that.
 fn header_end(text: &str, at: usize) -> usize
     ensures { result ≡ spec.header_end text.now at }
 {
     start_of(Class::Blank, text, end_of(Class::Left, text, at))
 }
 
-/// Returns the finding for two headers, at `first` and `span`, for the same table or array of tables.
+/// Returns the finding for two headers of the same table or array of tables. `first` is the span of the earlier header,
+/// `span` the span of the later one.
 #[tactic(auto, unfolding(crate::specs::found::Clashes::table_twice))]
 pub(crate) fn table_twice<'a>(text: &'a str, span: Span, first: Span) -> Finding<'a>
     ensures { finding_content result ≡ spec.table_twice text.now span first }
@@ -43,7 +45,8 @@ pub(crate) fn table_twice<'a>(text: &'a str, span: Span, first: Span) -> Finding
     }
 }
 
-/// Returns the offset of the value of a key that ends at `end`, or of whatever follows the key instead.
+/// Returns the offset of the value of a key that ends at `end`. Without `=` after the key, returns the offset of the
+/// first byte after the key that is not a blank.
 #[tactic(auto, unfolding(crate::specs::found::Clashes::value_at))]
 fn value_at(text: &str, end: usize) -> usize
     ensures { result ≡ spec.value_at text.now end }
@@ -56,7 +59,7 @@ fn value_at(text: &str, end: usize) -> usize
     }
 }
 
-/// Returns the label for the value at an offset, which is not a table. The label says what kind of value it is.
+/// Returns the label for the value at the offset `at`, such as `this is a string, not a table`.
 #[tactic(auto, unfolding(crate::specs::found::Clashes::no_table))]
 fn no_table(text: &str, at: usize) -> &'static str
     ensures { result.now ≡ spec.no_table text.now at }
@@ -75,10 +78,9 @@ fn no_table(text: &str, at: usize) -> &'static str
     }
 }
 
-/// Returns the line of the inline table that begins at `table`, and whose key ends at `key_end`, with one more
-/// assignment: the assignment of the dotted key at `at`, without the key of the table at its beginning. Returns empty
-/// code if the dotted key does not begin with the key of the table and a dot, or if the table does not end at the end
-/// of its line.
+/// Returns the line of an inline table with one more assignment: the assignment of the dotted key at `at`, which begins
+/// with the table's key. The table's key ends at `key_end`, its brace is at `table`. Returns empty code if the dotted
+/// key does not begin with the table's key and a dot, or if the table's line does not end with `}`.
 #[tactic(auto, unfolding(crate::specs::found::Clashes::extended))]
 fn extended<'a>(text: &'a str, key_end: usize, table: usize, at: usize) -> Code<'a>
     ensures { code_content result ≡ spec.extended text.now key_end table at }
@@ -111,8 +113,9 @@ fn extended<'a>(text: &'a str, key_end: usize, table: usize, at: usize) -> Code<
     )
 }
 
-/// Returns the body of the section whose header ends at `end`, to be written in an inline table: its assignment if
-/// there is only one, an empty string if there is none, otherwise `..`.
+/// Returns the content of an inline table that replaces the section whose header ends at `end`. A line that begins with
+/// `[` ends the section, and blank lines do not count. The content is empty if the section has no lines, its line if it
+/// has only one, with only one `=` or `#`, and otherwise `..`.
 #[tactic(auto, unfolding(crate::specs::found::Clashes::body))]
 fn body<'a>(text: &'a str, end: usize) -> &'a str
     ensures { result.now ≡ spec.body text.now end }
@@ -131,9 +134,9 @@ fn body<'a>(text: &'a str, end: usize) -> &'a str
     }
 }
 
-/// Returns the assignment to write in an inline table, instead of a header whose path goes through the table. `end` is
-/// the end of the header's part that names the inline table. Returns an empty text if this part is the last one, or if
-/// its line does not end with `]`.
+/// Returns the assignment to write in an inline table, instead of a header `[..]` that goes through the table. The part
+/// of the header that names the table ends at `end`. Returns empty code if this part is the last one, or if the
+/// header's line does not end with `]`.
 #[tactic(auto, unfolding(crate::specs::found::Clashes::subtable))]
 fn subtable<'a>(text: &'a str, end: usize) -> Code<'a>
     ensures { code_content result ≡ spec.subtable text.now end }
@@ -155,7 +158,7 @@ fn subtable<'a>(text: &'a str, end: usize) -> Code<'a>
     )
 }
 
-/// Recognizes a key or header, at `span`, that goes through an earlier value, whose key is at `first`.
+/// Recognizes a key or header, at `span`, that goes through an earlier value. The key of the value is at `first`.
 #[tactic(auto, unfolding(crate::specs::found::Clashes::through_value))]
 pub(crate) fn through_value<'a>(text: &'a str, span: Span, first: Span) -> Option<Finding<'a>>
     ensures { option_map finding_content result ≡ spec.through_value text.now span first }
@@ -189,8 +192,8 @@ pub(crate) fn through_value<'a>(text: &'a str, span: Span, first: Span) -> Optio
     }
 }
 
-/// Recognizes a key, at `span`, that is reported as defined twice, but is in a header or dotted key that goes through
-/// an earlier value. The key of that value is at `first`.
+/// Recognizes a duplicate key, at `span`, in a header or before a dot, if it goes through an earlier value. The key of
+/// the value is at `first`.
 #[tactic(auto, unfolding(crate::specs::found::Clashes::key_twice))]
 pub(crate) fn key_twice<'a>(text: &'a str, span: Span, first: Span) -> Option<Finding<'a>>
     ensures { option_map finding_content result ≡ spec.key_twice text.now span first }

@@ -1,4 +1,4 @@
-//! Mistakes in dates and times.
+//! Mistakes in dates and times. The module `mistakes` says what the functions take and return.
 ghost use Rattle.std.specs.Prelude.{◌≡◌, option_map};
 ghost use Rattle.toml_span_report.specs.Finding.{code_content, finding_content};
 ghost use Rattle.toml_span_report.specs.found.Dates as spec;
@@ -8,14 +8,15 @@ use crate::finding::{Code, Finding, marked, pieces, replaced, six};
 use crate::tables::text_in;
 use crate::words::{DATETIME, NO_DAY, NO_MONTH, NO_TIME, OFFSET, SHORT_DATE, SLASH_DATE};
 
-/// Returns whether there are exactly `count` digits at the offset `from`. At the end of the text, fewer suffice.
+/// Returns whether there are exactly `count` digits at the offset `from`. If the text ends sooner, fewer digits
+/// suffice.
 fn are_digits(text: &str, from: usize, count: usize) -> bool
     ensures { result ≡ spec.are_digits text.now from count }
 {
     end_of(Class::Digit, text, from) == ahead(text, from, count)
 }
 
-/// Returns whether the bytes from `start` to `end` have the form of a date, valid or not.
+/// Returns whether the bytes `start..end` have the form of a date, valid or not.
 pub(crate) fn is_date(text: &str, start: usize, end: usize) -> bool
     ensures { result ≡ spec.is_date text.now start end }
 {
@@ -29,7 +30,7 @@ pub(crate) fn is_date(text: &str, start: usize, end: usize) -> bool
         && ahead(text, start, 10) == end
 }
 
-/// Recognizes a date with slashes, from `start` to `end`, in which the year is last, as in `01/31/2026`.
+/// Recognizes a date with slashes, in `start..end`, with the year at the end, as in `01/31/2026`.
 #[tactic(auto, unfolding(crate::specs::found::Dates::slash_date))]
 pub(crate) fn slash_date<'a>(text: &'a str, start: usize, end: usize) -> Option<Finding<'a>>
     ensures { option_map finding_content result ≡ spec.slash_date text.now start end }
@@ -52,7 +53,7 @@ pub(crate) fn slash_date<'a>(text: &'a str, start: usize, end: usize) -> Option<
     }
 }
 
-/// Returns `0` if the number from `from` to `to` has only one digit, otherwise an empty string.
+/// Returns `0` if the number in `from..to` has only one digit, otherwise an empty string.
 fn zero_for(from: usize, to: usize) -> &'static str
     ensures { result.now ≡ spec.zero_for from to }
 {
@@ -63,8 +64,8 @@ fn zero_for(from: usize, to: usize) -> &'static str
     }
 }
 
-/// Returns whether the two digits at the offset `at` spell a higher number than `tens` and `ones`, which are digits in
-/// ASCII.
+/// Returns whether the two digits at the offset `at` spell a higher number than the digits `tens` and `ones`, which are
+/// in ASCII.
 fn is_past(text: &str, at: usize, tens: u8, ones: u8) -> bool
     ensures { result ≡ spec.is_past text.now at tens ones }
 {
@@ -72,7 +73,7 @@ fn is_past(text: &str, at: usize, tens: u8, ones: u8) -> bool
     first > tens || first == tens && byte_at(text, ahead(text, at, 1)) > ones
 }
 
-/// The lengths of all months except February.
+/// The two digits of each month except February, with a message about its length.
 const MONTHS: [(&str, &str); 11] = [
     ("01", "January has 31 days"),
     ("03", "March has 31 days"),
@@ -95,16 +96,16 @@ fn is_fourth(text: &str, at: usize) -> bool
     (2 * tens + u32::from(byte_at(text, ahead(text, at, 1)))) % 4 == 0
 }
 
-/// Returns the message with the length of the month that these two digits spell, or `None` for February and for any
-/// other text.
+/// Returns the message with the length of the month that the two digits in `month` spell. Returns `None` for February
+/// and for any other text.
 fn days_of(month: &str) -> Option<&'static str>
     ensures { option_map (λ days. days.now) result ≡ spec.days_of month.now }
 {
     text_in(&MONTHS, month)
 }
 
-/// Returns the message with the length of a month, or an empty text if the month does not exist. `year` and `month` are
-/// the offsets of their digits.
+/// Returns the message with the length of a month, or an empty text if the month does not exist. The digits of the year
+/// begin at `year`, the digits of the month at `month`.
 #[tactic(auto, unfolding(crate::specs::found::Dates::month_length))]
 fn month_length<'a>(text: &'a str, year: usize, month: usize) -> Code<'a>
     ensures { code_content result ≡ spec.month_length text.now year month }
@@ -129,8 +130,8 @@ fn month_length<'a>(text: &'a str, year: usize, month: usize) -> Code<'a>
     }
 }
 
-/// Returns the finding for a UTC offset without a colon, for an hour that does not exist, or else for any other mistake
-/// in a time. The value spans `start..end`, and the time begins at `hour`.
+/// Returns the finding for the invalid time that begins at `hour`, in the value that spans `start..end`. The mistake is
+/// a UTC offset without a colon, an hour that does not exist, or anything else.
 #[tactic(auto, unfolding(crate::specs::found::Dates::time))]
 fn time<'a>(text: &'a str, start: usize, hour: usize, end: usize) -> Finding<'a>
     ensures { finding_content result ≡ spec.time text.now start hour end }
@@ -150,8 +151,8 @@ fn time<'a>(text: &'a str, start: usize, hour: usize, end: usize) -> Finding<'a>
     marked(DATETIME, start, end)
 }
 
-/// Returns the finding for a date with a year of four digits. The value spans `start..end`, its month begins at
-/// `month`, its day at `day`.
+/// Returns the finding for a value that begins with a year of four digits, and has an invalid date or time. The value
+/// spans `start..end`, its month begins at `month`, its day at `day`.
 #[tactic(auto, unfolding(crate::specs::found::Dates::date))]
 fn date<'a>(text: &'a str, start: usize, month: usize, day: usize, end: usize) -> Finding<'a>
     ensures { finding_content result ≡ spec.date text.now start month day end }

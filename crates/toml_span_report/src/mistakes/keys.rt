@@ -1,4 +1,4 @@
-//! Mistakes in keys and headers.
+//! Mistakes in keys and headers. The module `mistakes` says what the functions take and return.
 ghost use Rattle.std.specs.Prelude.{◌≡◌, option_map};
 ghost use Rattle.toml_span_report.specs.Finding.{code_content, finding_content, meant_content};
 ghost use Rattle.toml_span_report.specs.Words.{texts};
@@ -64,7 +64,8 @@ pub(crate) fn other_key<'a>(text: &'a str, at: usize) -> Option<Finding<'a>>
     }
 }
 
-/// Returns the start of the key that ends at `end`: a quoted key, or a key of bare parts.
+/// Returns the start of the key that ends at `end`. A key that ends with a quote is taken to begin at the nearest quote
+/// before that, any other key at its first byte of the class `Dotted`.
 #[tactic(auto, unfolding(crate::specs::found::Keys::key_start))]
 fn key_start(text: &str, end: usize) -> usize
     ensures { result ≡ spec.key_start text.now end }
@@ -76,8 +77,8 @@ fn key_start(text: &str, end: usize) -> usize
     }
 }
 
-/// Returns the end of the string or word that begins at `at`. For an array or inline table, returns the end of the line
-/// on which it begins, without trailing blanks.
+/// Returns the end of the value at `at`. A string is taken to end with the next quote of any kind, and an array or
+/// inline table at the end of the line, without trailing blanks. Any other value is a word.
 #[tactic(auto, unfolding(crate::specs::found::Keys::value_end))]
 fn value_end(text: &str, at: usize) -> usize
     ensures { result ≡ spec.value_end text.now at }
@@ -89,7 +90,7 @@ fn value_end(text: &str, at: usize) -> usize
     }
 }
 
-/// Returns whether the word from `at` to `end` is a decimal integer, or a float without an exponent.
+/// Returns whether the word from `at` to `end` looks like a decimal integer, or like a float without an exponent.
 #[tactic(auto, unfolding(crate::specs::found::Keys::is_number))]
 fn is_number(text: &str, at: usize, end: usize) -> bool
     ensures { result ≡ spec.is_number text.now at end }
@@ -104,8 +105,8 @@ fn is_number(text: &str, at: usize, end: usize) -> bool
         || byte_at(text, point) == b'.' && other < end && end_of(Class::Digit, text, other) == end
 }
 
-/// Returns whether the word from `at` to `end` looks like a value: it begins with a quote, a bracket or a brace, or is
-/// a number (`is_number`), a date, a boolean, `inf` or `nan`.
+/// Returns whether the word from `at` to `end` looks like a value. Such a word begins with a quote, bracket or brace,
+/// or is a number (`is_number`), a date, a boolean, `inf` or `nan`.
 #[tactic(auto, unfolding(crate::specs::found::Keys::is_value))]
 fn is_value(text: &str, at: usize, end: usize) -> bool
     ensures { result ≡ spec.is_value text.now at end }
@@ -125,7 +126,7 @@ fn is_named(word: &str) -> bool
     matches!(word, "true" | "false" | "inf" | "nan")
 }
 
-/// Returns a finding that marks `mark` and replaces `edit` with `code`, which may not be what was meant.
+/// Returns a finding that marks `mark`, with a replacement of `edit` by `code`. The replacement is not safe.
 fn doubtful<'a>(mistake: Mistake, mark: Span, edit: Span, code: Code<'a>) -> Finding<'a>
     ensures { finding_content result ≡ spec.doubtful (texts mistake.entry) mark edit (code_content code.entry) }
 {
@@ -138,8 +139,8 @@ fn doubtful<'a>(mistake: Mistake, mark: Span, edit: Span, code: Code<'a>) -> Fin
 }
 
 /// Returns the finding for `key`, a sign other than `=`, and the word of another language at `at`. `mark` is the span
-/// of the sign, `edit` the span of all three, and `known` says what the word means. If TOML has a value for the word,
-/// the finding marks the sign and replaces `edit`. Otherwise it only marks the word.
+/// of the sign, `edit` the span of all three. If TOML has nothing for the word, the finding only marks the word.
+/// Otherwise it marks the sign, and replaces `edit`.
 fn known_pair<'a>(
     mistake: Mistake,
     key: &'a str,
@@ -157,10 +158,9 @@ fn known_pair<'a>(
     doubtful(mistake, mark, edit, pieces(key, " = ", known.code))
 }
 
-/// Returns the finding for `key`, a sign other than `=`, and the word at `at`, which is not a value: it needs quotes,
-/// or is a word of another language. `mark` is the span of the sign; `edit` is the span of all three. The finding marks
-/// the sign, and replaces `edit` and any further words of the value. But if TOML has nothing for the word of another
-/// language, the finding only marks that word.
+/// Returns the finding for `key`, a sign other than `=`, and the word at `at`, which is not a value. `mark` is the span
+/// of the sign, `edit` the span of all three. For a word of another language (`known_word`), returns the finding of
+/// `known_pair`. Otherwise the replacement puts the word, and any words after the word, in quotes.
 #[tactic(auto, unfolding(crate::specs::found::Keys::other_word))]
 fn other_word<'a>(
     mistake: Mistake,
@@ -181,7 +181,8 @@ fn other_word<'a>(
     doubtful(mistake, mark, span_of(edit.start, end), code)
 }
 
-/// Returns the finding for a sign, from `from` to `to`, that is written instead of `=` between a key and a value.
+/// Returns the finding for the sign in `from..to`, which is written instead of `=` between a key and a value. The sign
+/// is empty if `=` is missing.
 #[tactic(auto, unfolding(crate::specs::found::Keys::other_sign))]
 pub(crate) fn other_sign<'a>(mistake: Mistake, text: &'a str, from: usize, to: usize) -> Finding<'a>
     ensures { finding_content result ≡ spec.other_sign (texts mistake.entry) text.now from to }
@@ -204,8 +205,8 @@ pub(crate) fn other_sign<'a>(mistake: Mistake, text: &'a str, from: usize, to: u
     }
 }
 
-/// Returns the end of the code for an array, after the text of its last element. `are_values` says that the elements
-/// are values, which need no quotes. `has_more` says that there are more elements, for which `, ..` is written.
+/// Returns the code that ends an array, after the text of its last element. `are_values` says that the elements need no
+/// quotes. `has_more` says that there are more elements, for which `, ..` is written.
 fn closing_of(are_values: bool, has_more: bool) -> &'static str
     ensures { result.now ≡ spec.closing_of are_values has_more }
 {
@@ -217,8 +218,9 @@ fn closing_of(are_values: bool, has_more: bool) -> &'static str
     }
 }
 
-/// Returns the finding for a list in the style of YAML: a key that begins at `start`, a colon, and items on the lines
-/// below, the first of which has its dash at `dash`. The code has one or two elements, and `..` if there are more.
+/// Returns the finding for a list in the style of YAML. Its key begins at `start`, the colon after the key is at
+/// `colon`, and the dash of its first item is at `dash`. The code is a header if the first item is a table, otherwise
+/// an array of at most two items, and `..` for more.
 #[tactic(auto, unfolding(crate::specs::found::Keys::yaml_list))]
 fn yaml_list<'a>(text: &'a str, start: usize, colon: usize, dash: usize) -> Finding<'a>
     ensures { finding_content result ≡ spec.yaml_list text.now start colon dash }
@@ -251,8 +253,8 @@ fn yaml_list<'a>(text: &'a str, start: usize, colon: usize, dash: usize) -> Find
     }
 }
 
-/// Returns the finding for a key and a colon with nothing after them on their line but blanks and a comment. The colon
-/// is at `at`.
+/// Returns the finding for the colon at `at`, after a key in the style of YAML. Only blanks and a comment follow the
+/// colon on its line.
 #[tactic(auto, unfolding(crate::specs::found::Keys::yaml))]
 fn yaml<'a>(text: &'a str, at: usize) -> Finding<'a>
     ensures { finding_content result ≡ spec.yaml text.now at }
@@ -295,7 +297,7 @@ fn is_keyword(word: &str) -> bool
     matches!(word, "export" | "let" | "var" | "const" | "set" | "local")
 }
 
-/// Returns the finding for a key that ends at `end` and is alone on its line.
+/// Returns the finding for a key that ends at `end`, with no `=` after it, or for the marker `---` of YAML.
 #[tactic(auto, unfolding(crate::specs::found::Keys::lone_key))]
 fn lone_key<'a>(text: &'a str, end: usize) -> Finding<'a>
     ensures { finding_content result ≡ spec.lone_key text.now end }
@@ -307,8 +309,8 @@ fn lone_key<'a>(text: &'a str, end: usize) -> Finding<'a>
     }
 }
 
-/// Returns the finding for a key of several words. The first word ends at `end`, the second begins at `at`, and the
-/// last ends at `stop`, before `=`.
+/// Returns the finding for a key of several words. The first word ends at `end`, the second begins at `at`, and the `=`
+/// after the key is at `stop`.
 #[tactic(auto, unfolding(crate::specs::found::Keys::spaced_key))]
 fn spaced_key<'a>(text: &'a str, end: usize, at: usize, stop: usize) -> Finding<'a>
     ensures { finding_content result ≡ spec.spaced_key text.now end at stop }
@@ -341,7 +343,7 @@ fn yaml_item<'a>(text: &'a str, dash: usize, at: usize) -> Finding<'a>
     }
 }
 
-/// Recognizes the mistake in the token at `at`, where `=` is expected. The key before it ends at `end`.
+/// Recognizes the mistake in the token at `at`, where `=` is expected. The key before the token ends at `end`.
 #[tactic(auto, unfolding(crate::specs::found::Keys::second_word))]
 fn second_word<'a>(text: &'a str, end: usize, at: usize) -> Option<Finding<'a>>
     ensures { option_map finding_content result ≡ spec.second_word text.now end at }
@@ -411,7 +413,7 @@ fn brace_header<'a>(text: &'a str, at: usize) -> Option<Finding<'a>>
     }
 }
 
-/// Returns the finding for a placeholder of a template, which begins with two braces at `at`, instead of a value.
+/// Returns the finding for a placeholder of a template, such as `{{ name }}`, that begins at `at`.
 #[tactic(auto, unfolding(crate::specs::found::Keys::placeholder))]
 fn placeholder<'a>(text: &'a str, at: usize) -> Finding<'a>
     ensures { finding_content result ≡ spec.placeholder text.now at }
@@ -425,7 +427,7 @@ fn placeholder<'a>(text: &'a str, at: usize) -> Finding<'a>
     quoted(TEMPLATE, text, at, end)
 }
 
-/// Returns the finding for the extra dot or comma at `at`.
+/// Returns the finding for the extra dot, comma or bracket at `at`.
 #[tactic(auto, unfolding(crate::specs::found::Keys::extra))]
 pub(crate) fn extra<'a>(mistake: Mistake, text: &'a str, at: usize) -> Finding<'a>
     ensures { finding_content result ≡ spec.extra (texts mistake.entry) text.now at }
@@ -433,9 +435,10 @@ pub(crate) fn extra<'a>(mistake: Mistake, text: &'a str, at: usize) -> Finding<'
     removed(mistake, at, ahead(text, at, 1))
 }
 
-/// Returns the finding for `=` or a closing bracket at `at`, where a key is expected.
+/// Returns the finding for the token at `at`, where a key is expected. The finding has the mistake `mistake`, unless an
+/// extra dot or a merge conflict explains the token.
 #[tactic(auto, unfolding(crate::specs::found::Keys::missing_key))]
-fn missing_key<'a>(mistake: Mistake, text: &'a str, at: usize) -> Finding<'a>
+pub(crate) fn missing_key<'a>(mistake: Mistake, text: &'a str, at: usize) -> Finding<'a>
     ensures { finding_content result ≡ spec.missing_key (texts mistake.entry) text.now at }
 {
     if byte_before(text, at) == b'.' {

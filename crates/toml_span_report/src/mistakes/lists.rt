@@ -1,4 +1,5 @@
-//! Mistakes such as missing values, and arrays, inline tables and headers that are not closed.
+//! Mistakes such as missing values, and arrays, inline tables and headers that are not closed. The module `mistakes`
+//! says what the functions take and return.
 ghost use Rattle.std.specs.Prelude.{◌≡◌, option_map};
 ghost use Rattle.toml_span_report.specs.Finding.{finding_content};
 ghost use Rattle.toml_span_report.specs.Words.{texts};
@@ -9,16 +10,16 @@ use crate::bytes::{
     last_of_line, part, start_of,
 };
 use crate::finding::{Finding, marked, mended, pieces, removed, replaced, span_of};
-use crate::mistakes::keys::{header_key, other_sign};
+use crate::mistakes::keys::{header_key, missing_key, other_sign};
 use crate::mistakes::values::{unquoted, unquoted_value};
 use crate::scan::{is_in_header, is_long, open_before};
 use crate::words::{
     ARRAY_ALONE, CLOSED_BY_BRACE, CLOSED_BY_BRACKET, EQUALS, EXTRA_COMMA, HASH_VALUE,
-    LEADING_POINT, Mistake, NO_COMMA, NO_COMMA_IN_TABLE, NO_VALUE_BEHIND, OPEN_ARRAY, OPEN_HEADER,
-    OPEN_TABLE, VALUE_BELOW,
+    LEADING_POINT, Mistake, NO_COMMA, NO_COMMA_IN_TABLE, NO_NAME, NO_VALUE_BEHIND, OPEN_ARRAY,
+    OPEN_HEADER, OPEN_TABLE, VALUE_BELOW,
 };
 
-/// Returns the finding for a bracket that is not closed: the outermost one that is open at the offset `at`.
+/// Returns the finding for the outermost bracket or brace that is still open at the offset `at`.
 #[tactic(auto, unfolding(crate::specs::found::Lists::unclosed))]
 pub(crate) fn unclosed<'a>(text: &'a str, at: usize) -> Finding<'a>
     ensures { finding_content result ≡ spec.unclosed text.now at }
@@ -34,7 +35,7 @@ pub(crate) fn unclosed<'a>(text: &'a str, at: usize) -> Finding<'a>
     found
 }
 
-/// Recognizes a bracket or brace that is still open at the offset `at`, the end of the text.
+/// Recognizes a bracket or brace that is still open at the offset `at`.
 #[tactic(auto, unfolding(crate::specs::found::Lists::open_end))]
 pub(crate) fn open_end<'a>(text: &'a str, at: usize) -> Option<Finding<'a>>
     ensures { option_map finding_content result ≡ spec.open_end text.now at }
@@ -43,6 +44,19 @@ pub(crate) fn open_end<'a>(text: &'a str, at: usize) -> Option<Finding<'a>>
         Some(unclosed(text, at))
     } else {
         None
+    }
+}
+
+/// Recognizes a key that ends with a dot, a header without a name, or a bracket that is not closed. A key is expected
+/// at `at`, where a line end, a comment or the end of the text is.
+#[tactic(auto, unfolding(crate::specs::found::Lists::unfinished_key))]
+pub(crate) fn unfinished_key<'a>(text: &'a str, at: usize) -> Option<Finding<'a>>
+    ensures { option_map finding_content result ≡ spec.unfinished_key text.now at }
+{
+    if byte_before(text, at) == b'.' || is_in_header(text, open_before(text, at)) {
+        Some(missing_key(NO_NAME, text, at))
+    } else {
+        open_end(text, at)
     }
 }
 
@@ -68,8 +82,8 @@ fn value_below<'a>(text: &'a str, at: usize) -> Option<Finding<'a>>
     }
 }
 
-/// Recognizes a value that is missing after `=`, or a bracket that is not closed, where the line or the text ends at
-/// `at`.
+/// Recognizes a value that is missing after `=`, or a bracket that is not closed. A line end, a comment or the end of
+/// the text is at `at`.
 #[tactic(auto, unfolding(crate::specs::found::Lists::missing_value))]
 pub(crate) fn missing_value<'a>(text: &'a str, at: usize) -> Option<Finding<'a>>
     ensures { option_map finding_content result ≡ spec.missing_value text.now at }
@@ -84,8 +98,8 @@ pub(crate) fn missing_value<'a>(text: &'a str, at: usize) -> Option<Finding<'a>>
     }
 }
 
-/// Recognizes a value that begins with `#`, such as a color, and is therefore read as a comment. If the comment at `at`
-/// is not such a value, recognizes that a value is missing before it, or that a bracket is not closed.
+/// Recognizes a value of `#` and hexadecimal digits, such as a color, which is read as a comment. Any other comment at
+/// `at` is passed to `missing_value`.
 #[tactic(auto, unfolding(crate::specs::found::Lists::hash))]
 fn hash<'a>(text: &'a str, at: usize) -> Option<Finding<'a>>
     ensures { option_map finding_content result ≡ spec.hash text.now at }
@@ -99,7 +113,7 @@ fn hash<'a>(text: &'a str, at: usize) -> Option<Finding<'a>>
     }
 }
 
-/// Recognizes an extra comma at `at`, where a value is expected, but not after `=`.
+/// Recognizes an extra comma at `at`, where a value is expected. Returns `None` if the comma follows `=`.
 #[tactic(auto, unfolding(crate::specs::found::Lists::comma))]
 fn comma<'a>(text: &'a str, at: usize) -> Option<Finding<'a>>
     ensures { option_map finding_content result ≡ spec.comma text.now at }
@@ -112,7 +126,7 @@ fn comma<'a>(text: &'a str, at: usize) -> Option<Finding<'a>>
     }
 }
 
-/// Recognizes a float without a digit before its point, and a word that begins with a dot, at `at`, where a value is
+/// Recognizes a float such as `.5`, without an exponent, or a word such as `.x`. The point is at `at`, where a value is
 /// expected.
 #[tactic(auto, unfolding(crate::specs::found::Lists::point))]
 fn point<'a>(text: &'a str, at: usize) -> Option<Finding<'a>>
@@ -158,12 +172,12 @@ pub(crate) fn no_value<'a>(found: &str, text: &'a str, at: usize) -> Option<Find
     }
 }
 
-/// Returns the finding for a header that is not closed on its line. `bracket` is the offset of its bracket.
+/// Returns the finding for a header that begins at `bracket`, and is not closed on its line. The `]` is expected at `at`.
 #[tactic(auto, unfolding(crate::specs::found::Lists::open_header))]
-fn open_header<'a>(text: &'a str, bracket: usize) -> Finding<'a>
-    ensures { finding_content result ≡ spec.open_header text.now bracket }
+fn open_header<'a>(text: &'a str, at: usize, bracket: usize) -> Finding<'a>
+    ensures { finding_content result ≡ spec.open_header text.now at bracket }
 {
-    let end = start_of(Class::Blank, text, end_of(Class::Left, text, bracket));
+    let end = start_of(Class::Blank, text, at);
     let last = byte_at(text, end.saturating_sub(1));
     let closing = if begins(text, bracket, b"[[") && last != b']' {
         "]]"
@@ -174,19 +188,21 @@ fn open_header<'a>(text: &'a str, bracket: usize) -> Finding<'a>
     replaced(OPEN_HEADER, bracket, end, code)
 }
 
-/// Recognizes the mistake in the token `found` at `at`, where a header whose bracket is at `bracket` should end.
+/// Recognizes the mistake in the token `found` at `at`, in the header that begins at `bracket`. The closing bracket of
+/// the header is expected at `at`.
 #[tactic(auto, unfolding(crate::specs::found::Lists::header))]
 fn header<'a>(found: &str, text: &'a str, at: usize, bracket: usize) -> Option<Finding<'a>>
     ensures { option_map finding_content result ≡ spec.header found.now text.now at bracket }
 {
     match found {
-        "a newline" | "eof" | "a comment" => Some(open_header(text, bracket)),
+        "a newline" | "eof" | "a comment" => Some(open_header(text, at, bracket)),
         "a comma" => Some(marked(ARRAY_ALONE, bracket, last_of_line(text, at))),
         _ => header_key(text, at),
     }
 }
 
-/// Returns whether an assignment begins at the offset `at`, and only blanks are before it on its line.
+/// Returns whether an assignment with an unquoted key begins at the offset `at`, with only blanks before it on its
+/// line.
 #[tactic(auto, unfolding(crate::specs::found::Lists::is_assignment))]
 fn is_assignment(text: &str, at: usize) -> bool
     ensures { result ≡ spec.is_assignment text.now at }
@@ -195,8 +211,8 @@ fn is_assignment(text: &str, at: usize) -> bool
     first_of_line(text, at) == at && at < end && byte_after(text, end) == b'='
 }
 
-/// Returns whether the line of the offset `at` looks like a header: its first byte is `[`, and the word at `at` is
-/// followed by `]` or `]]`, with nothing but blanks after it.
+/// Returns whether the line of the offset `at` looks like a header. Such a line begins with `[`. After the word at
+/// `at`, it has `]`, at most one more byte, and then only blanks.
 #[tactic(auto, unfolding(crate::specs::found::Lists::is_heading))]
 fn is_heading(text: &str, at: usize) -> bool
     ensures { result ≡ spec.is_heading text.now at }
@@ -220,26 +236,25 @@ pub(crate) fn word<'a>(text: &'a str, at: usize) -> Finding<'a>
     }
 }
 
-/// Returns the finding for a comma that is missing before the value or pair at `at`.
+/// Returns the finding for a comma that is missing before the value or pair at `at`. The finding has no replacement if a
+/// `#` is before the comma on its line, since the comma may then be in a comment.
 #[tactic(auto, unfolding(crate::specs::found::Lists::missing_comma))]
 fn missing_comma<'a>(mistake: Mistake, text: &'a str, at: usize) -> Finding<'a>
     ensures { finding_content result ≡ spec.missing_comma (texts mistake.entry) text.now at }
 {
     let end = start_of(Class::Gap, text, at);
     let mut found = marked(mistake, at, end_of(Class::Word, text, at));
-    if byte_at(
-        text,
-        end_of(Class::Left, text, start_of(Class::Line, text, end)),
-    ) != b'#'
-    {
+    let line = start_of(Class::Line, text, end);
+    if end_of(Class::Uncommented, text, line) >= end {
         found.edit = Some(span_of(end, end));
         found.code = pieces(",", "", "");
     }
     found
 }
 
-/// Returns the finding for the token at `at`, where a comma or closing bracket is expected: a bracket that is not
-/// closed if the token begins an assignment or a header, otherwise a missing comma.
+/// Returns the finding for the token at `at`, where a comma or closing bracket is expected. If the token begins an
+/// assignment or a header, the finding is that a bracket is not closed. Otherwise the finding is `mistake`, a missing
+/// comma.
 #[tactic(auto, unfolding(crate::specs::found::Lists::unseparated))]
 fn unseparated<'a>(mistake: Mistake, text: &'a str, at: usize) -> Finding<'a>
     ensures { finding_content result ≡ spec.unseparated (texts mistake.entry) text.now at }
@@ -269,7 +284,7 @@ fn wrong_closing<'a>(
     found
 }
 
-/// Recognizes a value in an array or inline table that goes on with `.`, `:` or `+` at `at`, and so needs quotes.
+/// Recognizes a value in an array or inline table that needs quotes, because it continues with `.`, `:` or `+` at `at`.
 #[tactic(auto, unfolding(crate::specs::found::Lists::glued))]
 fn glued<'a>(text: &'a str, at: usize) -> Option<Finding<'a>>
     ensures { option_map finding_content result ≡ spec.glued text.now at }

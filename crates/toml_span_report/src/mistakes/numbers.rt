@@ -1,14 +1,16 @@
-//! Mistakes in numbers. Functions that take `start` and `end` are given a number that spans `start..end`.
+//! Mistakes in numbers. Functions that take `start` and `end` are given a number that spans `start..end`. The module
+//! `mistakes` says what the functions take and return.
 ghost use Rattle.std.specs.Prelude.{◌≡◌, length, option_map};
-ghost use Rattle.toml_span_report.specs.Finding.{finding_content};
+ghost use Rattle.toml_span_report.specs.Finding.{code_content, finding_content};
+ghost use Rattle.toml_span_report.specs.Words.{texts};
 ghost use Rattle.toml_span_report.specs.found.Numbers as spec;
 
 use crate::bytes::{Class, ahead, begins, byte_at, end_of, is_in, part, start_of};
 use crate::finding::{Code, Finding, marked, pieces, quoted, replaced, six};
 use crate::mistakes::dates::slash_date;
 use crate::words::{
-    LEADING_ZERO, OCTAL, OTHER_DIGIT, SIGNED_DECIMAL, SIGNED_PREFIX, SIGNS, THOUSANDS, TOO_LARGE,
-    TRAILING_POINT, UNDERSCORE, UNQUOTED, UPPER_PREFIX,
+    LEADING_ZERO, MISPLACED, Mistake, NO_DIGITS, NO_EXPONENT, OCTAL, OTHER_DIGIT, SIGNED_DECIMAL,
+    SIGNED_PREFIX, SIGNS, THOUSANDS, TOO_LARGE, TRAILING_POINT, UNDERSCORE, UNQUOTED, UPPER_PREFIX,
 };
 
 /// Returns the offset after the sign of the number at `at`, or `at` if the number has no sign.
@@ -22,8 +24,8 @@ pub(crate) fn after_sign(text: &str, at: usize) -> usize
     }
 }
 
-/// Returns a description of the digits that a number may have after the prefix with this letter, or an empty string for
-/// any other letter.
+/// Returns a label that lists the digits of a number with the prefix letter `x`, `o` or `b`, or an empty string for any
+/// other letter.
 fn digits_of(letter: u8) -> &'static str
     ensures { result.now ≡ spec.digits_of letter }
 {
@@ -70,8 +72,8 @@ fn base_of(letter: u8) -> u64
     }
 }
 
-/// Returns the value of a number with one more digit, or with `_`, which does not change it. Values of `u64::MAX` and
-/// above are `u64::MAX`. Returns `None` if the byte is not a digit in this base.
+/// Returns the value of a number after one more byte, at most `u64::MAX`. A digit is appended, and `_` is ignored.
+/// Returns `None` if `value` is `None`, or if the byte is neither `_` nor a digit in this base.
 fn next_value(value: Option<u64>, base: u64, byte: u8) -> Option<u64>
     ensures { result ≡ spec.next_value value base byte }
 {
@@ -85,8 +87,8 @@ fn next_value(value: Option<u64>, base: u64, byte: u8) -> Option<u64>
     }
 }
 
-/// Returns the value of a number, or `u64::MAX` if it is higher. Returns `None` if it contains a byte that is neither
-/// `_` nor a digit in this base.
+/// Returns the value of a number, at most `u64::MAX`. An empty text has the value 0. Returns `None` if a byte is
+/// neither `_` nor a digit in this base.
 fn value_of(digits: &str, base: u64) -> Option<u64>
     ensures { result ≡ spec.value_of digits.now base (length digits.now) }
 {
@@ -97,8 +99,23 @@ fn value_of(digits: &str, base: u64) -> Option<u64>
     value
 }
 
-/// Returns the finding for a sign before a prefix. The `0` of the prefix is at `zero`. The repair is the number in
-/// decimal, which may have a sign. There is no repair if a digit is not valid, or if the number is higher than 2^63.
+/// Returns the code of a number with this value, and with the sign `-` if that is the sign at `start`.
+fn decimal_code<'a>(text: &'a str, start: usize, value: u64) -> Code<'a>
+    ensures { code_content result ≡ spec.decimal_code text.now start value }
+{
+    let sign = if byte_at(text, start) == b'-' {
+        "-"
+    } else {
+        ""
+    };
+    Code {
+        number: Some(value),
+        ..pieces(sign, "", "")
+    }
+}
+
+/// Returns the finding for a sign before a prefix. The `0` of the prefix is at `zero`. The replacement is the number in
+/// decimal. There is no replacement if a digit is not valid, or if the number without its sign is greater than 2^63.
 #[tactic(auto, unfolding(crate::specs::found::Numbers::signed_prefix))]
 fn signed_prefix<'a>(text: &'a str, start: usize, zero: usize, end: usize) -> Finding<'a>
     ensures { finding_content result ≡ spec.signed_prefix text.now start zero end }
@@ -106,22 +123,32 @@ fn signed_prefix<'a>(text: &'a str, start: usize, zero: usize, end: usize) -> Fi
     let base = base_of(byte_at(text, ahead(text, zero, 1)));
     match value_of(part(text, ahead(text, zero, 2), end), base) {
         Some(value) if value <= 9223372036854775808 => {
-            let sign = if byte_at(text, start) == b'-' {
-                "-"
-            } else {
-                ""
-            };
-            let code = Code {
-                number: Some(value),
-                ..pieces(sign, "", "")
-            };
-            replaced(SIGNED_DECIMAL, start, end, code)
+            replaced(SIGNED_DECIMAL, start, end, decimal_code(text, start, value))
         }
         _ => marked(SIGNED_PREFIX, start, end),
     }
 }
 
-/// Recognizes the mistake in a number whose prefix begins with the `0` at `zero`.
+/// Returns the finding for a number without a sign that has the prefix letter `x`, `o` or `b`: without digits, too
+/// large, with a misplaced `_`, or with an invalid digit.
+#[tactic(auto, unfolding(crate::specs::found::Numbers::unsigned_prefix))]
+fn unsigned_prefix<'a>(text: &'a str, start: usize, end: usize, letter: u8) -> Finding<'a>
+    ensures { finding_content result ≡ spec.unsigned_prefix text.now start end letter }
+{
+    let digits = part(text, ahead(text, start, 2), end);
+    let mistake = match value_of(digits, base_of(letter)) {
+        Some(_) if digits.is_empty() => NO_DIGITS,
+        Some(value) if value <= 9223372036854775807 => return marked(MISPLACED, start, end),
+        Some(_) => return marked(TOO_LARGE, start, end),
+        None => OTHER_DIGIT,
+    };
+    let mut found = marked(mistake, start, end);
+    found.label = pieces(digits_of(letter), "", "");
+    found
+}
+
+/// Recognizes the mistake in an invalid number with a prefix such as `0x`. Returns `None` unless the prefix begins at
+/// `zero`.
 #[tactic(auto, unfolding(crate::specs::found::Numbers::prefixed))]
 fn prefixed<'a>(text: &'a str, start: usize, zero: usize, end: usize) -> Option<Finding<'a>>
     ensures { option_map finding_content result ≡ spec.prefixed text.now start zero end }
@@ -137,13 +164,11 @@ fn prefixed<'a>(text: &'a str, start: usize, zero: usize, end: usize) -> Option<
         let code = pieces(lower, part(text, ahead(text, zero, 2), end), "");
         Some(replaced(UPPER_PREFIX, start, end, code))
     } else {
-        let mut found = marked(OTHER_DIGIT, start, end);
-        found.label = pieces(digits, "", "");
-        Some(found)
+        Some(unsigned_prefix(text, start, end, letter))
     }
 }
 
-/// Returns the finding for leading zeros. The digits of the number, with the zeros, begin at `digits`.
+/// Returns the finding for a number with leading zeros. Its digits begin at `digits`, with the zeros.
 #[tactic(auto, unfolding(crate::specs::found::Numbers::zeros))]
 fn zeros<'a>(text: &'a str, start: usize, digits: usize, end: usize) -> Finding<'a>
     ensures { finding_content result ≡ spec.zeros text.now start digits end }
@@ -179,29 +204,99 @@ fn trailing_point<'a>(text: &'a str, start: usize, point: usize, end: usize) -> 
     }
 }
 
-/// Returns the finding for an integer of digits and `_`, which begin at `digits`.
+/// Returns the largest absolute value of an integer with the sign at `start`.
+fn largest(text: &str, start: usize) -> u64
+    ensures { result ≡ spec.largest text.now start }
+{
+    if byte_at(text, start) == b'-' {
+        9223372036854775808
+    } else {
+        9223372036854775807
+    }
+}
+
+/// Returns the mistake in an integer of digits and `_` that is not too large. Its digits begin at `digits`.
+fn grouping_mistake(text: &str, digits: usize) -> Mistake
+    ensures { texts result ≡ spec.grouping_mistake text.now digits }
+{
+    let is_padded = begins(text, digits, b"0_");
+    if is_padded && is_in(Class::Digit, byte_at(text, ahead(text, digits, 2))) {
+        LEADING_ZERO
+    } else {
+        UNDERSCORE
+    }
+}
+
+/// Returns the finding for an invalid integer of digits and `_`, which begin at `digits`: too large, with a leading
+/// zero, or with a misplaced `_`.
 #[tactic(auto, unfolding(crate::specs::found::Numbers::integer))]
 fn integer<'a>(text: &'a str, start: usize, digits: usize, end: usize) -> Finding<'a>
     ensures { finding_content result ≡ spec.integer text.now start digits end }
 {
     let first = end_of(Class::Digit, text, digits);
-    let second = ahead(text, first, 1);
-    if byte_at(text, end.saturating_sub(1)) == b'_' && second == end {
-        replaced(
-            UNDERSCORE,
-            start,
-            end,
-            pieces(part(text, start, first), "", ""),
-        )
-    } else if begins(text, first, b"__") {
-        let code = pieces(
-            part(text, start, second),
-            part(text, ahead(text, second, 1), end),
-            "",
-        );
-        replaced(UNDERSCORE, start, end, code)
+    let rest = ahead(text, first, 2);
+    let is_twice = digits < first && begins(text, first, b"__") && rest < end;
+    match value_of(part(text, digits, end), 10) {
+        Some(value) if value <= largest(text, start) => {
+            let code = if is_twice && end_of(Class::Digit, text, rest) == end {
+                pieces(part(text, start, first), "_", part(text, rest, end))
+            } else {
+                decimal_code(text, start, value)
+            };
+            replaced(grouping_mistake(text, digits), start, end, code)
+        }
+        _ => marked(TOO_LARGE, start, end),
+    }
+}
+
+/// Returns whether a digit is missing before or after the byte at `at`, and that byte is `_`.
+fn is_misplaced(number: &str, at: usize) -> bool
+    ensures { result ≡ spec.is_misplaced number.now at }
+{
+    let before = byte_at(number, at.saturating_sub(1));
+    let after = byte_at(number, ahead(number, at, 1));
+    byte_at(number, at) == b'_' && !(is_in(Class::Digit, before) && is_in(Class::Digit, after))
+}
+
+/// Returns whether a `_` in a number has no digit before or after it.
+fn has_misplaced(number: &str) -> bool
+    ensures { result ≡ spec.has_misplaced number.now (length number.now) }
+{
+    let mut found = false;
+    for i in 0..number.len() {
+        found |= is_misplaced(number, i);
+    }
+    found
+}
+
+/// Returns whether the number before `end` ends with `e` or `E`, or with one of these and a sign.
+fn lacks_exponent(text: &str, end: usize) -> bool
+    ensures { result ≡ spec.lacks_exponent text.now end }
+{
+    let last = byte_at(text, end.saturating_sub(1));
+    let letter = if matches!(last, b'+' | b'-') {
+        byte_at(text, end.saturating_sub(2))
     } else {
-        marked(TOO_LARGE, start, end)
+        last
+    };
+    matches!(letter, b'e' | b'E')
+}
+
+/// Recognizes the mistake in an invalid float. After its sign, the first byte that is neither a digit nor `_` is at
+/// `point`.
+#[tactic(auto, unfolding(crate::specs::found::Numbers::float))]
+fn float<'a>(text: &'a str, start: usize, point: usize, end: usize) -> Option<Finding<'a>>
+    ensures { option_map finding_content result ≡ spec.float text.now start point end }
+{
+    if let Some(found) = trailing_point(text, start, point, end) {
+        return Some(found);
+    }
+    if lacks_exponent(text, end) {
+        Some(marked(NO_EXPONENT, start, end))
+    } else if has_misplaced(part(text, start, end)) {
+        Some(marked(MISPLACED, start, end))
+    } else {
+        None
     }
 }
 
@@ -218,14 +313,13 @@ fn plain<'a>(text: &'a str, start: usize, digits: usize, end: usize) -> Option<F
     } else if digits < point && point == end {
         Some(integer(text, start, digits, end))
     } else if end <= end_of(Class::Number, text, start) {
-        trailing_point(text, start, point, end)
+        float(text, start, point, end)
     } else {
         Some(quoted(UNQUOTED, text, start, end))
     }
 }
 
-/// Recognizes the mistake in an invalid number that contains the offset `at`. Returns `None` if the mistake is not a
-/// typical one.
+/// Recognizes the mistake in the invalid number around the offset `at`.
 #[tactic(auto, unfolding(crate::specs::found::Numbers::number))]
 pub(crate) fn number<'a>(text: &'a str, at: usize) -> Option<Finding<'a>>
     ensures { option_map finding_content result ≡ spec.number text.now at }

@@ -1,4 +1,5 @@
-//! Mistakes in strings: missing quotes, and invalid characters and escapes.
+//! Mistakes in strings: missing quotes, and invalid characters and escapes. The module `mistakes` says what the
+//! functions take and return.
 ghost use Rattle.std.specs.Prelude.{◌≡◌, option_map};
 ghost use Rattle.toml_span_report.specs.Finding.{finding_content};
 ghost use Rattle.toml_span_report.specs.found.Strings as spec;
@@ -14,8 +15,8 @@ use crate::words::{
     SURROGATE,
 };
 
-/// Returns the finding for a single-line string that is not closed. Its opening quote is at `quote`, and `end` is the
-/// end of its line. If the string begins a line outside brackets, it is a quoted key.
+/// Returns the finding for a single-line string that is not closed. Its opening quote is at `quote`, and its line ends
+/// at `end`. A string at the start of a line, outside brackets, is a key (`open_key`).
 #[tactic(auto, unfolding(crate::specs::found::Strings::open_string))]
 fn open_string<'a>(text: &'a str, quote: usize, end: usize) -> Finding<'a>
     ensures { finding_content result ≡ spec.open_string text.now quote end }
@@ -31,8 +32,8 @@ fn open_string<'a>(text: &'a str, quote: usize, end: usize) -> Finding<'a>
     marked(mistake, quote, end)
 }
 
-/// Returns the finding for a quoted key that is not closed. Its opening quote is at `quote`, and `end` is the end of
-/// its line.
+/// Returns the finding for a quoted key that is not closed. Its opening quote is at `quote`, and its line ends at
+/// `end`.
 #[tactic(auto, unfolding(crate::specs::found::Strings::open_key))]
 fn open_key<'a>(text: &'a str, quote: usize, end: usize) -> Finding<'a>
     ensures { finding_content result ≡ spec.open_key text.now quote end }
@@ -47,7 +48,8 @@ fn open_key<'a>(text: &'a str, quote: usize, end: usize) -> Finding<'a>
     replaced(OPEN_KEY, quote, end, code)
 }
 
-/// Returns two hexadecimal digits for a byte that is below 32, or is 127.
+/// Returns the two hexadecimal digits of a byte that is below 32, or is 127. Returns an empty string for any other
+/// byte.
 #[tactic(auto, unfolding(crate::specs::found::Strings::hex_of))]
 fn hex_of(byte: u8) -> &'static str
     ensures { result.now ≡ spec.hex_of byte }
@@ -64,7 +66,7 @@ fn hex_of(byte: u8) -> &'static str
     }
 }
 
-/// Returns the finding for the control character at `at`, in a string whose quote is at `quote`.
+/// Returns the finding for the control character at `at`, in the string that begins at `quote`.
 #[tactic(auto, unfolding(crate::specs::found::Strings::control))]
 fn control<'a>(text: &'a str, at: usize, quote: usize) -> Finding<'a>
     ensures { finding_content result ≡ spec.control text.now at quote }
@@ -78,7 +80,8 @@ fn control<'a>(text: &'a str, at: usize, quote: usize) -> Finding<'a>
     }
 }
 
-/// Returns the finding for the character `c` at `at`, which may not occur in the string around it.
+/// Returns the finding for the character `c` at `at`, which is not allowed in the string that contains `at`. For a line
+/// end in a single-line string, the finding is that the string is not closed.
 #[tactic(auto, unfolding(crate::specs::found::Strings::character))]
 pub(crate) fn character<'a>(text: &'a str, at: usize, c: char) -> Finding<'a>
     ensures { finding_content result ≡ spec.character text.now at c }
@@ -92,7 +95,7 @@ pub(crate) fn character<'a>(text: &'a str, at: usize, c: char) -> Finding<'a>
     }
 }
 
-/// Returns the finding for a backslash, at `at`, that does not begin an escape. `end` is the end of the mark.
+/// Returns the finding for the backslash at `at`, which does not begin an escape. The finding marks `at..end`.
 #[tactic(auto, unfolding(crate::specs::found::Strings::backslash))]
 fn backslash<'a>(text: &'a str, at: usize, end: usize) -> Finding<'a>
     ensures { finding_content result ≡ spec.backslash text.now at end }
@@ -122,8 +125,8 @@ pub(crate) fn escape<'a>(text: &'a str, at: usize) -> Finding<'a>
     backslash(text, at.saturating_sub(1), ahead(text, at, 1))
 }
 
-/// Returns the zeros that an escape with this letter and `count` digits lacks. It needs eight digits after `U`, four
-/// after `u`, and two after any other letter.
+/// Returns the zeros that an escape with this letter and `count` digits lacks. An escape needs eight digits after `U`,
+/// four after `u`, and two after any other letter.
 #[tactic(auto, unfolding(crate::specs::found::Strings::zeros_of))]
 fn zeros_of<'a>(letter: u8, count: usize) -> &'a str
     ensures { result.now ≡ spec.zeros_of letter count }
@@ -136,7 +139,7 @@ fn zeros_of<'a>(letter: u8, count: usize) -> &'a str
     part("00000000", 0, wanted.saturating_sub(count))
 }
 
-/// Returns a description of the digits that an escape with this letter needs.
+/// Returns a label that says how many digits an escape with this letter needs.
 fn digits_after(letter: u8) -> &'static str
     ensures { result.now ≡ spec.digits_after letter }
 {
@@ -147,7 +150,7 @@ fn digits_after(letter: u8) -> &'static str
     }
 }
 
-/// Returns the finding for the character at `at`, where a hexadecimal digit is expected.
+/// Returns the finding for an escape with too few digits. A hexadecimal digit is expected at `at`.
 #[tactic(auto, unfolding(crate::specs::found::Strings::hex_escape))]
 pub(crate) fn hex_escape<'a>(text: &'a str, at: usize) -> Finding<'a>
     ensures { finding_content result ≡ spec.hex_escape text.now at }
@@ -183,7 +186,7 @@ pub(crate) fn escape_value<'a>(text: &'a str, at: usize, value: u32) -> Finding<
     marked(mistake, start, ahead(text, at, length))
 }
 
-/// Returns the finding for a string that is not closed before the end of the text. Its opening quote is at `at`.
+/// Returns the finding for the string that begins at `at`, and is not closed before the end of the text.
 #[tactic(auto, unfolding(crate::specs::found::Strings::unterminated))]
 pub(crate) fn unterminated<'a>(text: &'a str, at: usize) -> Finding<'a>
     ensures { finding_content result ≡ spec.unterminated text.now at }
@@ -197,7 +200,7 @@ pub(crate) fn unterminated<'a>(text: &'a str, at: usize) -> Finding<'a>
     }
 }
 
-/// Returns the finding for a multi-line string as a key. Its opening quotes are at `at`.
+/// Returns the finding for the multi-line string at `at`, which is written as a key.
 #[tactic(auto, unfolding(crate::specs::found::Strings::long_key))]
 pub(crate) fn long_key<'a>(text: &'a str, at: usize) -> Finding<'a>
     ensures { finding_content result ≡ spec.long_key text.now at }
@@ -205,8 +208,8 @@ pub(crate) fn long_key<'a>(text: &'a str, at: usize) -> Finding<'a>
     marked(LONG_KEY, at, ahead(text, at, 3))
 }
 
-/// Recognizes a value that begins and ends with a quote and contains the same quote, so that the string ends too early,
-/// before the token at `at`.
+/// Recognizes a string that contains its own quote, as in `a = "b "c" d"`. The string ends too early, before the token
+/// at `at`.
 #[tactic(auto, unfolding(crate::specs::found::Strings::quote_in_string))]
 pub(crate) fn quote_in_string<'a>(text: &'a str, at: usize) -> Option<Finding<'a>>
     ensures { option_map finding_content result ≡ spec.quote_in_string text.now at }
@@ -241,7 +244,7 @@ pub(crate) fn quote_in_string<'a>(text: &'a str, at: usize) -> Option<Finding<'a
     }
 }
 
-/// Returns whether the bytes from `from` to `to` contain the quote.
+/// Returns whether the bytes `from..to` of a line contain the quote `quote`.
 fn has(text: &str, from: usize, to: usize, quote: u8) -> bool
     ensures { result ≡ spec.has text.now from to quote }
 {

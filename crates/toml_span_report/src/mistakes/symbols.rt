@@ -1,4 +1,4 @@
-//! Mistakes in characters that do not begin a token.
+//! Mistakes in characters that do not begin a token. The module `mistakes` says what the functions take and return.
 ghost use Rattle.std.specs.Prelude.{◌≡◌, option_map};
 ghost use Rattle.toml_span_report.specs.Finding.{finding_content, meant_content};
 ghost use Rattle.toml_span_report.specs.found.Symbols as spec;
@@ -18,8 +18,8 @@ use crate::words::{
     MARKUP, OTHER_SIGN, OTHER_SPACE, PARENTHESES, SEMICOLON, SEMICOLONS, SLASHES,
 };
 
-/// Returns the TOML character that `c` looks like, or no character if `c` is invisible, with the mistake and the
-/// Unicode name of `c`. Returns `None` for any other character.
+/// Returns the TOML character that `c` looks like, with the mistake and the Unicode name of `c`. If `c` is invisible,
+/// the code is empty. Returns `None` for any other character.
 #[tactic(auto, unfolding(crate::specs::found::Symbols::look_alike))]
 fn look_alike(c: char) -> Option<Meant>
     ensures { option_map meant_content result ≡ spec.look_alike c }
@@ -56,7 +56,9 @@ fn curly_name(c: char) -> &'static str
     }
 }
 
-/// Returns the finding for the curly quote at `at`, which has this name, and for the string that it begins.
+/// Returns the finding for the curly quote at `at`, whose Unicode name is `name`. The finding has a replacement if the
+/// next character from U+2000 to U+2FFF is on the same line and from U+2018 to U+201E, as curly quotes are, with no
+/// quotes, backticks or backslashes before it.
 #[tactic(auto, unfolding(crate::specs::found::Symbols::curly))]
 fn curly<'a>(text: &'a str, at: usize, name: &'static str) -> Finding<'a>
     ensures { finding_content result ≡ spec.curly text.now at name.now }
@@ -65,6 +67,7 @@ fn curly<'a>(text: &'a str, at: usize, name: &'static str) -> Finding<'a>
     let close = end_of(Class::Straight, text, content);
     let mark = span_of(at, ahead(text, at, 1));
     let is_closed = begins(text, close, b"\xE2\x80")
+        && matches!(byte_at(text, ahead(text, close, 2)), 0x98..=0x9E)
         && end_of(Class::Unquoted, text, content) >= close
         && end_of(Class::Unescaped, text, content) >= close;
     let found = if is_closed {
@@ -79,7 +82,7 @@ fn curly<'a>(text: &'a str, at: usize, name: &'static str) -> Finding<'a>
     }
 }
 
-/// Returns the finding for the character at `at`, which is written instead of the character in `meant`.
+/// Returns the finding for the character at `at`, which `meant.code` should replace.
 #[tactic(auto, unfolding(crate::specs::found::Symbols::other_character))]
 fn other_character<'a>(text: &'a str, at: usize, meant: Meant) -> Finding<'a>
     ensures { finding_content result ≡ spec.other_character text.now at (meant_content meant) }
@@ -91,7 +94,7 @@ fn other_character<'a>(text: &'a str, at: usize, meant: Meant) -> Finding<'a>
     found
 }
 
-/// Recognizes the character `c` at `at` if it looks like a character that TOML uses.
+/// Recognizes the character `c` at `at` if it looks like a character that TOML uses, or is invisible.
 #[tactic(auto, unfolding(crate::specs::found::Symbols::alike))]
 fn alike<'a>(text: &'a str, at: usize, c: char) -> Option<Finding<'a>>
     ensures { option_map finding_content result ≡ spec.alike text.now at c }
@@ -146,7 +149,8 @@ fn parentheses<'a>(text: &'a str, at: usize) -> Finding<'a>
     replaced(PARENTHESES, at, ahead(text, close, 1), code)
 }
 
-/// Recognizes a marker of a merge conflict, or a tag of a markup language, on the line that begins at `at`.
+/// Recognizes a marker of a merge conflict, or a tag of a markup language, that begins at `at`, which is the
+/// `first_of_line`.
 #[tactic(auto, unfolding(crate::specs::found::Symbols::at_line_start))]
 fn at_line_start<'a>(text: &'a str, at: usize) -> Option<Finding<'a>>
     ensures { option_map finding_content result ≡ spec.at_line_start text.now at }
@@ -164,8 +168,8 @@ fn at_line_start<'a>(text: &'a str, at: usize) -> Option<Finding<'a>>
     None
 }
 
-/// Returns the finding for the block comment that begins at `at`. It has a replacement if the comment is on one line,
-/// and nothing follows the comment.
+/// Returns the finding for the block comment that begins at `at`. The finding has a replacement if the comment ends at
+/// the end of the same line.
 #[tactic(auto, unfolding(crate::specs::found::Symbols::block_comment))]
 fn block_comment<'a>(text: &'a str, at: usize) -> Finding<'a>
     ensures { finding_content result ≡ spec.block_comment text.now at }
@@ -180,7 +184,7 @@ fn block_comment<'a>(text: &'a str, at: usize) -> Finding<'a>
     replaced(COMMENT_LINE, at, last, pieces("#", content, ""))
 }
 
-/// Recognizes `//`, `/*`, `;` or a lone carriage return at `at`, as in other languages.
+/// Recognizes a sign of other languages at `at`: `//`, `/*`, `;`, or a carriage return.
 #[tactic(auto, unfolding(crate::specs::found::Symbols::foreign))]
 fn foreign<'a>(text: &'a str, at: usize) -> Option<Finding<'a>>
     ensures { option_map finding_content result ≡ spec.foreign text.now at }
@@ -198,8 +202,8 @@ fn foreign<'a>(text: &'a str, at: usize) -> Option<Finding<'a>>
     }
 }
 
-/// Recognizes a key or value that needs quotes because of the character at `at`. The word with the character begins at
-/// `start`.
+/// Recognizes a key or value that needs quotes because of the character at `at`. The word that contains the character
+/// begins at `start`.
 #[tactic(auto, unfolding(crate::specs::found::Symbols::unquoted))]
 fn unquoted<'a>(text: &'a str, at: usize, start: usize) -> Option<Finding<'a>>
     ensures { option_map finding_content result ≡ spec.unquoted text.now at start }
@@ -215,7 +219,7 @@ fn unquoted<'a>(text: &'a str, at: usize, start: usize) -> Option<Finding<'a>>
     }
 }
 
-/// Recognizes the mistake in a value with an invalid character, at `at`. The value begins at `start`, after `=`.
+/// Recognizes the mistake in a value with an invalid character at `at`. The value begins at `start`, after `=`.
 #[tactic(auto, unfolding(crate::specs::found::Symbols::value))]
 fn value<'a>(text: &'a str, at: usize, start: usize) -> Option<Finding<'a>>
     ensures { option_map finding_content result ≡ spec.value text.now at start }

@@ -1,4 +1,4 @@
-//! Mistakes in words that are written instead of values.
+//! Mistakes in words that are written instead of values. The module `mistakes` says what the functions take and return.
 ghost use Rattle.std.specs.Prelude.{◌≡◌, option_map};
 ghost use Rattle.toml_span_report.specs.Finding.{finding_content, meant_content};
 ghost use Rattle.toml_span_report.specs.found.Values as spec;
@@ -10,7 +10,7 @@ use crate::words::{
     UNQUOTED_TEXT, UPPER_BOOLEAN,
 };
 
-/// Returns whether a word and a name are equal, or differ only at the offset `at`, where a byte is missing, extra or
+/// Returns whether `word` and `name` are equal, or differ only at the offset `at`, where a byte is missing, extra or
 /// different, or two bytes are swapped.
 #[tactic(auto, unfolding(crate::specs::found::Values::is_near_at))]
 fn is_near_at(word: &str, name: &str, at: usize) -> bool
@@ -30,8 +30,8 @@ fn is_near_at(word: &str, name: &str, at: usize) -> bool
             || is_swapped)
 }
 
-/// Returns whether a word differs from `name`, which has at most five bytes, by at most one byte, or by two swapped
-/// bytes.
+/// Returns whether `word` and `name` are equal, or differ in one byte that is missing, extra or different, or in two
+/// swapped bytes. `name` has at most five bytes.
 #[tactic(auto, unfolding(crate::specs::found::Values::is_near))]
 fn is_near(word: &str, name: &str) -> bool
     ensures { result ≡ spec.is_near word.now name.now }
@@ -44,7 +44,7 @@ fn is_near(word: &str, name: &str) -> bool
         || is_near_at(word, name, 5)
 }
 
-/// Returns the boolean that a word probably misspells, or `None` if it is not near one.
+/// Returns the boolean that a word probably misspells, or `None` if the word is not near a boolean (`is_near`).
 #[tactic(auto, unfolding(crate::specs::found::Values::near_boolean))]
 fn near_boolean(word: &str) -> Option<Meant>
     ensures { option_map meant_content result ≡ spec.near_boolean word.now }
@@ -59,7 +59,7 @@ fn near_boolean(word: &str) -> Option<Meant>
 }
 
 /// Returns what TOML has for a word of other languages, or for a misspelled boolean: the mistake, and the code to
-/// write. Returns `None` for any other word.
+/// write. The code is empty if TOML has nothing for the word. Returns `None` for any other word.
 #[tactic(auto, unfolding(crate::specs::found::Values::known_word))]
 pub(crate) fn known_word(word: &str) -> Option<Meant>
     ensures { option_map meant_content result ≡ spec.known_word word.now }
@@ -76,9 +76,9 @@ pub(crate) fn known_word(word: &str) -> Option<Meant>
     }
 }
 
-/// Returns the end of a string that needs quotes. The string begins at `at`, and its first word ends at `end`. If a
-/// comment, the end of the line, a comma, `]` or `}` follows the words on the line, all of them belong to the string;
-/// otherwise only the first one does, and `end` is returned.
+/// Returns the end of a string that needs quotes. The string begins at `at`, and its first word ends at `end`. The
+/// string includes all words up to a comment, a comma, `]`, `}` or the end of the line. If another byte comes first,
+/// returns `end`.
 #[tactic(auto, unfolding(crate::specs::found::Values::phrase_end))]
 pub(crate) fn phrase_end(text: &str, at: usize, end: usize) -> usize
     ensures { result ≡ spec.phrase_end text.now at end }
@@ -102,8 +102,8 @@ pub(crate) fn unquoted_value<'a>(text: &'a str, at: usize) -> Finding<'a>
     }
 }
 
-/// Returns the finding for a string with letters before its quote, such as `r".."`. It begins at `at`, and its quote is
-/// at `quote`.
+/// Returns the finding for a string with letters before its quote, such as `r".."`. The letters begin at `at`, and the
+/// quote is at `quote`.
 #[tactic(auto, unfolding(crate::specs::found::Values::prefixed))]
 fn prefixed<'a>(text: &'a str, at: usize, quote: usize) -> Finding<'a>
     ensures { finding_content result ≡ spec.prefixed text.now at quote }
@@ -129,8 +129,8 @@ fn prefixed<'a>(text: &'a str, at: usize, quote: usize) -> Finding<'a>
     }
 }
 
-/// Returns the finding for a word of another language, from `at` to `end`, that is written instead of a value. `known`
-/// says what the word means.
+/// Returns the finding for a word of another language, in `at..end`, that is written instead of a value. `known` says
+/// what the word means.
 fn known_value<'a>(at: usize, end: usize, known: Meant) -> Finding<'a>
     ensures { finding_content result ≡ spec.known_value at end (meant_content known) }
 {

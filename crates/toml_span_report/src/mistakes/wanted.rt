@@ -1,4 +1,5 @@
-//! Mistakes in tokens other than the expected ones, and in values of another kind than a typed read expects.
+//! Mistakes in tokens other than the expected ones, and in values of another kind than a typed read expects. The module
+//! `mistakes` says what the functions take and return.
 ghost use Rattle.std.specs.Prelude.{◌≡◌, option_map};
 ghost use Rattle.toml_span_report.specs.Finding.{finding_content};
 ghost use Rattle.toml_span_report.specs.Words.{texts};
@@ -10,7 +11,7 @@ use crate::bytes::{
 };
 use crate::finding::{Finding, marked, mended, pieces, quoted, removed, replaced, span_of};
 use crate::mistakes::keys::{extra, no_equals, no_key};
-use crate::mistakes::lists::{no_bracket, no_comma, no_value, open_end};
+use crate::mistakes::lists::{no_bracket, no_comma, no_value, unfinished_key};
 use crate::mistakes::numbers::thousands;
 use crate::mistakes::strings::quote_in_string;
 use crate::mistakes::values::unquoted_value;
@@ -21,8 +22,8 @@ use crate::words::{
 };
 use toml_span_lex::span::Span;
 
-/// Returns the finding for a key that should be on the next line. The key is at `at`. The repair replaces the bytes
-/// from `from` to the key with a line feed.
+/// Returns the finding for the key at `at`, which should be on the next line. The replacement puts a line feed in place
+/// of the bytes `from..at`.
 fn broken<'a>(mistake: Mistake, text: &'a str, from: usize, at: usize) -> Finding<'a>
     ensures { finding_content result ≡ spec.broken (texts mistake.entry) text.now from at }
 {
@@ -30,7 +31,7 @@ fn broken<'a>(mistake: Mistake, text: &'a str, from: usize, at: usize) -> Findin
     mended(mistake, mark, span_of(from, at), pieces("\n", "", ""))
 }
 
-/// Returns the finding for the comma at `at`, after a value at the end of an assignment.
+/// Returns the finding for the comma at `at`, after a value on the same line.
 #[tactic(auto, unfolding(crate::specs::found::Wanted::comma))]
 fn comma<'a>(text: &'a str, at: usize) -> Finding<'a>
     ensures { finding_content result ≡ spec.comma text.now at }
@@ -53,7 +54,7 @@ fn comma<'a>(text: &'a str, at: usize) -> Finding<'a>
     }
 }
 
-/// Returns the finding for a value after the header at `line`. The `=` before the value is at `at`.
+/// Returns the finding for a value after the header that begins at `line`. The `=` before the value is at `at`.
 #[tactic(auto, unfolding(crate::specs::found::Wanted::header_value))]
 fn header_value<'a>(text: &'a str, line: usize, at: usize) -> Finding<'a>
     ensures { finding_content result ≡ spec.header_value text.now line at }
@@ -81,7 +82,7 @@ fn after_header<'a>(found: &str, text: &'a str, line: usize, at: usize) -> Optio
     }
 }
 
-/// Returns whether the word is `AM`, `PM`, `am` or `pm`, which other notations write after a time.
+/// Returns whether the word is `AM`, `PM`, `am` or `pm`.
 fn is_half_day(word: &str) -> bool
     ensures { result ≡ spec.is_half_day word.now }
 {
@@ -103,7 +104,8 @@ const AFTERNOON: [(&str, &str); 11] = [
     ("11", "23"),
 ];
 
-/// Converts an hour from a 12-hour clock to a 24-hour clock. `is_late` says that the time is `PM`.
+/// Converts an hour of two digits from a 12-hour clock to a 24-hour clock. `is_late` says that the time is `PM`.
+/// Returns any other text as it is.
 #[tactic(auto, unfolding(crate::specs::found::Wanted::full_hour))]
 fn full_hour<'a>(hour: &'a str, is_late: bool) -> &'a str
     ensures { result.now ≡ spec.full_hour hour.now is_late }
@@ -120,7 +122,7 @@ fn full_hour<'a>(hour: &'a str, is_late: bool) -> &'a str
     }
 }
 
-/// Returns the finding for `AM` or `PM`, from `at` to `end`, after a time.
+/// Returns the finding for `AM` or `PM`, in `at..end`, after a time.
 #[tactic(auto, unfolding(crate::specs::found::Wanted::half_day))]
 fn half_day<'a>(text: &'a str, at: usize, end: usize) -> Finding<'a>
     ensures { finding_content result ≡ spec.half_day text.now at end }
@@ -149,7 +151,7 @@ fn is_zone(word: &str) -> bool
     matches!(word, "UTC" | "GMT")
 }
 
-/// Returns the finding for the name of a time zone, from `at` to `end`, after a date and time.
+/// Returns the finding for the name of a time zone, in `at..end`, after a date and time.
 #[tactic(auto, unfolding(crate::specs::found::Wanted::zone))]
 fn zone<'a>(text: &'a str, at: usize, end: usize) -> Finding<'a>
     ensures { finding_content result ≡ spec.zone text.now at end }
@@ -180,7 +182,8 @@ fn word_after<'a>(text: &'a str, at: usize) -> Finding<'a>
     marked(AFTER_VALUE, at, end)
 }
 
-/// Recognizes the mistake in the token `found` at `at`, which follows a value on its line.
+/// Recognizes the mistake at `at`, after a value on the same line. `found` is that of the error `Wanted`, such as
+/// `a comma`.
 #[tactic(auto, unfolding(crate::specs::found::Wanted::after_value))]
 fn after_value<'a>(found: &str, text: &'a str, at: usize) -> Option<Finding<'a>>
     ensures { option_map finding_content result ≡ spec.after_value found.now text.now at }
@@ -211,8 +214,8 @@ fn no_newline<'a>(found: &str, text: &'a str, at: usize) -> Option<Finding<'a>>
     }
 }
 
-/// Recognizes the mistake in a token, at `span`, other than the expected one or, in a typed read, in a value of another
-/// kind. `expected` and `found` are those of the error `Wanted`.
+/// Recognizes the mistake that caused the error `Wanted` at `span`: an unexpected token or, in a typed read, a value of
+/// another kind. `expected` and `found` are the fields of the error.
 #[tactic(auto, unfolding(crate::specs::found::Wanted::wanted))]
 pub(crate) fn wanted<'a>(
     expected: &str,
@@ -225,7 +228,9 @@ pub(crate) fn wanted<'a>(
     match expected {
         "a value" => no_value(found, text, span.start),
         "an equals" => no_equals(found, text, span.start),
-        "a table key" if found == "eof" => open_end(text, span.start),
+        "a table key" if matches!(found, "eof" | "a newline" | "a comment") => {
+            unfinished_key(text, span.start)
+        }
         "a table key" => no_key(found, text, span.start),
         "newline" => no_newline(found, text, span.start),
         "a right bracket" => no_bracket(found, text, span.start),
@@ -234,8 +239,8 @@ pub(crate) fn wanted<'a>(
     }
 }
 
-/// Recognizes a value, at `span`, that a typed read expects to be of another kind, if that is easily repaired.
-/// `expected` and `found` are those of the error `Wanted`.
+/// Recognizes a decimal integer, at `span`, where a typed read expects a float, and a number or boolean where it expects
+/// a string. `expected` and `found` are the fields of the error `Wanted`.
 #[tactic(auto, unfolding(crate::specs::found::Wanted::other_kind))]
 fn other_kind<'a>(expected: &str, found: &str, text: &'a str, span: Span) -> Option<Finding<'a>>
     ensures { option_map finding_content result ≡ spec.other_kind expected.now found.now text.now span }
