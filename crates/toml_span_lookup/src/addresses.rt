@@ -2,10 +2,10 @@
 use percent_encoding::{DecodeError, percent_decode};
 use std::alloc::{AllocError, Global};
 
-/// The folder of a schema in the addresses that the compiler of schemas sees. Each `../` in a reference removes a `_/`.
+/// The address that the compiler of schemas gets for a schema's folder. Each `../` in a reference removes a `_/`.
 const HERE: &str = "file:///_/_/_/_/_/_/_/_/";
 
-/// `HERE`, and the folders above it.
+/// `HERE`, and the folders above it except the root, from the inside out.
 const FOLDERS: [&str; 8] = [
     HERE,
     "file:///_/_/_/_/_/_/_/",
@@ -17,7 +17,7 @@ const FOLDERS: [&str; 8] = [
     "file:///_/",
 ];
 
-/// Returns the folder of a path, with the slash after it, or an empty text if the path has no slash.
+/// Returns the folder of a path, with the slash after it. Returns an empty text if the path has no slash.
 pub(crate) fn folder_of(path: &str) -> &str {
     match path.rsplit_once('/') {
         Some((_, name)) => path.strip_suffix(name).unwrap_or(""),
@@ -25,8 +25,8 @@ pub(crate) fn folder_of(path: &str) -> &str {
     }
 }
 
-/// Returns a path that is relative to `folder` as a path relative to the current directory. An absolute path stays as
-/// it is. Fails if an allocation fails.
+/// Returns `folder` and `path` as one path, or only `path` if `path` is absolute. Removes `./` at the start of `path`.
+/// `folder` must be empty or end with a slash.
 pub(crate) fn joined(alloc: Global, folder: &str, path: &str) -> Result<String, AllocError> {
     let path = path.strip_prefix("./").unwrap_or(path);
     let folder = if path.starts_with('/') { "" } else { folder };
@@ -35,7 +35,7 @@ pub(crate) fn joined(alloc: Global, folder: &str, path: &str) -> Result<String, 
     Ok(out)
 }
 
-/// Returns whether an address is a URL of a server.
+/// Returns whether an address begins with `http://` or `https://`.
 pub(crate) fn is_remote(address: &str) -> bool {
     address.starts_with("https://") || address.starts_with("http://")
 }
@@ -48,9 +48,8 @@ pub(crate) fn without_fragment(address: &str) -> &str {
     }
 }
 
-/// Appends a part of an address with its percent escapes decoded, or unchanged if the result is not UTF-8. Fails if an
-/// allocation fails.
-fn push_decoded(alloc: Global, out: &mut String, part: &str) -> Result<(), AllocError> {
+/// Appends `part` with its percent escapes decoded, or unchanged if the result is not UTF-8.
+pub(crate) fn push_decoded(alloc: Global, out: &mut String, part: &str) -> Result<(), AllocError> {
     match percent_decode(part.as_bytes()).decode_utf8(alloc) {
         Ok(decoded) => out.push_str(decoded.as_ref()),
         Err(DecodeError::OutOfMemory) => Err(AllocError),
@@ -58,8 +57,7 @@ fn push_decoded(alloc: Global, out: &mut String, part: &str) -> Result<(), Alloc
     }
 }
 
-/// Returns the path of the file `rest`, with its percent escapes decoded, in the folder that is `above` levels above
-/// `folder`. Fails if an allocation fails.
+/// Returns `folder`, `../` repeated `above` times, and `rest` with its percent escapes decoded, as one path.
 fn path_from(alloc: Global, folder: &str, above: usize, rest: &str) -> Result<String, AllocError> {
     let mut out = String::from_str(alloc, folder)?;
     for _ in 0..above {
@@ -69,8 +67,8 @@ fn path_from(alloc: Global, folder: &str, above: usize, rest: &str) -> Result<St
     Ok(out)
 }
 
-/// Returns the path of the file with an address, or `None` if the address does not begin with `file:///`. Addresses in
-/// one of `FOLDERS` are relative to `folder`. Fails if an allocation fails.
+/// Returns the path of the file at `address`, or `None` if `address` does not begin with `file:///`. An address in one
+/// of `FOLDERS` is relative to `folder`.
 pub(crate) fn path_of_address(
     alloc: Global,
     folder: &str,
@@ -87,9 +85,8 @@ pub(crate) fn path_of_address(
     }
 }
 
-/// Returns the address of the schema at a path. The address ends in the name of the file, so that a reference by this
-/// name means the same schema. In the name, `~` replaces each character other than ASCII letters, digits, `.`, `-` and
-/// `_`. Fails if an allocation fails.
+/// Returns the address of the schema at a path: `HERE` and the name of the file. In the name, `~` replaces each
+/// character other than ASCII letters, digits, `.`, `-` and `_`.
 pub(crate) fn address_of(alloc: Global, path: &str) -> Result<String, AllocError> {
     let name = match path.rsplit_once('/') {
         Some((_, name)) => name,

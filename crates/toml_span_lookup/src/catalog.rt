@@ -32,8 +32,8 @@ fn elements_of<'v, 'a>(value: &'v Json<'a>, name: &str) -> Option<&'v [Json<'a>]
     }
 }
 
-/// Parses a pattern of `fileMatch`, which matches at any depth. Returns `None` if the pattern is not supported (see
-/// `pattern_of`). Fails if an allocation fails.
+/// Parses a pattern of `fileMatch`, which applies in all folders. Returns `None` if `pattern_of` does not support the
+/// pattern.
 fn glob_of(alloc: Global, text: &str) -> Result<Option<Pattern>, AllocError> {
     let (mark, rest) = match text.strip_prefix('!') {
         Some(rest) => ("!", rest),
@@ -44,7 +44,8 @@ fn glob_of(alloc: Global, text: &str) -> Result<Option<Pattern>, AllocError> {
     pattern_of(alloc, pattern.as_str())
 }
 
-/// Parses an entry of a catalog. Returns `None` if the entry lacks `url` or `fileMatch`. Fails if an allocation fails.
+/// Parses an entry of a catalog, and leaves out patterns that are not supported. Returns `None` if `url` is not a
+/// string or `fileMatch` is not an array.
 fn entry_of(alloc: Global, entry: &Json<'_>) -> Result<Option<Listed>, AllocError> {
     let (Some(address), Some(globs)) = (text_of(entry, "url"), elements_of(entry, "fileMatch"))
     else {
@@ -62,8 +63,7 @@ fn entry_of(alloc: Global, entry: &Json<'_>) -> Result<Option<Listed>, AllocErro
     }))
 }
 
-/// Parses a catalog. Returns `None` if the text is not JSON, nests too deep, or has no array `schemas`. Fails if an
-/// allocation fails.
+/// Parses a catalog. Returns `None` if the text is not JSON, nests too deep, or has no array `schemas`.
 pub(crate) fn catalog_of(alloc: Global, text: &str) -> Result<Option<Catalog>, AllocError> {
     let mut scratch = Scratch::new(alloc);
     let value = match Json::parse(alloc, text, &mut scratch) {
@@ -84,8 +84,7 @@ pub(crate) fn catalog_of(alloc: Global, text: &str) -> Result<Option<Catalog>, A
 }
 
 impl Catalog {
-    /// Returns the path or the URL of the first schema that applies to the file with this path, or `None` if no schema
-    /// applies. Fails if an allocation fails.
+    /// Returns the path or the URL of the first schema that applies to the file at `path`, or `None` if there is none.
     pub(crate) fn address_for(
         &self,
         alloc: Global,
@@ -101,8 +100,8 @@ impl Catalog {
     }
 }
 
-/// Returns the line and the column, both counted from 1, at which a text stops being JSON or nests more than 128 levels
-/// deep, or `None` if neither happens. Fails if an allocation fails.
+/// Returns the line and the column of the first error in a JSON text, or `None` if there is none. Both are counted from
+/// 1, the column in characters. Nesting more than 128 levels deep is an error.
 pub(crate) fn json_fault(alloc: Global, text: &str) -> Result<Option<(usize, usize)>, AllocError> {
     let mut scratch = Scratch::new(alloc);
     let mut reader = Reader::new(text, &mut scratch)?;

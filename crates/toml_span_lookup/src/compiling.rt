@@ -6,10 +6,10 @@ use crate::reasons::{complain, json_reason, missing_reason};
 use std::alloc::{AllocError, Global};
 use toml_span_schema::{Document, Guide, SchemaError};
 
-/// The maximum number of documents that a schema may refer to.
+/// The maximum number of other documents that a schema may refer to.
 const MOST_DOCUMENTS: usize = 100;
 
-/// A file that was read, with its stamp before it was read.
+/// A file that a schema needs, with its stamp from before the file was read.
 #[derive(Drop)]
 pub(crate) struct ReadFile {
     pub(crate) path: String,
@@ -26,7 +26,7 @@ pub(crate) struct Used {
     pub(crate) files: Vec<ReadFile>,
 }
 
-/// A schema that is being compiled, or a document that it refers to.
+/// The document of a schema, or a document to which the schema refers.
 #[derive(Drop)]
 struct Other {
     path: String,
@@ -34,7 +34,8 @@ struct Other {
     text: String,
 }
 
-/// Compiles the schema in the first of the documents, which may refer to the others. Fails as `Guide::from_json` does.
+/// Compiles the schema in the first of `documents`, which may refer to the other documents. Fails as `Guide::from_json`
+/// does.
 fn compile(alloc: Global, documents: &[Other]) -> Result<Guide, SchemaError> {
     let mut others = Vec::new(alloc);
     for document in documents {
@@ -51,9 +52,8 @@ fn compile(alloc: Global, documents: &[Other]) -> Result<Guide, SchemaError> {
     Guide::from_json(alloc, root.as_str(), others.as_slice())
 }
 
-/// Returns the text of a file. If it can't be read or is not valid UTF-8, returns `None` and adds an error to
-/// `complaint`. `what` is what can't be done without the text, such as `read the catalog`. Fails if an allocation
-/// fails.
+/// Returns the text of the file at `path`. If the file can't be read or is not valid UTF-8, returns `None` and adds an
+/// error to `complaint`. `what` names the failed action in this error, such as `read the catalog`.
 pub(crate) fn text_of<D: Disk>(
     alloc: Global,
     disk: &mut D,
@@ -77,7 +77,7 @@ pub(crate) fn text_of<D: Disk>(
 }
 
 /// Returns the path of the document at `address`, to which a schema in `folder` refers, or `None` if the document is
-/// not a local file. Fails if an allocation fails.
+/// not a local file.
 fn path_for(
     alloc: Global,
     options: &Options,
@@ -90,8 +90,8 @@ fn path_for(
     }
 }
 
-/// Returns the address of the document that `error` reports as missing, without its fragment. Returns `None` if the
-/// error is another one, or if the document is among `documents`.
+/// Returns the address, without its fragment, of the document that `error` reports as missing. Returns `None` if
+/// `error` is another error, or if the document is among `documents`.
 fn missing_address<'e>(documents: &[Other], error: &'e SchemaError) -> Option<&'e str> {
     let SchemaError::Missing { address, .. } = error else {
         return None;
@@ -105,8 +105,8 @@ fn missing_address<'e>(documents: &[Other], error: &'e SchemaError) -> Option<&'
     Some(address)
 }
 
-/// Adds an error to `complaint` which says that the document with this address is not JSON. Fails if an allocation
-/// fails.
+/// Adds an error to `complaint`: the document at `address` is not valid JSON. Does nothing if `documents` has no
+/// document at `address`.
 fn refuse_text(
     alloc: Global,
     complaint: &mut String,
@@ -127,8 +127,7 @@ fn refuse_text(
     Ok(())
 }
 
-/// Adds an error to `complaint` which says that the schema at `path` can't be compiled, and why (`error`). Fails if an
-/// allocation fails.
+/// Adds an error to `complaint`: `error` is why the schema at `path` can't be compiled.
 fn refuse(
     alloc: Global,
     options: &Options,
@@ -149,9 +148,9 @@ fn refuse(
     complain(complaint, "use the schema", path, reason.as_str())
 }
 
-/// Reads the document that `error` reports as missing, and appends it to `documents`. Returns false if the error is
-/// another one, if the document is among `documents` or not a local file, or if it can't be read. If it can't be read,
-/// adds an error to `complaint`. Fails if an allocation fails.
+/// Reads the document that `error` reports as missing, and appends it to `documents` and its file to `used.files`.
+/// Returns false if `error` is another error, or if the document is among `documents`, is not a local file or can't be
+/// read. If the document can't be read, adds an error to `complaint`.
 fn push_missing<D: Disk>(
     alloc: Global,
     disk: &mut D,
@@ -180,8 +179,8 @@ fn push_missing<D: Disk>(
     Ok(true)
 }
 
-/// Returns the text of a file for the schema `used`, and adds the file to the files of the schema. If the file can't be
-/// read, returns `None` and adds an error to `complaint`. Fails if an allocation fails.
+/// Adds the file at `path` to `used.files`, and returns its text. If the file can't be read or is not valid UTF-8,
+/// returns `None` and adds an error to `complaint`.
 fn read_part<D: Disk>(
     alloc: Global,
     disk: &mut D,
@@ -197,8 +196,8 @@ fn read_part<D: Disk>(
     text_of(alloc, disk, complaint, "read the schema", path)
 }
 
-/// Compiles the schema `used`, whose document is the first of `documents`, with the documents to which it refers. If
-/// that is not possible, adds an error to `complaint`. Fails if an allocation fails.
+/// Compiles the schema in the first of `documents`, and stores it in `used`. Reads the other documents to which the
+/// schema refers. If the schema can't be compiled, adds an error to `complaint`.
 fn compile_used<D: Disk>(
     alloc: Global,
     disk: &mut D,
@@ -207,7 +206,7 @@ fn compile_used<D: Disk>(
     used: &mut Used,
     mut documents: Vec<Other>,
 ) -> Result<(), AllocError> {
-    for _ in 0..MOST_DOCUMENTS {
+    for _ in 0..=MOST_DOCUMENTS {
         let error = match compile(alloc, documents.as_slice()) {
             Ok(mut guide) => {
                 guide.schema.set_formats(options.has_formats);
@@ -228,8 +227,8 @@ fn compile_used<D: Disk>(
     complain(complaint, "use the schema", used.path.as_str(), reason)
 }
 
-/// Reads and compiles the schema at a path. If that is not possible, adds an error to `complaint`, and returns an entry
-/// without a compiled schema. Fails if an allocation fails.
+/// Reads and compiles the schema at a path. If the schema can't be used, adds an error to `complaint`, and returns a
+/// `Used` without a compiled schema.
 pub(crate) fn used_from<D: Disk>(
     alloc: Global,
     disk: &mut D,
@@ -255,7 +254,8 @@ pub(crate) fn used_from<D: Disk>(
 }
 
 impl Used {
-    /// Returns whether a file of the schema, or of a document to which it refers, has changed since it was read.
+    /// Returns whether a file of the schema, or of a document to which the schema refers, has changed since it was
+    /// read.
     pub(crate) fn is_stale<D: Disk>(&self, disk: &mut D) -> bool {
         for file in self.files.as_slice() {
             if disk.stamp(file.path.as_str()) != file.stamp {

@@ -18,8 +18,8 @@ fn trimmed(line: &str) -> &str {
     line.trim_matches([' ', '\t', '\r'].as_slice())
 }
 
-/// Returns the directive in a line, or `None` if the line is not a directive. `start` is the offset of the line in the
-/// file.
+/// Returns the directive in a line, or `None` if no address follows `#:schema` and a space or tab. `start` is the
+/// offset of the line in the file.
 fn directive_in<'t>(line: &'t str, start: usize) -> Option<Directive<'t>> {
     let (_, rest) = line.split_once(SCHEMA)?;
     let address = trimmed(rest);
@@ -36,7 +36,7 @@ fn directive_in<'t>(line: &'t str, start: usize) -> Option<Directive<'t>> {
     })
 }
 
-/// Returns the first directive before the first statement of a file, or `None` if there is none.
+/// Returns the first directive above the first header or assignment of a file, or `None` if there is none.
 pub fn directive_of<'t>(text: &'t str) -> Option<Directive<'t>> {
     let mut rest = text.strip_prefix('\u{feff}').unwrap_or(text);
     for _ in 0..text.len() {

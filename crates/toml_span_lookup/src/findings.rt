@@ -9,7 +9,7 @@ use toml_span::{Span, Value};
 use toml_span_report::{Report, Severity};
 use toml_span_schema::{CheckError, Schema};
 
-/// Appends the reports in `found` that are warnings to `reports`. Fails if an allocation fails.
+/// Appends to `reports` the warnings in `found`.
 fn push_warnings(reports: &mut Vec<Report>, found: Vec<Report>) -> Result<(), AllocError>
     ensures { OnOk result (AddsWarnings (map report_content reports.old.items) (map report_content reports.new.items)) }
 {
@@ -22,7 +22,7 @@ fn push_warnings(reports: &mut Vec<Report>, found: Vec<Report>) -> Result<(), Al
     Ok(())
 }
 
-/// Returns the reports on a document: its violations of the schema, and then warnings of deprecated values. Fails as
+/// Returns the reports on a document: the violations of the schema, and then warnings of deprecated values. Fails as
 /// `Schema::check` does.
 pub(crate) fn findings(
     alloc: Global,
@@ -37,8 +37,8 @@ pub(crate) fn findings(
     Ok(reports)
 }
 
-/// Returns the warning that a schema is not fetched. `span` is where the file names the schema, or `None` if the file
-/// does not name it. `help` says how to name a local copy. Fails if an allocation fails.
+/// Returns the warning that the schema at `address` is not fetched. `span` is where the file names the schema, or
+/// `None` if the file does not name it. `help` says how to name a local copy.
 pub(crate) fn not_fetched(
     alloc: Global,
     address: &str,

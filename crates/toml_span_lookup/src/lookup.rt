@@ -4,7 +4,7 @@ ghost use Rattle.toml_span_lookup.specs.Findings.{IsChecked, file_says};
 ghost use Rattle.toml_span_report.specs.Report.{report_content};
 ghost use Rattle.toml_span_tree.specs.Value.{view};
 
-use crate::addresses::{folder_of, is_remote, joined};
+use crate::addresses::{folder_of, is_remote, joined, push_decoded};
 use crate::catalog::{Catalog, catalog_of};
 use crate::compiling::{Used, text_of, used_from};
 use crate::directive::{Directive, SCHEMA, directive_of};
@@ -33,8 +33,8 @@ enum Choice {
     Remote(String),
 }
 
-/// The schemas that files, options and a catalog name. Each is compiled once, and again after its files have changed if
-/// `refresh` is called.
+/// The schemas that files, options and a catalog name. Each schema is compiled once, and again if `refresh` finds that
+/// its files have changed.
 #[derive(Drop)]
 pub struct Lookup {
     options: Options,
@@ -44,12 +44,13 @@ pub struct Lookup {
     /// Whether the catalog has been read, or there is none to read.
     is_ready: bool,
     used: Vec<Used>,
-    /// Error lines that say why schemas can't be used, and that have not been returned yet.
+    /// Error lines that have not been returned yet. They say why catalogs or schemas can't be used, or why documents
+    /// can't be checked.
     complaint: String,
 }
 
 impl Lookup {
-    /// Returns the schemas that files and options name. Nothing is read yet.
+    /// Returns a `Lookup` with these options that has read nothing yet.
     pub fn new(alloc: Global, options: Options) -> Lookup {
         Lookup {
             options,
@@ -70,8 +71,8 @@ impl Lookup {
         }
     }
 
-    /// Returns the path of the schema with an address that the file `name` names. Returns `None` if the schema is on a
-    /// server and has no local copy. Fails if an allocation fails.
+    /// Returns the path of the schema that the file `name` names by `address`, or of its local copy. Returns `None` if
+    /// the schema is on a server and has no local copy. Fails if an allocation fails.
     pub fn path_for(
         &self,
         alloc: Global,
@@ -81,8 +82,8 @@ impl Lookup {
         self.path_of(alloc, address, folder_of(name))
     }
 
-    /// Returns the path of the schema with an address, which may be relative to `folder`. Returns `None` if the schema
-    /// is on a server and has no local copy. Fails if an allocation fails.
+    /// Returns the path of the local copy of the schema at `address` or, if there is no copy, of the schema itself. A
+    /// relative address starts at `folder`. Returns `None` if the schema is on a server and has no local copy.
     fn path_of(
         &self,
         alloc: Global,
@@ -95,11 +96,15 @@ impl Lookup {
         if is_remote(address) {
             return Ok(None);
         }
-        let path = address.strip_prefix("file://").unwrap_or(address);
-        Ok(Some(joined(alloc, folder, path)?))
+        let mut path = String::new(alloc);
+        match address.strip_prefix("file://") {
+            Some(part) => push_decoded(alloc, &mut path, part)?,
+            None => path.push_str(address)?,
+        }
+        Ok(Some(joined(alloc, folder, path.as_str())?))
     }
 
-    /// Returns the schema that the catalog has for the file `name`. Fails if an allocation fails.
+    /// Returns the schema that the catalog has for the file `name`.
     fn choice_of_catalog(&self, alloc: Global, name: &str) -> Result<Choice, AllocError> {
         let Some(catalog) = &self.catalog else {
             return Ok(Choice::None);
@@ -115,8 +120,7 @@ impl Lookup {
     }
 
     /// Returns the schema that a directive in the file `name` names. If that schema is on a server and has no local
-    /// copy, but the catalog has a local schema for the file, returns the schema of the catalog. Fails if an allocation
-    /// fails.
+    /// copy, but the catalog has a local schema for the file, returns the schema of the catalog.
     fn choice_of_directive(
         &self,
         alloc: Global,
@@ -133,8 +137,8 @@ impl Lookup {
         }
     }
 
-    /// Returns the schema of the file `name`, whose content is `text`: the one that the option `schema`, a directive in
-    /// the file or the catalog names, in this order. Fails if an allocation fails.
+    /// Returns the schema of the file `name`, whose content is `text`. The option `schema` decides first, then a
+    /// directive in the file, then the catalog.
     fn choice(&self, alloc: Global, name: &str, text: &str) -> Result<Choice, AllocError> {
         let given = self.options.schema.as_str();
         if !given.is_empty() {
@@ -149,13 +153,8 @@ impl Lookup {
         }
     }
 
-    /// Reads the catalog, if there is one and it has not been read. If it can't be used, adds an error to `complaint`.
-    /// Fails if an allocation fails.
-    fn prepare<D: Disk>(&mut self, alloc: Global, disk: &mut D) -> Result<(), AllocError> {
-        if self.is_ready {
-            return Ok(());
-        }
-        self.is_ready = true;
+    /// Reads the catalog that the options name, if any. If the catalog can't be used, adds an error to `complaint`.
+    fn read_catalog<D: Disk>(&mut self, alloc: Global, disk: &mut D) -> Result<(), AllocError> {
         let path = self.options.catalog.as_str();
         if path.is_empty() {
             return Ok(());
@@ -173,7 +172,16 @@ impl Lookup {
         Ok(())
     }
 
-    /// Returns the position in `used` of the schema at a path, or `None` if the schema is not there.
+    /// Reads the catalog as `read_catalog` does, unless it has been read.
+    fn prepare<D: Disk>(&mut self, alloc: Global, disk: &mut D) -> Result<(), AllocError> {
+        if !self.is_ready {
+            self.read_catalog(alloc, disk)?;
+            self.is_ready = true;
+        }
+        Ok(())
+    }
+
+    /// Returns the position in `used` of the schema at a path, or `None` if there is none.
     fn position_of(&self, path: &str) -> Option<usize> {
         for (at, used) in self.used.as_slice().iter().enumerate() {
             if used.path.as_str() == path {
@@ -183,8 +191,8 @@ impl Lookup {
         None
     }
 
-    /// On the first call, adds an error to `complaint`: `address`, which the option `schema` names, is a URL, and
-    /// nothing is fetched. Fails if an allocation fails.
+    /// Adds an error to `complaint` on the first call: the schema at the URL `address`, which the option `schema`
+    /// names, is not fetched.
     fn refuse_remote(&mut self, alloc: Global, address: &str) -> Result<(), AllocError> {
         if self.position_of(address).is_some() {
             return Ok(());
@@ -203,9 +211,8 @@ impl Lookup {
         )
     }
 
-    /// Reads and compiles the schema of a choice, unless it has been read. If that is not possible, adds an error to
-    /// `complaint`. Does nothing for a choice without a local file, except to call `refuse_remote` for `Remote`. Fails
-    /// if an allocation fails.
+    /// Reads and compiles the schema of a `File`, unless it has been read. If the schema can't be used, adds an error
+    /// to `complaint`. Calls `refuse_remote` for `Remote`, and does nothing for the other choices.
     fn load_choice<D: Disk>(
         &mut self,
         alloc: Global,
@@ -227,7 +234,7 @@ impl Lookup {
         }
     }
 
-    /// Drops the catalog if its file has changed since it was read, so that `prepare` reads it again.
+    /// Drops the catalog if its file has changed since it was read. `prepare` then reads the catalog again.
     fn forget_catalog<D: Disk>(&mut self, disk: &mut D) {
         if self.is_ready && !self.options.catalog.is_empty() {
             if disk.stamp(self.options.catalog.as_str()) != self.stamp {
@@ -237,8 +244,8 @@ impl Lookup {
         }
     }
 
-    /// Drops the schema at a path if its file, or a file of a document to which it refers, has changed since it was
-    /// read, so that `load_choice` reads it again.
+    /// Drops the schema at a path if one of its files has changed since the file was read. `load_choice` then reads the
+    /// schema again.
     fn forget_schema<D: Disk>(&mut self, disk: &mut D, path: &str) {
         let Some(at) = self.position_of(path) else {
             return;
@@ -249,8 +256,8 @@ impl Lookup {
         }
     }
 
-    /// Reads the catalog, and the schema of the file `name`, whose content is `text`, unless they have been read and
-    /// have not changed since. Adds an error to the complaint if they can't be used. Fails if an allocation fails.
+    /// Reads the catalog, and the schema of the file `name`, whose content is `text`. Does not read again what has not
+    /// changed. If the catalog or the schema can't be used, `take_complaint` says why. Fails if an allocation fails.
     pub fn refresh<D: Disk>(
         &mut self,
         alloc: Global,
@@ -267,13 +274,13 @@ impl Lookup {
         self.load_choice(alloc, disk, &choice)
     }
 
-    /// Returns the schema at a path, or `None` if it has not been read or can't be used.
+    /// Returns the schema at a path, or `None` if the schema has not been read or can't be used.
     fn guide_at(&self, path: &str) -> Option<&Guide> {
         self.used.get(self.position_of(path)?)?.guide.as_ref()
     }
 
-    /// Returns the schema of the file `name`, whose content is `text`. Reads no files: returns `None` if the file has
-    /// no schema, or if its schema has not been read or can't be used. Fails if an allocation fails.
+    /// Returns the schema of the file `name`, whose content is `text`, without reading files. Returns `None` if the
+    /// file has no schema, or if its schema has not been read or can't be used. Fails if an allocation fails.
     pub fn guide_of(
         &self,
         alloc: Global,
@@ -287,8 +294,8 @@ impl Lookup {
     }
 
     /// Checks the document `root` of the file `name` against the schema at a path. Returns no reports if the schema has
-    /// not been read or can't be used. If the check can't be completed, adds an error to `complaint` and returns no
-    /// reports. Fails if an allocation fails.
+    /// not been read or can't be used. If the check can't be completed, returns no reports and adds an error to
+    /// `complaint`.
     fn reports_of(
         &mut self,
         alloc: Global,
@@ -311,9 +318,8 @@ impl Lookup {
         }
     }
 
-    /// Checks the document `root` of the file `name` against the schema of a choice, as `reports_of` does. For a schema
-    /// that is not fetched, returns a warning if the file or the catalog names it, and no reports if an option names
-    /// it. Fails if an allocation fails.
+    /// Checks the document `root` of the file `name` against the schema of a choice, as `reports_of` does. For
+    /// `Unmapped`, returns a warning that the schema is not fetched. Returns no reports for `None` and `Remote`.
     fn reports_for(
         &mut self,
         alloc: Global,
@@ -334,7 +340,8 @@ impl Lookup {
         }
     }
 
-    /// Returns the error lines that say why schemas can't be used, except those that have been returned before.
+    /// Returns the error lines that say why catalogs or schemas can't be used, or why documents can't be checked. Each
+    /// line is returned once.
     pub fn take_complaint(&mut self, alloc: Global) -> String {
         mem::replace(&mut self.complaint, String::new(alloc))
     }

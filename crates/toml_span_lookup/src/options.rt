@@ -12,7 +12,7 @@ pub enum Place {
 }
 
 /// A local copy of a schema.
-#[derive(Drop)]
+#[derive(Clone, Drop)]
 pub struct LocalCopy {
     /// The URL of the schema.
     pub address: String,
@@ -21,7 +21,7 @@ pub struct LocalCopy {
 }
 
 /// The options about schemas, from the command line or an editor.
-#[derive(Drop)]
+#[derive(Clone, Drop)]
 pub struct Options {
     /// The path or the URL of the schema of all files, or an empty text.
     pub schema: String,
@@ -47,8 +47,7 @@ impl Options {
         }
     }
 
-    /// Returns the path of the local copy of the schema with an address, whose fragment does not matter. Returns `None`
-    /// if there is no local copy.
+    /// Returns the path of the local copy of the schema at `address`, or `None` if there is none. Ignores fragments.
     pub(crate) fn copy_of(&self, address: &str) -> Option<&str> {
         for copy in self.copies.as_slice() {
             if without_fragment(copy.address.as_str()) == without_fragment(address) {

@@ -5,8 +5,8 @@ use crate::options::Place;
 use std::alloc::{AllocError, Global};
 use toml_span_report::visible::push_visible;
 
-/// Adds an error line about the file at `path` to `complaint`. `what` is what can't be done with the file, such as
-/// `read the catalog`, and `reason` says why. Fails if an allocation fails.
+/// Adds an error line about the file at `path`, which may be a URL, to `complaint`. `what` is what can't be done with
+/// the file, such as `read the catalog`, and `reason` says why.
 pub(crate) fn complain(
     complaint: &mut String,
     what: &str,
@@ -22,7 +22,7 @@ pub(crate) fn complain(
     complaint.push_str("\n")
 }
 
-/// Returns the help that says how to name a local copy of the schema at `url`. Fails if an allocation fails.
+/// Returns the help that says how to name a local copy of the schema at `url`.
 pub(crate) fn copy_help(alloc: Global, place: Place, url: &str) -> Result<String, AllocError> {
     match place {
         Place::Arguments => format!(in alloc; "name a local copy: `--schema-map {url}=FILE`"),
@@ -34,8 +34,7 @@ pub(crate) fn copy_help(alloc: Global, place: Place, url: &str) -> Result<String
     }
 }
 
-/// Returns the message that the schema at `url` is not fetched, and how to name a local copy. Fails if an allocation
-/// fails.
+/// Returns the message that nothing is fetched, and how to name a local copy of the schema at `url`.
 pub(crate) fn remote_reason(alloc: Global, place: Place, url: &str) -> Result<String, AllocError> {
     match place {
         Place::Arguments => format!(in alloc;
@@ -47,8 +46,7 @@ pub(crate) fn remote_reason(alloc: Global, place: Place, url: &str) -> Result<St
     }
 }
 
-/// Returns the message that a text is not JSON, with the line and column of the error, if it has one. Fails if an
-/// allocation fails.
+/// Returns the message that a text is not valid JSON, with the line and column of the error if `json_fault` finds it.
 pub(crate) fn json_reason(alloc: Global, text: &str) -> Result<String, AllocError> {
     match json_fault(alloc, text)? {
         Some((line, column)) => {
@@ -61,8 +59,7 @@ pub(crate) fn json_reason(alloc: Global, text: &str) -> Result<String, AllocErro
     }
 }
 
-/// Returns the message that says why a catalog can't be used: `text` is not JSON, or has no array `schemas`. Fails if
-/// an allocation fails.
+/// Returns the message that says why a catalog can't be used: `text` is not JSON, or has no array `schemas`.
 pub(crate) fn catalog_reason(alloc: Global, text: &str) -> Result<String, AllocError> {
     match json_fault(alloc, text)? {
         Some(_) => json_reason(alloc, text),
@@ -70,8 +67,8 @@ pub(crate) fn catalog_reason(alloc: Global, text: &str) -> Result<String, AllocE
     }
 }
 
-/// Returns the message that a schema can't be used because its reference at `pointer` names `address`, where there is
-/// nothing. Fails if an allocation fails.
+/// Returns the message that nothing was found at `address`, which the reference at `pointer` in a schema names. For a
+/// URL of a server, the message says that nothing is fetched.
 pub(crate) fn missing_reason(
     alloc: Global,
     place: Place,

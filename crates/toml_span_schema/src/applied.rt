@@ -16,7 +16,7 @@ use std::collections::BTreeMap;
 use toml_span_tree::{Table, Value, ValueInner};
 
 /// Returns whether the regular expression at position `pattern` in `schema.patterns` matches somewhere in a text, or
-/// false if `pattern` is out of range. Fails if an allocation fails.
+/// false if `pattern` is out of range.
 pub(crate) fn matches(
     alloc: Global,
     schema: &Schema,
@@ -35,7 +35,7 @@ pub(crate) fn matches(
 }
 
 /// Appends the subschemas of `patternProperties` whose regular expressions match `name`. `matching` pairs the position
-/// of each regular expression with the index of its subschema. Fails if an allocation fails.
+/// of each regular expression with the index of its subschema.
 fn push_matching(
     alloc: Global,
     schema: &Schema,
@@ -53,9 +53,9 @@ fn push_matching(
     Ok(())
 }
 
-/// Returns the subschemas for an entry with this name: the one in `named` (`properties`), and those in `matching`
-/// (`patternProperties`) whose regular expressions match. If this yields no subschema, returns `rest`
-/// (`additionalProperties`) or, without `rest`, an empty list. Fails if an allocation fails.
+/// Returns the subschemas for the entry `name`: that of `name` in `named` (`properties`), and those in `matching`
+/// (`patternProperties`) whose regular expressions match. If there are none, returns `rest` (`additionalProperties`)
+/// or, without `rest`, an empty list.
 fn for_entry(
     alloc: Global,
     schema: &Schema,
@@ -81,7 +81,7 @@ fn for_entry(
 }
 
 /// Returns a list with the subschema for the element at position `at`: `prefix[at]` or, if `prefix` is shorter, `rest`.
-/// The list is empty if neither exists. Fails if an allocation fails.
+/// The list is empty if neither exists.
 fn for_element(
     alloc: Global,
     prefix: &[usize],
@@ -103,8 +103,7 @@ fn for_element(
 }
 
 /// Returns the subschemas that `Keyword::Properties` applies to an entry, or `Keyword::Items` to an element. The list
-/// is empty for other keywords, for an element with `Properties` and for an entry with `Items`. Fails if an allocation
-/// fails.
+/// is empty for all other pairs of a keyword and a part.
 #[tactic(auto, unfolding(crate::specs::Applied::schemas_for))]
 pub(crate) fn schemas_for(
     alloc: Global,
@@ -126,8 +125,7 @@ pub(crate) fn schemas_for(
     }
 }
 
-/// Returns the keys of a table as strings, with their spans. The list is empty if the value is not a table. Fails if an
-/// allocation fails.
+/// Returns the keys of a table as strings, with their spans. The list is empty if the value is not a table.
 pub(crate) fn names<'v>(alloc: Global, value: &'v Value<'_>) -> Result<Vec<Value<'v>>, AllocError>
     ensures { IfOk result (λ list. map view list.items ≡ names_of (view value.now)) }
 {
@@ -138,7 +136,7 @@ pub(crate) fn names<'v>(alloc: Global, value: &'v Value<'_>) -> Result<Vec<Value
     Ok(list)
 }
 
-/// Appends the keys of a table as strings, with their spans. Fails if an allocation fails.
+/// Appends the keys of a table as strings, with their spans.
 fn push_names<'v>(list: &mut Vec<Value<'v>>, table: &'v Table<'_>) -> Result<(), AllocError>
     ensures { OnOk result (map view list.new.items
         ≡ map view list.old.items ++ name_values (members_view table.now.entries)) }

@@ -21,8 +21,7 @@ use std::alloc::{AllocError, Global};
 use std::cmp::Ordering;
 use toml_span_tree::{FloatText, Value, ValueInner};
 
-/// Returns whether a float has an integer value, such as `1.0`. Returns false for infinity and NaN. Fails if an
-/// allocation fails.
+/// Returns whether a float has an integer value, such as `1.0`. Returns false for infinity and NaN.
 fn is_whole(alloc: Global, float: &FloatText) -> Result<bool, AllocError>
     ensures { IfOk result (λ r. r ≡ is_whole_float (float_value float.now)) }
 {
@@ -33,7 +32,6 @@ fn is_whole(alloc: Global, float: &FloatText) -> Result<bool, AllocError>
 }
 
 /// Returns whether the type of a value is one of `types`. Dates and times are strings. Returns false for a taken value.
-/// Fails if an allocation fails.
 fn has_type(alloc: Global, types: Types, value: &Value<'_>) -> Result<bool, AllocError>
     ensures { IfOk result (λ r. r ≡ has_type types (inner_of (view value.now))) }
 {
@@ -51,7 +49,7 @@ fn has_type(alloc: Global, types: Types, value: &Value<'_>) -> Result<bool, Allo
 }
 
 /// Returns whether a keyword for numbers, such as `minimum`, allows a number. Other keywords allow any number. Fails
-/// with `TooLong` if dividing for `multipleOf` takes too many steps.
+/// with `TooLong` if the division for `multipleOf` takes too many steps.
 #[tactic(auto, unfolding(crate::specs::Asserted::allows_number))]
 fn allows_number(keyword: &Keyword, number: &Number) -> Result<bool, CheckError>
     ensures { IfOk result (λ r. r ≡ allows_number keyword.now (quantity number.now)) }
@@ -69,8 +67,8 @@ fn allows_number(keyword: &Keyword, number: &Number) -> Result<bool, CheckError>
     }
 }
 
-/// Returns whether a number is at least a limit. `order` is the order of the two, or `None` if the number is NaN.
-/// Returns false for NaN.
+/// Returns whether a number is at least a limit, from the `order` of the two. Returns false for `None`, the order of
+/// NaN.
 fn is_at_least(order: Option<Ordering>) -> bool
     ensures { result ≡ is_at_least order }
 {
@@ -80,8 +78,8 @@ fn is_at_least(order: Option<Ordering>) -> bool
     }
 }
 
-/// Returns whether a number is at most a limit. `order` is the order of the two, or `None` if the number is NaN.
-/// Returns false for NaN.
+/// Returns whether a number is at most a limit, from the `order` of the two. Returns false for `None`, the order of
+/// NaN.
 fn is_at_most(order: Option<Ordering>) -> bool
     ensures { result ≡ is_at_most order }
 {
@@ -98,9 +96,8 @@ fn characters(text: &str) -> u64
     text.chars().count() as u64
 }
 
-/// Returns whether a keyword for strings, such as `pattern`, allows a string. Other keywords allow any string. Fails
-/// with `TooLong` if the keyword is the format `regex` and the string is a regular expression that is too large or
-/// nests too deep, and with `OutOfMemory` if an allocation fails.
+/// Returns whether a keyword for strings, such as `pattern`, allows a string. Other keywords allow any string. For the
+/// format `regex`, fails with `TooLong` if the string is a regular expression that is too large or nests too deep.
 #[tactic(auto, unfolding(crate::specs::Asserted::allows_text))]
 fn allows_text(
     alloc: Global,
@@ -127,8 +124,7 @@ fn allows_text(
 }
 
 /// Returns whether a keyword for arrays, such as `minItems`, allows these elements. Other keywords allow any elements.
-/// Fails with `TooDeep` if an element that must be compared nests too deep or contains a taken value, and with
-/// `OutOfMemory` if an allocation fails.
+/// For `uniqueItems`, fails with `TooDeep` if an element nests too deep or contains a taken value.
 #[tactic(auto, using(crate::proofs::Views::arrays), unfolding(crate::specs::Asserted::allows_items))]
 fn allows_items(alloc: Global, keyword: &Keyword, values: &[Value<'_>]) -> Result<bool, CheckError>
     ensures { IfOk result (λ r. r ≡ allows_items keyword.now (items_view values.now)) }
@@ -153,8 +149,8 @@ fn has_all(value: &Value<'_>, names: &[String]) -> bool
     true
 }
 
-/// Returns whether a table has the keys that its other keys require. If the table has the key of a pair in `required`,
-/// it must have all keys in the list of that pair.
+/// Returns whether a table has the keys that its other keys require. Each pair in `required` has a key, and the keys
+/// that a table with this key must have.
 fn has_dependents(value: &Value<'_>, required: &[(String, Vec<String>)]) -> bool
     ensures { result ≡ has_dependents (view value.now) required.now }
 {
@@ -182,9 +178,8 @@ fn allows_table(keyword: &Keyword, value: &Value<'_>, count: usize) -> bool
 }
 
 /// Returns whether a keyword without subschemas allows a value. A keyword for one type, such as `minimum`, allows all
-/// values of other types. Fails with `TooDeep` if a value that must be compared nests too deep or contains a taken
-/// value, with `TooLong` if `multipleOf` or the format `regex` takes too many steps, and with `OutOfMemory` if an
-/// allocation fails.
+/// values of other types. Fails with `TooDeep` if a value to compare nests too deep or contains a taken value. Fails
+/// with `TooLong` if `multipleOf` or the format `regex` takes too many steps.
 #[tactic(auto, unfolding(crate::specs::Asserted::asserted))]
 pub(crate) fn asserted(
     alloc: Global,
@@ -205,7 +200,7 @@ pub(crate) fn asserted(
     }
 }
 
-/// Returns whether a keyword for one type of values, such as `minimum`, allows a value, which may be of another type.
+/// Returns whether a keyword for one type, such as `minimum`, allows a value. All values of other types are allowed.
 /// Fails like `asserted`.
 #[tactic(auto, unfolding(crate::specs::Asserted::allows_kind))]
 fn allows_kind(

@@ -13,11 +13,11 @@ use std::alloc::{AllocError, Global};
 use std::collections::BTreeSet;
 use toml_span_tree::{Table, Value, ValueInner};
 
-/// The limit on the levels of a value, which no document reaches: a header has at most 128 parts, each of which can be
-/// an array and a table, and brackets and braces nest at most 128 levels deep.
+/// The limit on how deep values nest. No document reaches this limit: a header has at most 128 parts, each of which can
+/// be an array and a table, and brackets and braces nest at most 128 levels deep.
 pub(crate) const LEVELS: usize = 1_000;
 
-/// Appends a text's length in bytes, a colon and the text. Fails if an allocation fails.
+/// Appends the length of `text` in bytes, a colon and `text`.
 fn push_text(out: &mut String, text: &str) -> Result<(), AllocError>
     ensures { OnOk result (string_bytes out.new ≡ string_bytes out.old ++ text_form text.now) }
 {
@@ -28,8 +28,7 @@ fn push_text(out: &mut String, text: &str) -> Result<(), AllocError>
     out.push_str(text)
 }
 
-/// Appends the canonical text of a finite number: its sign, its digits, `e`, its `point` and `;`. Fails if an
-/// allocation fails.
+/// Appends the canonical text of a finite number: its sign, its digits, `e`, its `point` and `;`.
 fn push_decimal(out: &mut String, number: &Decimal) -> Result<(), AllocError>
     ensures { OnOk result (string_bytes out.new ≡ string_bytes out.old ++ plain_form (plain number.now)) }
 {
@@ -43,8 +42,8 @@ fn push_decimal(out: &mut String, number: &Decimal) -> Result<(), AllocError>
     out.push_str(end.as_str())
 }
 
-/// Appends the canonical text of a number: as in `push_decimal` for a finite number, `<` for negative infinity, `>` for
-/// infinity, `?` for NaN. Fails if an allocation fails.
+/// Appends the canonical text of a number: `<` for negative infinity, `>` for infinity, `?` for NaN, otherwise the text
+/// of `push_decimal`.
 fn push_number(out: &mut String, number: &Number) -> Result<(), AllocError>
     ensures { OnOk result (string_bytes out.new ≡ string_bytes out.old ++ quantity_form (quantity number.now)) }
 {
@@ -57,7 +56,7 @@ fn push_number(out: &mut String, number: &Number) -> Result<(), AllocError>
 }
 
 /// Appends the canonical text of a value. Fails with `TooDeep` if the value nests `depth` or more levels deep or
-/// contains a taken value, and with `OutOfMemory` if an allocation fails.
+/// contains a taken value. Then `out` may have a part of the text.
 #[cycle(canonical)]
 fn push_canonical(out: &mut String, depth: usize, value: &Value<'_>) -> Result<(), CheckError>
     ensures { OnOk result (string_bytes out.new ≡ string_bytes out.old ++ canonical (view value.now)) }
@@ -89,7 +88,7 @@ fn push_canonical(out: &mut String, depth: usize, value: &Value<'_>) -> Result<(
 }
 
 /// Appends the canonical texts of the elements of an array. Fails with `TooDeep` if an element nests `depth` or more
-/// levels deep or contains a taken value, and with `OutOfMemory` if an allocation fails.
+/// levels deep or contains a taken value.
 #[cycle(canonical)]
 fn push_items(out: &mut String, depth: usize, values: &[Value<'_>]) -> Result<(), CheckError>
     ensures { OnOk result (string_bytes out.new ≡ string_bytes out.old ++ items_form (items_view values.now)) }
@@ -101,7 +100,7 @@ fn push_items(out: &mut String, depth: usize, values: &[Value<'_>]) -> Result<()
 }
 
 /// Appends the name and the canonical text of each entry of a table. Fails with `TooDeep` if a value nests `depth` or
-/// more levels deep or contains a taken value, and with `OutOfMemory` if an allocation fails.
+/// more levels deep or contains a taken value.
 #[cycle(canonical)]
 fn push_entries(out: &mut String, depth: usize, table: &Table<'_>) -> Result<(), CheckError>
     ensures { OnOk result (string_bytes out.new
@@ -115,7 +114,7 @@ fn push_entries(out: &mut String, depth: usize, table: &Table<'_>) -> Result<(),
 }
 
 /// Returns the canonical text of a value. Fails with `TooDeep` if the value nests `LEVELS` or more levels deep or
-/// contains a taken value, and with `OutOfMemory` if an allocation fails.
+/// contains a taken value.
 pub(crate) fn canonical(alloc: Global, value: &Value<'_>) -> Result<String, CheckError>
     ensures { IfOk result (λ text. string_bytes text ≡ canonical (view value.now)) }
 {
@@ -124,7 +123,7 @@ pub(crate) fn canonical(alloc: Global, value: &Value<'_>) -> Result<String, Chec
     Ok(out)
 }
 
-/// Returns whether no two of the values are equal. Fails like `canonical`.
+/// Returns whether all values differ from one another. Fails like `canonical`.
 pub(crate) fn all_differ(alloc: Global, values: &[Value<'_>]) -> Result<bool, CheckError>
     ensures { IfOk result (λ r. r ≡ all_new [] (map (λ v. canonical (view v)) values.now)) }
 {

@@ -1,6 +1,5 @@
-//! Compiles a schema, and each schema that references and keywords reach from it. In this module, a *place* is a
-//! document (`source`, its position) and a JSON pointer in it, and a *scope* is the position of a set of dynamic
-//! anchors.
+//! Compiles a schema, and the schemas that it reaches by references and keywords. In this module, a *place* is a JSON
+//! pointer (`pointer`) in a document (`source`, its position). A *scope* is the position of a set of dynamic anchors.
 
 use crate::canonical::LEVELS;
 use crate::cycles::longest_chain;
@@ -26,7 +25,7 @@ const LONGEST: usize = 64;
 /// The maximum number of steps for finding resources and anchors.
 const MOST_WORK: usize = 20_000_000;
 
-/// A schema to compile, with its place. The fields are as in `Site`.
+/// A schema to compile. The fields are as in `Site`.
 #[derive(Drop)]
 struct Task<'v, 'a> {
     value: &'v Json<'a>,
@@ -49,8 +48,8 @@ pub(crate) struct Site<'v, 'a> {
     pub(crate) beside: bool,
 }
 
-/// The place that a reference names. `anchor` is the position of the anchor whose name is the reference's fragment, if
-/// it exists.
+/// The place that a reference names. If the reference's fragment is the name of an anchor, `anchor` is the index of this
+/// anchor in `Sources::anchors`.
 #[derive(Drop)]
 pub(crate) struct Target {
     source: usize,
@@ -64,7 +63,7 @@ pub(crate) struct Target {
 pub(crate) struct Compiler<'v, 'a> {
     pub(crate) alloc: Global,
     sources: Sources<'v, 'a>,
-    /// The task at each index is for the compiled schema at that index.
+    /// The task at index `i` is for the compiled schema at index `i`.
     tasks: Vec<Task<'v, 'a>>,
     known: BTreeMap<String, usize>,
     /// Sets of dynamic anchors, each with the positions of the anchors. If a name is bound several times, the set has
@@ -77,7 +76,7 @@ pub(crate) struct Compiler<'v, 'a> {
     work: usize,
 }
 
-/// Returns the position of a set of dynamic anchors in a list of sets, or `None` if the list does not have it.
+/// Returns the position of the set `scope` in `scopes`, or `None` if `scopes` does not have it.
 fn scope_among(scopes: &[Vec<usize>], scope: &[usize]) -> Option<usize> {
     for (i, other) in scopes.iter().enumerate() {
         if other.as_slice() == scope {
@@ -87,7 +86,7 @@ fn scope_among(scopes: &[Vec<usize>], scope: &[usize]) -> Option<usize> {
     None
 }
 
-/// Returns the error that the reference at `place` names `address`, which does not exist. Fails if an allocation fails.
+/// Returns the error that the reference at `place` names `address`, which does not exist.
 fn missing(alloc: Global, place: &str, address: &str) -> Result<SchemaError, AllocError> {
     Ok(SchemaError::Missing {
         place: String::from_str(alloc, place)?,
@@ -95,15 +94,14 @@ fn missing(alloc: Global, place: &str, address: &str) -> Result<SchemaError, All
     })
 }
 
-/// Returns the error that the document with this address is not JSON. Fails if an allocation fails.
+/// Returns the error that the document at `address` is not JSON.
 fn not_json(alloc: Global, address: &str) -> Result<SchemaError, AllocError> {
     Ok(SchemaError::Json {
         address: String::from_str(alloc, address)?,
     })
 }
 
-/// Appends the text of a document. Fails with `Json` if the text is not JSON or nests more than 128 levels deep, and
-/// with `OutOfMemory` if an allocation fails.
+/// Appends the text of a document. Fails with `Json` if the text is not JSON or nests more than 128 levels deep.
 fn push_document(
     alloc: Global,
     out: &mut String,
@@ -133,7 +131,7 @@ fn joined_texts(
     Ok(out)
 }
 
-/// Returns the addresses of the documents, that of `root` first. Fails if an allocation fails.
+/// Returns the addresses of the documents, first that of `root`.
 fn addresses(
     alloc: Global,
     root: Document<'_>,
@@ -147,7 +145,7 @@ fn addresses(
     Ok(list)
 }
 
-/// Returns each document in the JSON array `values` with its address. Fails if an allocation fails.
+/// Returns each document in the JSON array `values` with its address.
 fn with_addresses<'v, 'a>(
     alloc: Global,
     values: &'v Json<'a>,
@@ -165,8 +163,8 @@ fn with_addresses<'v, 'a>(
     Ok(sources)
 }
 
-/// Compiles the schema in the document `root`, whose references may name `others`, with its notes for people. Fails as
-/// `Schema::from_json` does.
+/// Compiles the schema in the document `root`, with its notes for people. References in the schema may name `others`.
+/// Fails as `Schema::from_json` does.
 pub(crate) fn compile(
     alloc: Global,
     root: Document<'_>,
@@ -177,8 +175,8 @@ pub(crate) fn compile(
     compile_text(alloc, text.as_str(), addresses.as_slice())
 }
 
-/// Compiles a schema from the text of a JSON array of documents, which have these addresses. The first document is the
-/// schema. Fails as `Schema::from_json` does.
+/// Compiles the schema in the first document of `text`, a JSON array of documents. `addresses` are the addresses of the
+/// documents. Fails as `Schema::from_json` does.
 fn compile_text(alloc: Global, text: &str, addresses: &[String]) -> Result<Guide, SchemaError> {
     let mut scratch = Scratch::new(alloc);
     let values = parsed(alloc, text, &mut scratch)?;
@@ -187,8 +185,7 @@ fn compile_text(alloc: Global, text: &str, addresses: &[String]) -> Result<Guide
     made
 }
 
-/// Parses the text of a JSON array of documents. Fails with `TooLarge` if the array nests too deep, and with
-/// `OutOfMemory` if an allocation fails.
+/// Parses the text of a JSON array of documents. Fails with `TooLarge` if the array nests too deep.
 fn parsed<'a>(
     alloc: Global,
     text: &'a str,
@@ -201,8 +198,8 @@ fn parsed<'a>(
     }
 }
 
-/// Compiles a schema from a parsed array of documents, which have these addresses. The first document is the schema.
-/// Fails as `Schema::from_json` does.
+/// Compiles the schema in the first document of `values`, a JSON array of documents. `addresses` are the addresses of
+/// the documents. Fails as `Schema::from_json` does.
 fn compile_all<'v, 'a>(
     alloc: Global,
     values: &'v Json<'a>,
@@ -212,7 +209,7 @@ fn compile_all<'v, 'a>(
     compile_sources(alloc, Sources::new(alloc, documents)?)
 }
 
-/// Returns the notes for people in the schemas of `tasks`, in the same order. Fails if an allocation fails.
+/// Returns the notes for people in the schemas of `tasks`, in the same order.
 fn notes_of(alloc: Global, tasks: &[Task<'_, '_>]) -> Result<Vec<Notes>, AllocError> {
     let mut notes = Vec::new(alloc);
     for task in tasks {
@@ -221,7 +218,7 @@ fn notes_of(alloc: Global, tasks: &[Task<'_, '_>]) -> Result<Vec<Notes>, AllocEr
     Ok(notes)
 }
 
-/// Compiles the schema in the first of the documents. Fails as `Schema::from_json` does.
+/// Compiles the schema in the first document of `sources`. Fails as `Schema::from_json` does.
 fn compile_sources(alloc: Global, sources: Sources<'_, '_>) -> Result<Guide, SchemaError> {
     let mut compiler = Compiler {
         alloc,
@@ -256,9 +253,8 @@ fn compile_sources(alloc: Global, sources: Sources<'_, '_>) -> Result<Guide, Sch
 }
 
 impl<'v, 'a> Compiler<'v, 'a> {
-    /// Compiles the schema of each task, also of the tasks that are added meanwhile. Fails with `TooLarge` if there are
-    /// too many tasks, with an error of `read_node` if a schema is wrong, and with `OutOfMemory` if an allocation
-    /// fails.
+    /// Compiles the schemas of all tasks, including tasks that are added meanwhile. Fails with `TooLarge` if there are
+    /// `MOST` or more tasks, otherwise like `read_node`.
     fn nodes(&mut self) -> Result<Vec<Node>, SchemaError> {
         let mut nodes = Vec::new(self.alloc);
         for at in 0..MOST {
@@ -270,8 +266,7 @@ impl<'v, 'a> Compiler<'v, 'a> {
         Err(SchemaError::TooLarge)
     }
 
-    /// Returns the schema of the task at the position `at`, or `None` if there are fewer tasks. Fails if an allocation
-    /// fails.
+    /// Returns the schema of the task at the position `at`, or `None` if `at` is out of range.
     fn site(&self, at: usize) -> Result<Option<Site<'v, 'a>>, SchemaError> {
         let Some(task) = self.tasks.get(at) else {
             return Ok(None);
@@ -300,10 +295,9 @@ impl<'v, 'a> Compiler<'v, 'a> {
         self.sources.resources.get(at)
     }
 
-    /// Returns the index of the compiled form of the schema `value` at a place, and adds a task for it if it is new.
-    /// `outer` is the scope in which the place is reached. If `beside` is set, the compiled schema leaves out
-    /// `unevaluatedItems` and `unevaluatedProperties`. Fails with `TooLarge` if `work` exceeds `MOST_WORK`, and with
-    /// `OutOfMemory` if an allocation fails.
+    /// Returns the index of the compiled form of the schema `value` at a place, and adds a task for a new schema.
+    /// `outer` is the scope in which the place is reached. `beside` is as in `Site`. Fails with `TooLarge` if `work`
+    /// exceeds `MOST_WORK`.
     fn node(
         &mut self,
         value: &'v Json<'a>,
@@ -331,7 +325,7 @@ impl<'v, 'a> Compiler<'v, 'a> {
         Ok(at)
     }
 
-    /// Adds the steps for finding the resource and the scope of one place to `work`. Fails with `TooLarge` if `work`
+    /// Adds to `work` the steps for finding the resource and the scope of one place. Fails with `TooLarge` if `work`
     /// exceeds `MOST_WORK`.
     fn spend(&mut self) -> Result<(), SchemaError> {
         let more = self
@@ -349,8 +343,8 @@ impl<'v, 'a> Compiler<'v, 'a> {
         Ok(())
     }
 
-    /// Returns the index of the compiled form of the schema at a place that is reached in the scope `outer`. Fails with
-    /// `Missing` if the place does not exist, otherwise like `node`.
+    /// Returns the index of the compiled form of the schema at a place that is reached in the scope `outer`. If the
+    /// place does not exist, fails with `Missing`, otherwise like `node`.
     fn node_at(
         &mut self,
         source: usize,
@@ -365,7 +359,6 @@ impl<'v, 'a> Compiler<'v, 'a> {
     }
 
     /// Returns the scope at a place that is reached in the scope `outer`. Adds a new scope to `scopes` if necessary.
-    /// Fails if an allocation fails.
     fn scope_in(
         &mut self,
         source: usize,
@@ -381,8 +374,8 @@ impl<'v, 'a> Compiler<'v, 'a> {
         Ok(made)
     }
 
-    /// Returns the positions of the dynamic anchors that are bound at a place: those of the scope `outer`, then those
-    /// of the place's resource with names that `outer` does not bind. Fails if an allocation fails.
+    /// Returns the positions of the dynamic anchors that are bound at a place: first the anchors of the scope `outer`,
+    /// then the anchors of the place's resource that have other names.
     fn bound_in(
         &self,
         source: usize,
@@ -404,7 +397,7 @@ impl<'v, 'a> Compiler<'v, 'a> {
         Ok(all)
     }
 
-    /// Returns the first of the positions `anchors` whose anchor has this name, or `None` if no anchor has it.
+    /// Returns the first position in `anchors` whose anchor has this name, or `None` if there is none.
     fn bound(&self, anchors: &[usize], name: &str) -> Option<usize> {
         for at in anchors {
             if let Some(anchor) = self.sources.anchors.get(*at) {
@@ -417,7 +410,7 @@ impl<'v, 'a> Compiler<'v, 'a> {
     }
 
     /// Returns the position in `patterns` of a format's regular expression. Compiles and adds the expression if it is
-    /// new. Fails if an allocation fails.
+    /// not there yet.
     pub(crate) fn format(&mut self, pattern: &'static str) -> Result<usize, SchemaError> {
         if let Some(at) = self.formats.get(pattern) {
             return Ok(*at);
@@ -481,8 +474,7 @@ impl<'v, 'a> Compiler<'v, 'a> {
     }
 
     /// Returns the place that a reference in the schema `site` names. Fails with `Reference` if the reference can't be
-    /// resolved to a URL, with `Missing` if the document or anchor that it names does not exist, and with `OutOfMemory`
-    /// if an allocation fails.
+    /// resolved to a URL. Fails with `Missing` if the named document or anchor does not exist.
     fn target(&self, site: &Site<'v, 'a>, reference: &str) -> Result<Target, SchemaError> {
         let alloc = self.alloc;
         let place = site.pointer.as_str();
@@ -498,8 +490,8 @@ impl<'v, 'a> Compiler<'v, 'a> {
         }
     }
 
-    /// Returns the place that a fragment (a JSON pointer or the name of an anchor) names in the resource with this
-    /// address, or `None` if the resource or the anchor does not exist. Fails if an allocation fails.
+    /// Returns the place that `fragment`, a JSON pointer or the name of an anchor, names in the resource at `address`.
+    /// Returns `None` if the resource or the anchor does not exist.
     fn target_in(&self, address: &str, fragment: &str) -> Result<Option<Target>, SchemaError> {
         let alloc = self.alloc;
         let Some(resource) = self.sources.find(address) else {
@@ -518,8 +510,7 @@ impl<'v, 'a> Compiler<'v, 'a> {
         }))
     }
 
-    /// Returns the place of the anchor at the position `at`, or `None` if `at` is `None` or too large. Fails if an
-    /// allocation fails.
+    /// Returns the place of the anchor at the position `at`, or `None` if `at` is `None` or too large.
     fn anchored(&self, at: Option<usize>) -> Result<Option<Target>, SchemaError> {
         let Some(anchor) = at.and_then(|at| self.sources.anchors.get(at)) else {
             return Ok(None);
@@ -531,7 +522,7 @@ impl<'v, 'a> Compiler<'v, 'a> {
         }))
     }
 
-    /// Returns the index of the compiled form of the schema that `text`, the `$ref` in the schema `site`, names. Fails
+    /// Returns the index of the compiled form of the schema that the `$ref` `text` in the schema `site` names. Fails
     /// like `target` and `node_of`.
     pub(crate) fn reference(
         &mut self,
@@ -542,8 +533,8 @@ impl<'v, 'a> Compiler<'v, 'a> {
         self.node_of(site, &target)
     }
 
-    /// Returns the index of the compiled form of the schema at `target`, the place that a reference in the schema
-    /// `site` names. Fails with `Missing`, with the place of `site`, if `target` does not exist, otherwise like `node`.
+    /// Returns the index of the compiled form of the schema at `target`, which a reference in the schema `site` names.
+    /// If `target` does not exist, fails with `Missing` and the place of `site`, otherwise like `node`.
     fn node_of(&mut self, site: &Site<'v, 'a>, target: &Target) -> Result<usize, SchemaError> {
         match self.node_at(target.source, target.pointer.as_str(), site.scope) {
             Err(SchemaError::Missing { address, .. }) => Err(SchemaError::Missing {
@@ -554,9 +545,9 @@ impl<'v, 'a> Compiler<'v, 'a> {
         }
     }
 
-    /// Returns the index of the compiled form of the schema that `text`, a `$dynamicRef` or `$recursiveRef` in the
-    /// schema `site`, names. If the reference names a dynamic anchor, this is the schema of the anchor with the same
-    /// name that was bound first. Fails like `reference`.
+    /// Resolves `text`, the value of a `$dynamicRef` or `$recursiveRef` in the schema `site`. Returns the index of the
+    /// compiled schema. If `text` names a dynamic anchor, and the scope of `site` binds an anchor of the same name, that
+    /// is the schema of the bound anchor, otherwise the schema that `text` names. Fails like `reference`.
     pub(crate) fn dynamic_reference(
         &mut self,
         site: &Site<'v, 'a>,
@@ -570,9 +561,8 @@ impl<'v, 'a> Compiler<'v, 'a> {
         }
     }
 
-    /// Returns the position of the anchor to use instead of the dynamic anchor that a reference names: the anchor with
-    /// the same name in the scope of `site`. Returns `None` if the reference names no dynamic anchor, or if the scope
-    /// has no anchor with this name.
+    /// Returns the position of the anchor in the scope of `site` that has the same name as the dynamic anchor of
+    /// `target`. Returns `None` if `target` has no dynamic anchor, or if the scope has no anchor with this name.
     fn first_bound(&self, site: &Site<'v, 'a>, target: &Target) -> Option<usize> {
         let anchor = self.sources.anchors.get(target.anchor?)?;
         if !anchor.dynamic {

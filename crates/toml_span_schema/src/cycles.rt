@@ -4,8 +4,7 @@ use crate::error::SchemaError;
 use crate::keyword::{Keyword, Node};
 use std::alloc::{AllocError, Global};
 
-/// Appends the subschemas that a keyword applies to the value itself, not to values inside it. Fails if an allocation
-/// fails.
+/// Appends the subschemas that a keyword applies to the value itself, not to values inside it.
 fn push_in_place(list: &mut Vec<usize>, keyword: &Keyword) -> Result<(), AllocError> {
     match keyword {
         Keyword::AllOf(nodes) | Keyword::AnyOf(nodes) | Keyword::OneOf(nodes) => {
@@ -30,7 +29,7 @@ fn push_in_place(list: &mut Vec<usize>, keyword: &Keyword) -> Result<(), AllocEr
     Ok(())
 }
 
-/// Appends a subschema, if there is one. Fails if an allocation fails.
+/// Appends a subschema, if there is one.
 fn push_optional(list: &mut Vec<usize>, node: Option<usize>) -> Result<(), AllocError> {
     if let Some(node) = node {
         list.push(node)?;
@@ -38,8 +37,7 @@ fn push_optional(list: &mut Vec<usize>, node: Option<usize>) -> Result<(), Alloc
     Ok(())
 }
 
-/// Returns the subschemas that the schema `node` applies to the value itself, not to values inside it. Fails if an
-/// allocation fails.
+/// Returns the subschemas that the schema `node` applies to the value itself, not to values inside it.
 fn in_place(alloc: Global, node: &Node) -> Result<Vec<usize>, AllocError> {
     let mut list = Vec::new(alloc);
     for placed in node.keywords.as_slice() {
@@ -48,11 +46,11 @@ fn in_place(alloc: Global, node: &Node) -> Result<Vec<usize>, AllocError> {
     Ok(list)
 }
 
-/// What `longest_chain` knows about a compiled schema. A chain is a list of compiled schemas, each of which applies the
-/// next one to the same value.
+/// The state of `longest_chain` for a compiled schema. In a chain of compiled schemas, each applies the next to the
+/// same value.
 #[derive(Drop)]
 struct Chain {
-    /// The number of subschemas that this schema applies to the same value and whose longest chains are not known yet.
+    /// The number of subschemas that this schema applies to the same value and that have no known longest chain yet.
     open: usize,
     /// The length of the longest chain that begins at this schema, as far as it is known.
     length: usize,
@@ -60,7 +58,7 @@ struct Chain {
     users: Vec<usize>,
 }
 
-/// Adds `user` to the users of each schema whose index is in `used`. Fails if an allocation fails.
+/// Adds `user` to the users of each schema whose index is in `used`.
 fn push_users(chains: &mut Vec<Chain>, used: &[usize], user: usize) -> Result<(), AllocError> {
     for at in used {
         if let Some(chain) = chains.get_mut(*at) {
@@ -70,7 +68,7 @@ fn push_users(chains: &mut Vec<Chain>, used: &[usize], user: usize) -> Result<()
     Ok(())
 }
 
-/// Returns a `Chain` for each of the compiled schemas `nodes`, before any chain is known. Fails if an allocation fails.
+/// Returns a `Chain` for each of the compiled schemas `nodes`, before any longest chain is known.
 fn chains_of(alloc: Global, nodes: &[Node]) -> Result<Vec<Chain>, AllocError> {
     let mut chains = Vec::new(alloc);
     for _node in nodes {
@@ -91,8 +89,8 @@ fn chains_of(alloc: Global, nodes: &[Node]) -> Result<Vec<Chain>, AllocError> {
 }
 
 /// Extends the longest chain of the schema at index `at`, which must be known, to the schema's users. Appends to
-/// `known` those users whose longest chains are known now. Returns the length of the schema's chain, or 0 if `at` is
-/// out of range. Fails if an allocation fails.
+/// `known` the users whose longest chains are known now. Returns the length of the schema's chain, or 0 if `at` is out
+/// of range.
 fn settle(
     alloc: Global,
     chains: &mut Vec<Chain>,
@@ -115,8 +113,8 @@ fn settle(
     Ok(length)
 }
 
-/// Returns the length of the longest chain, which is the number of its schemas minus 1. Fails with `Cycle` if a chain
-/// has the same schema twice, and with `OutOfMemory` if an allocation fails.
+/// Returns the length of the longest chain: the number of its schemas minus 1. Fails with `Cycle` if a chain has the
+/// same schema twice.
 pub(crate) fn longest_chain(alloc: Global, nodes: &[Node]) -> Result<usize, SchemaError> {
     let mut chains = chains_of(alloc, nodes)?;
     let mut known = Vec::new(alloc);
@@ -135,8 +133,8 @@ pub(crate) fn longest_chain(alloc: Global, nodes: &[Node]) -> Result<usize, Sche
     Ok(longest)
 }
 
-/// Returns the error that a chain has the same schema twice. The error names the last schema whose longest chain is not
-/// known. Fails if an allocation fails.
+/// Returns the error that a chain has the same schema twice. The error names the last of the schemas whose longest
+/// chains are not known.
 fn cycle(alloc: Global, nodes: &[Node], chains: &[Chain]) -> Result<SchemaError, AllocError> {
     let mut place = String::new(alloc);
     for (node, chain) in nodes.iter().zip(chains.iter()) {

@@ -18,14 +18,14 @@ use toml_span_tree::{FloatText, Value};
 /// The largest exponent. Larger exponents count as this value.
 const LARGEST: u64 = 1_000_000_000_000_000;
 
-/// 2^65, which is added to exponents, so that none is negative.
+/// 2^65, which is added to exponents, so that no exponent is negative.
 const RAISED: u128 = 36_893_488_147_419_103_232;
 
-/// The maximum number of zeros that `is_multiple_of` appends to a number before it divides the number.
+/// The maximum number of zeros that `is_multiple_of` appends to a number for the division.
 const MOST_ZEROS: u128 = 100_000;
 
-/// Returns 2^65 plus an exponent or, if `negative` is set, 2^65 minus the exponent. `digits` are the ASCII digits of
-/// the exponent; without digits, it is 0. An exponent above `LARGEST` counts as `LARGEST`.
+/// Returns 2^65 plus an exponent or, if `negative` is set, minus the exponent. `digits` are the ASCII digits of the
+/// exponent, none for 0. An exponent above `LARGEST` counts as `LARGEST`.
 fn raised(digits: &[u8], negative: bool) -> u128
     requires { AllDigits 10 digits.now }
     ensures { result ≡ raised digits.now negative }
@@ -45,7 +45,7 @@ fn raised(digits: &[u8], negative: bool) -> u128
     }
 }
 
-/// Returns the number of zeros at the beginning of some ASCII digits.
+/// Returns the number of zeros at the start of `digits`, which are ASCII digits.
 fn leading_zeros(digits: &[u8]) -> usize
     ensures value { result ≡ leading_zeros digits.now }
     ensures within { result ≤ length digits.now }
@@ -58,7 +58,7 @@ fn leading_zeros(digits: &[u8]) -> usize
     digits.len()
 }
 
-/// Returns the number of ASCII digits, without counting the zeros at the end.
+/// Returns the number of `digits`, which are ASCII digits, without the zeros at the end.
 fn without_zeros(digits: &[u8]) -> usize
     ensures value { result ≡ significant digits.now }
     ensures within { result ≤ length digits.now }
@@ -73,8 +73,7 @@ fn without_zeros(digits: &[u8]) -> usize
 }
 
 impl Decimal {
-    /// Reads a number such as `-12.5e3`, which has no underscores and does not begin with `+`. Fails if an allocation
-    /// fails.
+    /// Reads a number such as `-12.5e3`. The text must have no underscores, and no `+` before the number.
     pub(crate) fn parse(alloc: Global, text: &str) -> Result<Decimal, AllocError>
         ensures { IfOk result (λ d. plain d ≡ decimal_of text.now) }
     {
@@ -84,7 +83,7 @@ impl Decimal {
         }
     }
 
-    /// Reads a number without a sign, and returns it or, if `negative`, its negative. Fails if an allocation fails.
+    /// Reads a number without a sign. Returns the negative of the number if `negative` is set.
     fn of_unsigned(alloc: Global, negative: bool, bytes: &[u8]) -> Result<Decimal, AllocError>
         ensures { IfOk result (λ d. plain d ≡ unsigned_of negative bytes.now) }
     {
@@ -96,8 +95,8 @@ impl Decimal {
         Decimal::normal(alloc, negative, point, all.as_slice())
     }
 
-    /// Returns the number `0.d1d2d3.. * 10^(point - 2^65)` or, if `negative`, its negative. `digits` are d1, d2 and so
-    /// on in ASCII, and may begin and end with zeros. Fails if an allocation fails.
+    /// Returns the number `0.d1d2d3.. * 10^(point - 2^65)`, or its negative if `negative` is set. `digits` are d1, d2
+    /// and so on in ASCII, and may begin and end with zeros.
     fn normal(
         alloc: Global,
         negative: bool,
@@ -124,7 +123,7 @@ impl Decimal {
         })
     }
 
-    /// Returns whether this is an integer.
+    /// Returns whether the number is an integer.
     pub(crate) fn is_whole(&self) -> bool
         ensures { result ≡ is_whole (plain self.now) }
     {
@@ -152,7 +151,7 @@ impl Decimal {
         }
     }
 
-    /// Returns 2 for a positive number, 1 for zero and 0 for a negative one.
+    /// Returns 2 for a positive number, 1 for zero and 0 for a negative number.
     fn sign(&self) -> u8
         ensures { result ≡ sign (plain self.now) }
     {
@@ -165,7 +164,7 @@ impl Decimal {
         }
     }
 
-    /// Compares two numbers other than zero by their absolute values.
+    /// Compares the absolute values of two numbers other than zero.
     fn compare_sizes(&self, other: &Decimal) -> Ordering
         ensures { result ≡ compare_sizes (plain self.now) (plain other.now) }
     {
@@ -183,16 +182,14 @@ impl Decimal {
         self.point + RAISED - self.digits.len() as u128
     }
 
-    /// Returns the digits as an integer. Returns `None` if the integer is 2^64 or more, and for the number 0, which has
-    /// no digits.
+    /// Returns the digits as an integer. Returns `None` for 0, which has no digits, and if the integer is 2^64 or more.
     pub(crate) fn size(&self) -> Option<u64> {
         parse_u64(self.digits.as_slice()).ok()
     }
 
-    /// Returns whether this is a multiple of `size` times a power of ten. `power` is the exponent of that power, plus
-    /// 2^66. The number 0 is a multiple, and a number whose `exponent` is below `power` is not. For other numbers,
-    /// fails with `TooLong` if `exponent` exceeds `power` by more than `MOST_ZEROS`, or if `size` is 0 or has more than
-    /// 18 digits.
+    /// Returns whether the number is a multiple of `size` times a power of ten, whose exponent is `power` minus 2^66.
+    /// Returns true for 0, and false for other numbers whose `exponent` is below `power`. Otherwise, fails with
+    /// `TooLong` if `exponent` exceeds `power` by more than `MOST_ZEROS`, or if `size` is 0 or has more than 18 digits.
     pub(crate) fn is_multiple_of(&self, size: u64, power: u128) -> Result<bool, CheckError>
         ensures { IfOk result (λ r. r ≡ is_multiple (plain self.now) size power) }
     {
@@ -221,7 +218,7 @@ fn shifted(left: u64, digit: u8, divisor: u64) -> u64
     (left * 10 + u64::from(digit)) % divisor
 }
 
-/// Returns a number in ASCII digits modulo `divisor`.
+/// Returns the number with these ASCII digits modulo `divisor`.
 fn remainder(digits: &[u8], divisor: u64) -> u64
     requires { (0 < divisor) × (divisor < 1000000000000000000) }
     ensures value { result ≡ value_after 0 digits.now % divisor }
@@ -234,7 +231,7 @@ fn remainder(digits: &[u8], divisor: u64) -> u64
     left
 }
 
-/// Returns a number in ASCII digits, followed by this many zeros, modulo `divisor`.
+/// Returns the number with these ASCII digits, followed by `zeros` zeros, modulo `divisor`.
 fn remainder_with_zeros(digits: &[u8], zeros: u64, divisor: u64) -> u64
     requires { (0 < divisor) × (divisor < 1000000000000000000) }
     ensures { result ≡ (value_after 0 digits.now * 10 ^ zeros) % divisor }
@@ -254,7 +251,7 @@ fn remainder_of_zeros(left: u64, zeros: u64, divisor: u64) -> u64
     left
 }
 
-/// Returns the number in a value, or `None` if the value is not a number. Fails if an allocation fails.
+/// Returns the number in a value, or `None` if the value is not a number.
 pub(crate) fn number_in(alloc: Global, value: &Value<'_>) -> Result<Option<Number>, AllocError>
     ensures { IfOk result (λ n. option_map quantity n ≡ quantity_in (inner_of (view value.now))) }
 {
@@ -268,7 +265,7 @@ pub(crate) fn number_in(alloc: Global, value: &Value<'_>) -> Result<Option<Numbe
     }
 }
 
-/// Converts a float to a `Number`. Fails if an allocation fails.
+/// Converts a float to a `Number`.
 fn number_of(alloc: Global, float: &FloatText) -> Result<Number, AllocError>
     ensures { IfOk result (λ n. quantity n ≡ float_quantity (float_value float.now)) }
 {

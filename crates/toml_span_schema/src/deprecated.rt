@@ -13,9 +13,12 @@ use toml_span_report::Report;
 use toml_span_tree::Value;
 
 impl Schema {
-    /// Returns a warning for each value that a schema with `deprecated: true` applies to, in the order of the text.
-    /// Each warning marks the value's key, or the value if it has no key. An alternative of `anyOf` or `oneOf` applies
-    /// only if the value is valid against it. Fails like `check`.
+    /// Returns a warning for each value and each schema with `deprecated: true` that applies to the value, in the order
+    /// of the text. Each warning marks the value's key, or the value if it has no key.
+    ///
+    /// An alternative of `anyOf` or `oneOf` applies only if the value is valid against it. Schemas in `not`, `if`,
+    /// `contains`, `propertyNames`, `unevaluatedItems` and `unevaluatedProperties` cause no warnings. Fails like
+    /// `check`.
     pub fn warnings(&self, alloc: Global, value: &Value<'_>) -> Result<Vec<Report>, CheckError> {
         let mut reports = Vec::new(alloc);
         let mut left = MOST_STEPS;
@@ -32,9 +35,9 @@ impl Schema {
         Ok(reports)
     }
 
-    /// Appends the warnings for a value to which the schema at index `node` applies, and for the values inside it. A
-    /// warning for the value itself marks `span`. `depth` is the number of subschemas that may still be nested, and
-    /// `left` the number that may still be applied. Fails like `is_valid`.
+    /// Appends the warnings that the schema at index `node` causes for a value and the values inside it. A warning for
+    /// the value itself marks `span`. `depth` is the number of subschemas that may still nest, and `left` the number
+    /// that may still be applied. Fails like `is_valid`.
     #[cycle(warn)]
     fn warn(
         &self,
@@ -68,8 +71,8 @@ impl Schema {
         Ok(())
     }
 
-    /// Appends the warnings for a value, and for the values inside it, that the subschemas of a keyword cause. The
-    /// other arguments and the errors are those of `warn`.
+    /// Appends the warnings that the subschemas of a keyword cause for a value and the values inside it. The other
+    /// arguments and the errors are as for `warn`.
     #[cycle(warn)]
     fn warn_keyword(
         &self,
@@ -117,8 +120,8 @@ impl Schema {
         }
     }
 
-    /// If a value is valid against the schema at index `node`, appends the warnings for the value and the values inside
-    /// it, as `warn` does. Fails like `is_valid`.
+    /// Appends the warnings of `warn` if a value is valid against the schema at index `node`. The arguments and the
+    /// errors are as for `warn`.
     #[cycle(warn)]
     fn warn_if_valid(
         &self,
@@ -136,8 +139,8 @@ impl Schema {
         Ok(())
     }
 
-    /// Appends the warnings for the entries or elements in `parts` that the subschemas of a keyword cause. A warning
-    /// for an entry marks its key. The other arguments and the errors are those of `warn`.
+    /// Appends the warnings that the subschemas of a keyword cause for the entries or elements in `parts`. A warning
+    /// for an entry marks its key. The other arguments and the errors are as for `warn`.
     #[cycle(warn)]
     fn warn_parts(
         &self,

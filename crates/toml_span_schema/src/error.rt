@@ -3,7 +3,7 @@
 use std::alloc::{AllocError, AllocFailed, Global};
 use url::ParseError;
 
-/// Why a schema can't be compiled.
+/// Why a schema can't be compiled. Each `place` is a JSON pointer.
 #[derive(Debug, Drop)]
 pub enum SchemaError {
     /// An allocation failed.
@@ -12,28 +12,28 @@ pub enum SchemaError {
     Json {
         address: String,
     },
-    /// A keyword has a wrong value. `place` is a JSON pointer to the keyword, and `expected` says which values it can
-    /// have.
+    /// The keyword at `place` has a wrong value, or the schema at `place` is neither an object nor a boolean.
+    /// `expected` says which values are right.
     Keyword {
         place: String,
         expected: &'static str,
     },
-    /// The regular expression at this place is malformed or too large, or uses syntax that is not supported, such as
-    /// lookahead.
+    /// A regular expression of the keyword at `place` is malformed or too large, or uses syntax that is not supported,
+    /// such as lookahead.
     Pattern {
         place: String,
     },
-    /// The reference or `$id` in the schema at this place is not a URL.
+    /// The reference or `$id` in the schema at `place` is not a URL.
     Reference {
         place: String,
     },
-    /// The reference or `$schema` at this place names a document that was not given, or a place or an anchor that its
-    /// document does not have.
+    /// A reference in the schema at `place` names a document that was not given, or a place or an anchor that does not
+    /// exist in its document. For a `$schema` that names no known draft or document, `place` is always `/$schema`.
     Missing {
         place: String,
         address: String,
     },
-    /// References and combinations that apply to the same value lead from the schema at this place into a cycle.
+    /// References and combinations that apply to the same value lead from the schema at `place` into a cycle.
     Cycle {
         place: String,
     },
@@ -115,8 +115,8 @@ impl From<ParseError> for SchemaError {
 pub enum CheckError {
     /// An allocation failed.
     OutOfMemory,
-    /// The value, or references and combinations that apply to it, nest too deep, or a value that must be compared
-    /// contains a taken value.
+    /// The value nests too deep, references and combinations nest too deep, or a value to compare contains a taken
+    /// value.
     TooDeep,
     /// The check takes too many steps.
     TooLong,

@@ -40,8 +40,9 @@ impl Schema {
         Ok(())
     }
 
-    /// Appends the reports on a value that `placed`, a keyword of the schema at index `node`, does not allow: the
-    /// reports of the keyword's subschemas or, if they have none, one report on the value. Fails like `is_valid`.
+    /// Appends the reports on a value that the keyword `placed` of the schema at index `node` does not allow. These are
+    /// the reports of the keyword's subschemas and on missing keys or, if there are none, one report on the value.
+    /// Fails like `is_valid`.
     #[cycle(explain)]
     fn explain_keyword(
         &self,
@@ -85,8 +86,8 @@ impl Schema {
         Ok(())
     }
 
-    /// Appends the reports on the entries, elements, keys or missing keys because of which the keyword `placed` does
-    /// not allow a value. Appends nothing for a keyword that is not about these. Fails like `is_valid`.
+    /// Appends the reports on the entries, elements, keys or missing keys for which the keyword `placed` does not allow
+    /// a value. Appends nothing for a keyword about the value itself. Fails like `is_valid`.
     #[cycle(explain)]
     fn explain_inside(
         &self,
@@ -120,8 +121,8 @@ impl Schema {
         }
     }
 
-    /// Appends the reports on the entries or elements of a value that the schema at index `nodes.0` does not evaluate
-    /// and that are not valid against the schema at index `nodes.1`. Fails like `is_valid`.
+    /// Appends the reports on each entry or element that the schema at index `nodes.0` does not evaluate and that is
+    /// not valid against the schema at index `nodes.1`. Fails like `is_valid`.
     #[cycle(explain)]
     fn explain_rest(
         &self,
@@ -143,8 +144,8 @@ impl Schema {
         Ok(())
     }
 
-    /// Appends the reports on an entry or element that is not valid against the subschema at index `schema`, which the
-    /// keyword `placed` applies to it. Fails like `is_valid`.
+    /// Appends the reports on an entry or element that is not valid against the schema at index `schema`, a subschema
+    /// of the keyword `placed`. Fails like `is_valid`.
     #[cycle(explain)]
     fn explain_part(
         &self,
@@ -192,9 +193,9 @@ impl Schema {
         Ok(())
     }
 
-    /// Explains the value against each schema at the indices `nodes`, and appends the reports of the one with the least
-    /// `distance`. If none of them has reports, or that one has more than `MOST_SHOWN`, appends a single report on the
-    /// value. Fails like `is_valid`.
+    /// Appends the reports of the alternative with the least `distance` among the schemas at the indices `nodes`, each
+    /// with a note on the keyword `placed`. Appends one report on the value instead if it is valid against one of them,
+    /// if `nodes` is empty, or if the chosen alternative has more than `MOST_SHOWN` reports. Fails like `is_valid`.
     #[cycle(explain)]
     fn explain_best(
         &self,
@@ -209,16 +210,19 @@ impl Schema {
     ) -> Result<(), CheckError> {
         let mut best = Vec::new(alloc);
         let mut least = usize::MAX;
+        let mut has_valid = false;
         for other in nodes {
             let mut found = Vec::new(alloc);
             self.explain(alloc, left, depth, *other, value, &mut found)?;
             let distance = distance(found.as_slice(), value.span);
-            if !found.is_empty() && distance < least {
+            if found.is_empty() {
+                has_valid = true;
+            } else if distance < least {
                 least = distance;
                 best = found;
             }
         }
-        if best.is_empty() || best.len() > MOST_SHOWN {
+        if has_valid || best.is_empty() || best.len() > MOST_SHOWN {
             reports.push(self.report(alloc, node, placed, value, value.span)?)?;
             return Ok(());
         }
@@ -229,7 +233,7 @@ impl Schema {
         Ok(())
     }
 
-    /// Appends a report for each key in `wanted` that a table lacks. Fails if an allocation fails.
+    /// Appends a report for each key in `wanted` that a table lacks.
     fn explain_missing(
         &self,
         alloc: Global,
@@ -250,8 +254,8 @@ impl Schema {
         Ok(())
     }
 
-    /// Returns the report that the key `name`, which is at `span`, is not allowed. The report suggests the most similar
-    /// key of `properties`, if one is similar enough. Fails if an allocation fails.
+    /// Returns the report that the key `name` at `span` is not allowed. The report suggests the most similar key of
+    /// `properties`, if one is similar enough.
     fn unknown_key(
         &self,
         alloc: Global,
@@ -272,15 +276,15 @@ impl Schema {
         let report = match nearest(alloc, name, known.as_slice())? {
             Some(meant) => {
                 let help = format!(in alloc; "did you mean `{meant}`?")?;
-                suggest_word(report.help(help.as_str())?, span, meant, meant)?
+                suggest_word(report.help(help.as_str())?, span, meant)?
             }
             None => report,
         };
         self.with_notes(alloc, report, node, placed)
     }
 
-    /// Returns the report that `placed`, a keyword of the schema at index `node`, does not allow a value. The report
-    /// marks `span`. Fails if an allocation fails.
+    /// Returns the report that the keyword `placed` of the schema at index `node` does not allow a value. The report
+    /// marks `span`.
     fn report(
         &self,
         alloc: Global,
@@ -301,8 +305,8 @@ impl Schema {
         self.with_notes(alloc, report, node, placed)
     }
 
-    /// Adds a note with the keyword's place in the schema, and one with the title of the schema at index `node`, if it
-    /// has a title. Fails if an allocation fails.
+    /// Adds a note with the keyword's place in the schema and, if the schema at index `node` has a title, a note with
+    /// the title.
     fn with_notes(
         &self,
         alloc: Global,
@@ -314,7 +318,7 @@ impl Schema {
         self.with_title(report.note(note.as_str())?, node)
     }
 
-    /// Adds a note with the title of the schema at index `node`, if it has a title. Fails if an allocation fails.
+    /// Adds a note with the title of the schema at index `node`, if it has a title.
     pub(crate) fn with_title(&self, report: Report, node: usize) -> Result<Report, AllocError> {
         match self.nodes.get(node).and_then(|node| node.title.as_ref()) {
             Some(title) => report.note(title.as_str()),
@@ -322,8 +326,7 @@ impl Schema {
         }
     }
 
-    /// Returns the note that names the place of `placed`, a keyword of the schema at index `node`. Fails if an
-    /// allocation fails.
+    /// Returns the note that names the place of the keyword `placed` of the schema at index `node`.
     fn note_of(&self, alloc: Global, node: usize, placed: &Placed) -> Result<String, AllocError> {
         let place = match self.nodes.get(node) {
             Some(node) => node.place.as_str(),
@@ -333,7 +336,7 @@ impl Schema {
         format!(in alloc; "required by `{place}/{name}` in the schema")
     }
 
-    /// Returns whether the schema at index `node` is `false`, which allows nothing.
+    /// Returns whether the schema at index `node` is `false`.
     fn is_never(&self, node: usize) -> bool {
         match self.keywords(node) {
             [placed] => matches!(&placed.keyword, Keyword::Never),
@@ -342,8 +345,8 @@ impl Schema {
     }
 }
 
-/// Returns how badly an alternative fits the value at `span`. `reports` are the reports that it causes. A wrong type of
-/// the value itself counts most, then wrong constants, then missing and unknown keys.
+/// Returns how badly an alternative fits the value at `span`, from its `reports`. A wrong type of the value itself
+/// counts most, then wrong constants, then missing and unknown keys.
 fn distance(reports: &[Report], span: Span) -> usize {
     let mut sum = 0usize;
     for report in reports {
@@ -359,9 +362,8 @@ fn distance(reports: &[Report], span: Span) -> usize {
     sum
 }
 
-/// If a word in `words` is similar enough to `text`, adds a help message with the most similar word, and a suggestion
-/// to replace `span` with this word if it can be a bare key. Otherwise returns the report unchanged. Fails if an
-/// allocation fails.
+/// Adds a help message with the word in `words` that is most similar to `text`, if one is similar enough. If this word
+/// can be a bare key, also adds a suggestion to replace `span` with the word.
 fn meant_word(
     alloc: Global,
     report: Report,
@@ -376,19 +378,17 @@ fn meant_word(
     match nearest(alloc, text, known.as_slice())? {
         Some(meant) => {
             let help = format!(in alloc; "did you mean `{meant}`?")?;
-            let report = report.help(help.as_str())?;
-            let quoted = format!(in alloc; "\"{meant}\"")?;
-            suggest_word(report, span, meant, quoted.as_str())
+            suggest_word(report.help(help.as_str())?, span, meant)
         }
         None => Ok(report),
     }
 }
 
-/// Adds a suggestion to replace `span` with `text`, which spells the word `meant`, if `meant` can be a bare key.
-/// Otherwise returns the report unchanged. Fails if an allocation fails.
-fn suggest_word(report: Report, span: Span, meant: &str, text: &str) -> Result<Report, AllocError> {
+/// Adds a suggestion to replace `span`, a key or string without its quotes, with the word `meant`, if `meant` can be a
+/// bare key. Otherwise, returns the report unchanged.
+fn suggest_word(report: Report, span: Span, meant: &str) -> Result<Report, AllocError> {
     if is_plain(meant) {
-        report.suggest(span, text)
+        report.suggest(span, meant)
     } else {
         Ok(report)
     }

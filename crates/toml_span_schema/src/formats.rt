@@ -2,7 +2,7 @@
 ghost use Rattle.std.specs.Prelude.{◌≡◌, ◌<◌};
 ghost use Rattle.toml_span_schema.specs.Formats.{ahead, fits_leap, fits_leap_second, two_digits};
 
-/// A format. A string has the format if `pattern`, a regular expression, matches, and the string has at most `most`
+/// A format. A string has the format if the regular expression `pattern` matches, and the string has at most `most`
 /// characters. If `leap` is set, a second 60 in the string must also be at 23:59:60 UTC.
 #[derive(Clone, Copy, Drop)]
 pub(crate) struct Format {
@@ -134,7 +134,7 @@ const UUID: &str =
 /// A pointer of RFC 6901.
 const JSON_POINTER: &str = "^(?:(?:/(?:[^~/]|~[01])*)*)$";
 
-/// Returns the format of the strings that a regular expression matches, without further conditions.
+/// Returns the format of the strings that a regular expression matches, without other conditions.
 fn plain(pattern: &'static str) -> Format {
     Format {
         pattern,
@@ -143,7 +143,7 @@ fn plain(pattern: &'static str) -> Format {
     }
 }
 
-/// Returns the format with this name, or `None` for an unknown name, which allows every string.
+/// Returns the format with this name, or `None` if the name is unknown or `regex`.
 pub(crate) fn format_of(name: &str) -> Option<Format> {
     let format = match name {
         "date" => plain(DATE),
@@ -174,7 +174,8 @@ pub(crate) fn format_of(name: &str) -> Option<Format> {
     Some(format)
 }
 
-/// Returns the number that the two ASCII digits at the byte offset `at` spell, or 0 if the text ends before the second.
+/// Returns the number that the two ASCII digits at the byte offset `at` spell, or 0 if the text ends before the second
+/// digit.
 fn two_digits(text: &[u8], at: usize) -> u64
     requires { at < 100 }
     ensures value { result ≡ two_digits text.now at }
@@ -188,8 +189,8 @@ fn two_digits(text: &[u8], at: usize) -> u64
     }
 }
 
-/// Returns 1440, the minutes of a day, plus the minutes that a time zone, such as `+01:30`, is ahead of UTC. For `Z`,
-/// returns 1440.
+/// Returns 1440 plus the minutes that a time zone, such as `+01:30`, is ahead of UTC. Returns 1440 if `zone` does not
+/// begin with a sign, as for a time that ends with `Z`.
 fn ahead(zone: &[u8]) -> u64
     ensures value { result ≡ ahead zone.now }
     ensures small { result < 200000 }
@@ -202,7 +203,7 @@ fn ahead(zone: &[u8]) -> u64
     }
 }
 
-/// Returns whether a time has no second 60, or is 23:59:60 UTC. Its time zone is its last six characters, or a `Z`.
+/// Returns whether a time has no second 60, or is 23:59:60 UTC. The time zone is the last six characters, or a `Z`.
 fn fits_leap(time: &[u8]) -> bool
     ensures { result ≡ fits_leap time.now }
 {
@@ -214,7 +215,7 @@ fn fits_leap(time: &[u8]) -> bool
     (minute + 2_880).saturating_sub(ahead(zone)) % 1_440 == 1_439
 }
 
-/// Returns whether a time, or a date and a time, has no second 60, or the time is 23:59:60 UTC.
+/// Returns whether a time, or a date and time, has no second 60, or is at 23:59:60 UTC.
 pub(crate) fn fits_leap_second(text: &str) -> bool
     ensures { result ≡ fits_leap_second text.now }
 {

@@ -17,8 +17,7 @@ pub struct Guide {
 }
 
 impl Guide {
-    /// Compiles a schema from its JSON text, with its notes. The arguments and the errors are those of
-    /// `Schema::from_json`.
+    /// Compiles a schema from its JSON text, with its notes. `others` and the errors are as for `Schema::from_json`.
     pub fn from_json(
         alloc: Global,
         text: &str,

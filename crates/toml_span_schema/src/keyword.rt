@@ -19,28 +19,28 @@ pub(crate) struct Types {
     pub(crate) whole: bool,
 }
 
-/// A compiled keyword. A subschema is given by its index in `Schema::nodes`, and a regular expression by its index in
+/// A compiled keyword. Each subschema is its index in `Schema::nodes`, and each regular expression its index in
 /// `Schema::patterns`.
 #[derive(Drop)]
 pub(crate) enum Keyword {
     /// The schema `false`.
     Never,
     Type(Types),
-    /// `enum`, or `const` with one value, as canonical texts (see `canonical`). Values that are or contain `null` are
-    /// left out, since nothing in TOML equals them. The list has the values that are strings, for suggestions.
+    /// The values of `enum` or `const` as canonical texts (see `canonical`), without values that are or contain `null`.
+    /// The list has the strings among them, for suggestions.
     Enum(BTreeSet<String>, Vec<String>),
     Minimum(Decimal),
     ExclusiveMinimum(Decimal),
     Maximum(Decimal),
     ExclusiveMaximum(Decimal),
-    /// Two factors of the divisor: an integer, and a power of ten, as an exponent plus 2^66.
+    /// The divisor is the first field times a power of ten. The second field is the exponent of this power, plus 2^66.
     MultipleOf(u64, u128),
     MinLength(u64),
     MaxLength(u64),
-    /// The position of a regular expression.
+    /// The index of a regular expression.
     Pattern(usize),
-    /// `format`: the position of its regular expression, the maximum number of characters, and whether a second 60 must
-    /// be at 23:59:60 UTC.
+    /// `format`: the index of its regular expression, the maximum number of characters, and whether the second 60 is
+    /// allowed only at 23:59:60 UTC.
     Format(usize, u64, bool),
     /// The format `regex`.
     RegexFormat,
@@ -50,9 +50,9 @@ pub(crate) enum Keyword {
     MinProperties(u64),
     MaxProperties(u64),
     Required(Vec<String>),
-    /// Pairs of a key and a list of keys. If a table has the key, it must have all keys in the list.
+    /// Pairs of a key and a list of keys. A table with the key must have all keys in the list.
     DependentRequired(Vec<(String, Vec<String>)>),
-    /// `allOf`, or a reference, which is a list of one subschema.
+    /// `allOf`, or a reference as a list of one subschema.
     AllOf(Vec<usize>),
     AnyOf(Vec<usize>),
     OneOf(Vec<usize>),
@@ -62,20 +62,20 @@ pub(crate) enum Keyword {
     DependentSchemas(Vec<(String, usize)>),
     /// `prefixItems` and `items` of draft 2020-12, or `items` and `additionalItems` of earlier drafts.
     Items(Vec<usize>, Option<usize>),
-    /// `contains` with `minContains` and `maxContains`, and whether an element that matches counts as evaluated, as in
-    /// draft 2020-12.
+    /// `contains`, `minContains`, `maxContains`, and whether an element that matches counts as evaluated, as in draft
+    /// 2020-12.
     Contains(usize, u64, u64, bool),
     /// `properties` by name, `patternProperties` as pairs of a regular expression and a subschema, and
     /// `additionalProperties`.
     Properties(BTreeMap<String, usize>, Vec<(usize, usize)>, Option<usize>),
     PropertyNames(usize),
-    /// The index of a compiled schema with the other keywords of the same schema, and that of the subschema.
-    /// `UnevaluatedProperties` has the same two fields.
+    /// The compiled form of the other keywords in the same schema, and the subschema. `UnevaluatedProperties` has the
+    /// same two fields.
     UnevaluatedItems(usize, usize),
     UnevaluatedProperties(usize, usize),
 }
 
-/// A keyword with its name in the schema, such as `maximum`.
+/// A keyword with its name in reports, such as `maximum`.
 #[derive(Drop)]
 pub(crate) struct Placed {
     pub(crate) keyword: Keyword,

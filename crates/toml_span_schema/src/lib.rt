@@ -11,7 +11,8 @@
 //!   `guide.subschemas_inside(alloc, outer, step, value)` return the `Subschemas` that apply to a value. `keys_of`,
 //!   `is_required`, `kinds_of` and `notes_of` return what these say about the value.
 //!
-//! A report's code is `schema-` and the keyword in lower case, such as `schema-min-length`.
+//! A report's code is `schema-` and the keyword in lower case, such as `schema-min-length`. The code is `schema-false`
+//! for the schema `false`, and `schema-additional-properties` for each unknown key.
 #![tactic(auto)]
 
 mod applied;

@@ -36,7 +36,8 @@ impl<'v, 'de> Part<'v, 'de> {
         }
     }
 
-    /// Returns whether this is an entry of a table or, if `entries` is false, whether it is an element of an array.
+    /// Returns whether this is an entry of a table if `entries` is set, and otherwise whether this is an element of an
+    /// array.
     pub(crate) fn is_of(&self, entries: bool) -> bool
         ensures { result ≡ same_bool (is_entry (part_of self.now)) entries }
     {
@@ -44,8 +45,8 @@ impl<'v, 'de> Part<'v, 'de> {
     }
 }
 
-/// Lists the values directly inside a value: the elements of an array in order, the entries of a table in the order of
-/// their names. The list is empty for other values. Fails if an allocation fails.
+/// Lists the values directly inside a value: the elements of an array in order, or the entries of a table in the order
+/// of their names. The list is empty for other values and for taken values.
 pub(crate) fn parts<'v, 'de>(
     alloc: Global,
     value: &'v Value<'de>,
@@ -64,7 +65,7 @@ pub(crate) fn parts<'v, 'de>(
     Ok(list)
 }
 
-/// Appends the elements of an array to `list`, with their positions. Fails if an allocation fails.
+/// Appends the elements of an array to `list`, with their positions.
 fn push_elements<'v, 'de>(
     list: &mut Vec<Part<'v, 'de>>,
     array: &'v [Value<'de>],
@@ -78,7 +79,7 @@ fn push_elements<'v, 'de>(
     Ok(())
 }
 
-/// Appends the entries of a table to `list`, with their keys. Fails if an allocation fails.
+/// Appends the entries of a table to `list`, with their keys.
 fn push_members<'v, 'de>(
     list: &mut Vec<Part<'v, 'de>>,
     table: &'v Table<'de>,

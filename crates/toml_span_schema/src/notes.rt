@@ -6,7 +6,7 @@ use json::Value as Json;
 use std::alloc::{AllocError, Global};
 use toml_span_tree::Value;
 
-/// The notes for people in a schema object: the keywords that describe values, and those that list them.
+/// The notes for people in a schema: the keywords that describe values or list the allowed values.
 #[derive(Drop)]
 pub struct Notes {
     /// The string in `title`.
@@ -15,14 +15,13 @@ pub struct Notes {
     pub description: Option<String>,
     /// The value of `default`. `None` if there is none, or if the value is or contains `null`.
     pub default: Option<Value<'static>>,
-    /// The values of `enum`, and then that of `const`, without those that are or contain `null`.
+    /// The values of `enum`, then the value of `const`, without values that are or contain `null`.
     pub values: Vec<Value<'static>>,
     /// Whether the schema says `deprecated: true`.
     pub is_deprecated: bool,
 }
 
-/// Returns a copy of the string in the member `name`, or `None` if the member is missing or not a string. Fails if an
-/// allocation fails.
+/// Returns a copy of the string in the member `name`, or `None` if the member is missing or not a string.
 fn text_in(alloc: Global, value: &Json<'_>, name: &str) -> Result<Option<String>, AllocError> {
     match value.get(name).and_then(|member| member.as_str()) {
         Some(text) => Ok(Some(String::from_str(alloc, text)?)),
@@ -30,7 +29,7 @@ fn text_in(alloc: Global, value: &Json<'_>, name: &str) -> Result<Option<String>
     }
 }
 
-/// Appends a JSON value, converted to a TOML value, unless it is or contains `null`. Fails if an allocation fails.
+/// Appends a JSON value as a TOML value, unless the JSON value is or contains `null`.
 fn push_value(
     alloc: Global,
     value: &Json<'_>,
@@ -42,7 +41,7 @@ fn push_value(
     Ok(())
 }
 
-/// Returns the notes in a schema. Fails if an allocation fails.
+/// Returns the notes in a schema.
 pub(crate) fn read_notes(alloc: Global, value: &Json<'_>) -> Result<Notes, AllocError> {
     let mut values = Vec::new(alloc);
     if let Some(Json::Array(items)) = value.get("enum") {

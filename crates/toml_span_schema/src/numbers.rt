@@ -1,8 +1,8 @@
 //! Exact decimal numbers, and the numbers of TOML.
 ghost use Rattle.std.specs.Prelude.{◌<◌, ◌^◌};
 
-/// A number `0.d1d2d3.. * 10^(point - 2^65)`, or its negative. The first and the last of the digits are not 0, so each
-/// number has one form. Zero has no digits, the point 0 and no sign.
+/// A number `0.d1d2d3.. * 10^(point - 2^65)`, or its negative. The first and the last digit are not 0, so each number
+/// has one form. Zero has no digits, the point 0 and no sign.
 #[derive(Drop)]
 pub(crate) struct Decimal {
     pub(crate) negative: bool,

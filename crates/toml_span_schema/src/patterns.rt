@@ -14,8 +14,8 @@ use regex::{Error, Regex};
 use regex_syntax::ErrorKind;
 use std::alloc::{AllocError, Global};
 
-/// Appends the translation of an escape, which is a backslash followed by the character `c`. In ECMA-262, `\d` and `\w`
-/// match only ASCII. Fails if an allocation fails.
+/// Appends the translation of the escape that consists of a backslash and the character `c`. In ECMA-262, `\d` and `\w`
+/// match only ASCII.
 fn push_escape(out: &mut String, c: char) -> Result<(), AllocError>
     ensures { OnOk result (string_bytes out.new ≡ string_bytes out.old ++ escape c) }
 {
@@ -32,7 +32,7 @@ fn push_escape(out: &mut String, c: char) -> Result<(), AllocError>
     }
 }
 
-/// Appends a backslash and a character. Fails if an allocation fails.
+/// Appends a backslash and a character.
 fn push_escaped(out: &mut String, c: char) -> Result<(), AllocError>
     ensures { OnOk result (string_bytes out.new ≡ string_bytes out.old ++ (92 ∷ [] ++ encode_utf8 c)) }
 {
@@ -40,15 +40,15 @@ fn push_escaped(out: &mut String, c: char) -> Result<(), AllocError>
     out.push(c)
 }
 
-/// Returns whether a character inside brackets needs a backslash to mean itself.
+/// Returns whether a character must be escaped inside brackets.
 fn is_special(c: char) -> bool
     ensures { result ≡ (c == 91 || c == 38 || c == 126) }
 {
     c == '[' || c == '&' || c == '~'
 }
 
-/// Appends the translation of a character without a backslash before it: nothing for a backslash, which belongs to the
-/// next character. `in_class` says whether the character is inside brackets. Fails if an allocation fails.
+/// Appends the translation of a character that is not escaped. Appends nothing for a backslash, which escapes the next
+/// character. `in_class` says whether the character is inside brackets.
 fn push_plain(out: &mut String, in_class: bool, c: char) -> Result<(), AllocError>
     ensures { OnOk result (string_bytes out.new ≡ string_bytes out.old ++ plain_character in_class c) }
 {
@@ -61,8 +61,8 @@ fn push_plain(out: &mut String, in_class: bool, c: char) -> Result<(), AllocErro
     }
 }
 
-/// Appends the translation of a character. `escaped` says whether a backslash escapes it, `in_class` whether it is
-/// inside brackets. Fails if an allocation fails.
+/// Appends the translation of a character. `escaped` says whether the character is escaped, and `in_class` whether the
+/// character is inside brackets.
 fn push_character(
     out: &mut String,
     escaped: bool,
@@ -78,7 +78,7 @@ fn push_character(
     }
 }
 
-/// Returns whether the text after the character `c` is inside brackets. `escaped` says whether a backslash escapes `c`,
+/// Returns whether the text after the character `c` is inside brackets. `escaped` says whether `c` is escaped, and
 /// `in_class` whether `c` is inside brackets.
 fn in_class_after(escaped: bool, in_class: bool, c: char) -> bool
     ensures { result ≡ in_class_after escaped in_class c }
@@ -94,23 +94,22 @@ fn in_class_after(escaped: bool, in_class: bool, c: char) -> bool
     }
 }
 
-/// Returns whether a character is a backslash that escapes the next character. `escaped` says whether the character is
-/// escaped itself.
+/// Returns whether a character is a backslash that escapes the next character. `escaped` says whether the character
+/// itself is escaped.
 fn escapes_next(escaped: bool, c: char) -> bool
     ensures { result ≡ (not escaped && c == 92) }
 {
     !escaped && c == '\\'
 }
 
-/// If `escaped` is set, appends the backslash that ends a regular expression; otherwise, appends nothing. Fails if an
-/// allocation fails.
+/// Appends a backslash if `escaped` is set, because the regular expression then ends with a backslash.
 fn push_end(out: &mut String, escaped: bool) -> Result<(), AllocError>
     ensures { OnOk result (string_bytes out.new ≡ string_bytes out.old ++ (if escaped then 92 ∷ [] else [])) }
 {
     if escaped { out.push('\\') } else { Ok(()) }
 }
 
-/// Returns the translation of a regular expression. Fails if an allocation fails.
+/// Translates a regular expression of ECMA-262 to the syntax of the crate `regex`. The result need not be valid.
 fn translated(alloc: Global, pattern: &str) -> Result<String, AllocError>
     ensures { IfOk result (λ t. string_bytes t ≡ translated pattern.now) }
 {
@@ -127,7 +126,7 @@ fn translated(alloc: Global, pattern: &str) -> Result<String, AllocError>
 }
 
 /// Compiles a regular expression of ECMA-262. `place` is a JSON pointer to its keyword in the schema. Fails with
-/// `Pattern` if the expression is malformed, too large or not supported, and with `OutOfMemory` if an allocation fails.
+/// `Pattern` if the expression is malformed, too large or not supported.
 pub(crate) fn compile_pattern(
     alloc: Global,
     pattern: &str,
@@ -143,8 +142,8 @@ pub(crate) fn compile_pattern(
     }
 }
 
-/// Returns whether the crate `regex` accepts a text as a regular expression. Fails with `TooLong` if the expression is
-/// too large or nests too deep, and with `OutOfMemory` if an allocation fails.
+/// Returns whether `text` is a regular expression of the crate `regex`. Fails with `TooLong` if the expression is too
+/// large or nests too deep.
 fn is_read(alloc: Global, text: &str) -> Result<bool, CheckError>
     ensures { IfOk result (λ r. r ≡ is_some (read default_config (chars text.now))) }
 {
@@ -162,8 +161,8 @@ fn is_read(alloc: Global, text: &str) -> Result<bool, CheckError>
     }
 }
 
-/// Returns whether a text is a regular expression of ECMA-262 that `compile_pattern` supports. Fails with `TooLong` if
-/// the expression is too large or nests too deep, and with `OutOfMemory` if an allocation fails.
+/// Returns whether `text` is a regular expression of ECMA-262 that `compile_pattern` supports. Fails with `TooLong` if
+/// the expression is too large or nests too deep.
 pub(crate) fn is_pattern(alloc: Global, text: &str) -> Result<bool, CheckError>
     ensures { IfOk result (λ r. r ≡ is_pattern text.now) }
 {

@@ -3,7 +3,7 @@
 use json::Value as Json;
 use std::alloc::{AllocError, Global};
 
-/// Appends a slash and a name to a pointer, with `~` and `/` in the name escaped. Fails if an allocation fails.
+/// Appends a slash and `name` to a pointer, with each `~` and `/` in `name` escaped.
 pub(crate) fn push_step(pointer: &mut String, name: &str) -> Result<(), AllocError> {
     pointer.push('/')?;
     for c in name.chars() {
@@ -16,21 +16,19 @@ pub(crate) fn push_step(pointer: &mut String, name: &str) -> Result<(), AllocErr
     Ok(())
 }
 
-/// Returns a pointer followed by a slash and a name, with `~` and `/` in the name escaped. Fails if an allocation
-/// fails.
+/// Returns `pointer` followed by a slash and `name`, with each `~` and `/` in `name` escaped.
 pub(crate) fn with_step(alloc: Global, pointer: &str, name: &str) -> Result<String, AllocError> {
     let mut made = String::from_str(alloc, pointer)?;
     push_step(&mut made, name)?;
     Ok(made)
 }
 
-/// Returns a pointer followed by a slash and a position. Fails if an allocation fails.
+/// Returns `pointer` followed by a slash and the position `at`.
 pub(crate) fn with_position(alloc: Global, pointer: &str, at: usize) -> Result<String, AllocError> {
     format!(in alloc; "{pointer}/{at}")
 }
 
-/// Returns the name that a step of a pointer spells, with the escapes `~0` and `~1` decoded. Fails if an allocation
-/// fails.
+/// Returns a step of a pointer with the escapes `~0` and `~1` decoded.
 fn unescaped(alloc: Global, step: &str) -> Result<String, AllocError> {
     let mut name = String::new(alloc);
     let mut after_tilde = false;
@@ -46,7 +44,7 @@ fn unescaped(alloc: Global, step: &str) -> Result<String, AllocError> {
     Ok(name)
 }
 
-/// Returns the position that a step of a pointer spells, or `None` if the step is not an unsigned integer of 64 bits.
+/// Returns the position that a step of a pointer spells, or `None` if the step is not a 64-bit unsigned integer.
 fn position_in(step: &str) -> Option<usize> {
     match fast_float::parse_u64(step.as_bytes()) {
         Ok(at) => Some(at as usize),
@@ -54,7 +52,7 @@ fn position_in(step: &str) -> Option<usize> {
     }
 }
 
-/// Returns the element or member that a step of a pointer names in a value, if it exists. Fails if an allocation fails.
+/// Returns the element or member that a step of a pointer names in a value, or `None` if there is none.
 fn inside<'v, 'a>(
     alloc: Global,
     value: &'v Json<'a>,
@@ -70,7 +68,7 @@ fn inside<'v, 'a>(
     Ok(value.get(name.as_str()))
 }
 
-/// Returns the value that the steps of a pointer name inside `value`, if it exists. Fails if an allocation fails.
+/// Returns the value that the steps of a pointer name inside `value`, or `None` if there is none.
 fn walked<'v, 'a>(
     alloc: Global,
     value: &'v Json<'a>,
@@ -85,7 +83,7 @@ fn walked<'v, 'a>(
     }
 }
 
-/// Returns the value that a pointer names inside `root`, if it exists. Fails if an allocation fails.
+/// Returns the value that a pointer names inside `root`, or `None` if there is none.
 pub(crate) fn pointed<'v, 'a>(
     alloc: Global,
     root: &'v Json<'a>,

@@ -19,7 +19,7 @@ use toml_span_lex::key::Key;
 use toml_span_lex::span::Span;
 use toml_span_tree::{FloatText, Value, ValueInner};
 
-/// More levels than a constant of `enum` or `const` can have, since schemas nest at most 128 levels deep.
+/// More levels than a value in a schema can have, since schemas nest at most 128 levels deep.
 pub(crate) const DEPTH: usize = 130;
 
 /// Compiles the schema `site`. Fails with `Keyword` if the schema is neither an object nor a boolean, otherwise like
@@ -48,11 +48,11 @@ pub(crate) fn read_node<'v, 'a>(
         keywords,
         place: String::from_str(alloc, site.pointer.as_str())?,
         title,
-        deprecated: is_true(site.value, "deprecated"),
+        deprecated: !site.beside && is_true(site.value, "deprecated"),
     })
 }
 
-/// Appends a keyword with its name and, for messages, its value in the schema `site`. Fails if an allocation fails.
+/// Appends a keyword with its name and, for messages, its value in the schema `site`.
 fn put(
     site: &Site<'_, '_>,
     keywords: &mut Vec<Placed>,
@@ -72,7 +72,7 @@ fn put(
     Ok(())
 }
 
-/// Appends a value as messages show it. For an array or object, appends only its type. Fails if an allocation fails.
+/// Appends a value as messages show it. For an array or object, appends only its type.
 fn push_shown(out: &mut String, value: &Json<'_>) -> Result<(), AllocError> {
     match value {
         Json::Number(text) => out.push_str(*text),
@@ -89,8 +89,7 @@ fn push_shown(out: &mut String, value: &Json<'_>) -> Result<(), AllocError> {
     }
 }
 
-/// Returns the value of a keyword as messages show it: for an array, its elements after one another, separated by
-/// commas. Fails if an allocation fails.
+/// Returns the value of a keyword as messages show it, with the elements of an array separated by commas.
 fn shown(alloc: Global, value: &Json<'_>) -> Result<String, AllocError> {
     let mut out = String::new(alloc);
     match value {
@@ -107,8 +106,8 @@ fn shown(alloc: Global, value: &Json<'_>) -> Result<String, AllocError> {
     Ok(out)
 }
 
-/// Returns the error that the keyword `name`, or the schema `site` itself if `name` is empty, has a wrong value.
-/// `expected` says which values are right. Fails if an allocation fails.
+/// Returns the error that the keyword `name` of the schema `site` has a wrong value or, if `name` is empty, that `site`
+/// itself is wrong. `expected` says which values are right.
 fn refused(
     alloc: Global,
     site: &Site<'_, '_>,
@@ -123,10 +122,9 @@ fn refused(
     Ok(SchemaError::Keyword { place, expected })
 }
 
-/// Reads the keywords of the schema object `site`, and appends them to `keywords`. Fails with `Keyword` if a keyword
-/// has a wrong value, with `Pattern` if a regular expression can't be compiled, with `Reference` or `Missing` if a
-/// reference can't be resolved, with `TooLarge` if compiling takes too many steps, and with `OutOfMemory` if an
-/// allocation fails.
+/// Reads the keywords of the schema object `site`. Up to draft 7, `$ref` hides the other keywords. Fails with `Keyword`
+/// if a keyword has a wrong value, and with `Pattern` if a regular expression can't be compiled. Fails with `Reference`
+/// or `Missing` if a reference can't be resolved, and with `TooLarge` if compiling takes too many steps.
 fn read_object<'v, 'a>(
     compiler: &mut Compiler<'v, 'a>,
     site: &Site<'v, 'a>,
@@ -163,8 +161,7 @@ fn read_object<'v, 'a>(
     read_dependencies(compiler, site, keywords)
 }
 
-/// Returns the keyword which requires that a value is valid against the subschema at index `schema`. Fails if an
-/// allocation fails.
+/// Returns the keyword that requires a value to be valid against the subschema at index `schema`.
 fn all_of(alloc: Global, schema: usize) -> Result<Keyword, AllocError> {
     let mut list = Vec::new(alloc);
     list.push(schema)?;
@@ -172,7 +169,7 @@ fn all_of(alloc: Global, schema: usize) -> Result<Keyword, AllocError> {
 }
 
 /// Reads `unevaluatedItems` and `unevaluatedProperties`. The other keywords of the schema become a compiled schema of
-/// their own, to which these two refer. Fails like `Compiler::node`.
+/// their own. Fails like `Compiler::node`.
 fn read_unevaluated<'v, 'a>(
     compiler: &mut Compiler<'v, 'a>,
     site: &Site<'v, 'a>,
@@ -209,7 +206,7 @@ fn read_dynamic<'v, 'a>(
     Ok(())
 }
 
-/// Adds the type with this name to `types`; `null` adds nothing. Returns false for an unknown name.
+/// Adds the type called `name` to `types`. Adds nothing for `null`. Returns false for an unknown name.
 fn add_type(types: &mut Types, name: &str, draft: Draft) -> bool {
     match name {
         "null" => {}
@@ -227,8 +224,8 @@ fn add_type(types: &mut Types, name: &str, draft: Draft) -> bool {
     true
 }
 
-/// Returns the types that the value of `type` names, or `None` if it is neither the name of a type nor an array of such
-/// names.
+/// Returns the types that `value`, the value of `type`, names. Returns `None` if `value` is neither the name of a type
+/// nor an array of names of types.
 fn types_in(value: &Json<'_>, draft: Draft) -> Option<Types> {
     let mut types = Types {
         boolean: false,
@@ -257,8 +254,7 @@ fn types_in(value: &Json<'_>, draft: Draft) -> Option<Types> {
     Some(types)
 }
 
-/// Reads `type`, `enum` and `const`. Fails with `Keyword` if `type` or `enum` has a wrong value, and with `OutOfMemory`
-/// if an allocation fails.
+/// Reads `type`, `enum` and, from draft 6 on, `const`. Fails with `Keyword` if `type` or `enum` has a wrong value.
 fn read_any<'v, 'a>(
     compiler: &mut Compiler<'v, 'a>,
     site: &Site<'v, 'a>,
@@ -287,7 +283,7 @@ fn read_any<'v, 'a>(
     Ok(())
 }
 
-/// Returns the keyword for the value of `const`. Fails if an allocation fails.
+/// Returns the keyword for the value of `const`.
 fn only_constant(alloc: Global, value: &Json<'_>) -> Result<Keyword, SchemaError> {
     let mut values = BTreeSet::new(alloc);
     let mut words = Vec::new(alloc);
@@ -295,7 +291,7 @@ fn only_constant(alloc: Global, value: &Json<'_>) -> Result<Keyword, SchemaError
     Ok(Keyword::Enum(values, words))
 }
 
-/// Returns the keyword for the values of `enum`. Fails if an allocation fails.
+/// Returns the keyword for the values of `enum`.
 fn constants(alloc: Global, list: &[Json<'_>]) -> Result<Keyword, SchemaError> {
     let mut values = BTreeSet::new(alloc);
     let mut words = Vec::new(alloc);
@@ -305,8 +301,8 @@ fn constants(alloc: Global, list: &[Json<'_>]) -> Result<Keyword, SchemaError> {
     Ok(Keyword::Enum(values, words))
 }
 
-/// Adds the canonical text of a constant to `values`, unless the constant is or contains `null`. Adds a constant that
-/// is a string also to `words`. Fails if an allocation fails.
+/// Adds the canonical text of a constant to `values`, unless the constant is or contains `null`. If the constant is a
+/// string, adds it to `words` too.
 fn add_constant(
     alloc: Global,
     values: &mut BTreeSet<String>,
@@ -323,7 +319,7 @@ fn add_constant(
 }
 
 /// Converts a JSON value to a TOML value. Returns `None` if the value is or contains `null`, or nests `depth` or more
-/// levels deep. Fails if an allocation fails.
+/// levels deep.
 #[cycle(constant)]
 pub(crate) fn constant(
     alloc: Global,
@@ -350,8 +346,7 @@ pub(crate) fn constant(
     Ok(Some(Value::new(inner)))
 }
 
-/// Converts a JSON number to a TOML integer if it is written as a signed integer of 64 bits, otherwise to a float.
-/// Fails if an allocation fails.
+/// Converts a JSON number to a TOML integer if the number is written as a 64-bit signed integer, otherwise to a float.
 fn number(alloc: Global, text: &str) -> Result<ValueInner<'static>, AllocError> {
     match fast_float::parse_i64(text.as_bytes()) {
         Ok(integer) => Ok(ValueInner::Integer(integer)),
@@ -359,8 +354,8 @@ fn number(alloc: Global, text: &str) -> Result<ValueInner<'static>, AllocError> 
     }
 }
 
-/// Converts the elements of a JSON array to TOML values. Returns `None` if one of them is or contains `null`, or nests
-/// `depth` or more levels deep. Fails if an allocation fails.
+/// Converts the elements of a JSON array to TOML values. Returns `None` if an element is or contains `null`, or nests
+/// `depth` or more levels deep.
 #[cycle(constant)]
 fn elements(
     alloc: Global,
@@ -377,8 +372,8 @@ fn elements(
     Ok(Some(list))
 }
 
-/// Converts the members of a JSON object to entries of a TOML table. Returns `None` if the value of one of them is or
-/// contains `null`, or nests `depth` or more levels deep. Fails if an allocation fails.
+/// Converts the members of a JSON object to entries of a TOML table. Returns `None` if a value is or contains `null`,
+/// or nests `depth` or more levels deep.
 #[cycle(constant)]
 fn entries(
     alloc: Global,
@@ -400,7 +395,7 @@ fn entries(
 }
 
 /// Returns the number in the member `name`, or `None` if the member is missing. Fails with `Keyword` if the member is
-/// not a number, and with `OutOfMemory` if an allocation fails.
+/// not a number.
 fn limit<'v, 'a>(
     compiler: &Compiler<'v, 'a>,
     site: &Site<'v, 'a>,
@@ -413,9 +408,9 @@ fn limit<'v, 'a>(
     }
 }
 
-/// Returns the limit for numbers in the member `name`, and whether the limit itself is excluded, or `None` if the
-/// member is missing. In draft 4, the boolean member `excluding` says whether the limit is excluded. In later drafts,
-/// it is never excluded. Fails like `limit`.
+/// Returns the limit for numbers in the member `name`, and whether the limit itself is excluded. In draft 4, the member
+/// `excluding` says whether the limit is excluded; in later drafts, the limit is included. Returns `None` if the member
+/// `name` is missing. Fails like `limit`.
 fn read_limit<'v, 'a>(
     compiler: &Compiler<'v, 'a>,
     site: &Site<'v, 'a>,
@@ -456,7 +451,7 @@ fn read_numbers<'v, 'a>(
     read_divisor(compiler, site, keywords)
 }
 
-/// Appends the keyword which requires that a number is greater than `least`. Fails if an allocation fails.
+/// Appends the keyword that requires a number to be greater than `least`.
 fn put_above(
     site: &Site<'_, '_>,
     keywords: &mut Vec<Placed>,
@@ -466,7 +461,7 @@ fn put_above(
     put(site, keywords, "exclusiveMinimum", keyword)
 }
 
-/// Appends the keyword which requires that a number is less than `most`. Fails if an allocation fails.
+/// Appends the keyword that requires a number to be less than `most`.
 fn put_below(
     site: &Site<'_, '_>,
     keywords: &mut Vec<Placed>,
@@ -476,8 +471,8 @@ fn put_below(
     put(site, keywords, "exclusiveMaximum", keyword)
 }
 
-/// Reads `multipleOf`. Fails with `Keyword` if it is not a number above 0 with at most 18 digits, and with
-/// `OutOfMemory` if an allocation fails.
+/// Reads `multipleOf`. Fails with `Keyword` if its value is not a number above 0 with at most 18 digits, not counting
+/// zeros at the start and at the end.
 fn read_divisor<'v, 'a>(
     compiler: &Compiler<'v, 'a>,
     site: &Site<'v, 'a>,
@@ -499,9 +494,8 @@ fn read_divisor<'v, 'a>(
     }
 }
 
-/// Returns the count in the member `name`, or `None` if the member is missing. A count that does not fit into 64 bits
-/// becomes 2^64 - 1. Fails with `Keyword` if the member is not an integer of at least 0, and with `OutOfMemory` if an
-/// allocation fails.
+/// Returns the count in the member `name`, or `None` if the member is missing. A count above `u64::MAX` becomes
+/// `u64::MAX`. Fails with `Keyword` if the member is not an integer of at least 0.
 fn count<'v, 'a>(
     compiler: &Compiler<'v, 'a>,
     site: &Site<'v, 'a>,
@@ -549,7 +543,7 @@ fn read_counts<'v, 'a>(
     Ok(())
 }
 
-/// Reads `uniqueItems` and `pattern`. Fails like `compile_pattern`.
+/// Reads `uniqueItems` and `pattern`, and ignores values of wrong types. Fails like `compile_pattern`.
 fn read_others<'v, 'a>(
     compiler: &mut Compiler<'v, 'a>,
     site: &Site<'v, 'a>,
@@ -566,7 +560,7 @@ fn read_others<'v, 'a>(
     Ok(())
 }
 
-/// Reads `format`. Fails if an allocation fails.
+/// Reads `format`, and ignores unknown formats.
 fn read_format<'v, 'a>(
     compiler: &mut Compiler<'v, 'a>,
     site: &Site<'v, 'a>,
@@ -592,8 +586,8 @@ fn read_format<'v, 'a>(
     Ok(())
 }
 
-/// Compiles a regular expression and adds it to the compiler's list. Returns its position in the list. `place` is a
-/// JSON pointer to its keyword in the schema, for errors. Fails like `compile_pattern`.
+/// Compiles a regular expression, and appends it to `compiler.patterns`. Returns its position there. `place` is a JSON
+/// pointer to its keyword, for errors. Fails like `compile_pattern`.
 fn add_pattern<'v, 'a>(
     compiler: &mut Compiler<'v, 'a>,
     pattern: &str,
@@ -605,7 +599,7 @@ fn add_pattern<'v, 'a>(
     Ok(at)
 }
 
-/// Returns the strings in an array, or `None` if the value is not an array of strings. Fails if an allocation fails.
+/// Returns the strings in an array, or `None` if the value is not an array of strings.
 fn texts(alloc: Global, value: &Json<'_>) -> Result<Option<Vec<String>>, AllocError> {
     let Json::Array(items) = value else {
         return Ok(None);
@@ -620,8 +614,8 @@ fn texts(alloc: Global, value: &Json<'_>) -> Result<Option<Vec<String>>, AllocEr
     Ok(Some(list))
 }
 
-/// Reads `required` and `dependentRequired`. Fails with `Keyword` if one has a wrong value, and with `OutOfMemory` if
-/// an allocation fails.
+/// Reads `required` and, from draft 2019-09 on, `dependentRequired`. Fails with `Keyword` if one has a wrong value.
+/// Ignores a `dependentRequired` that is not an object.
 fn read_names<'v, 'a>(
     compiler: &mut Compiler<'v, 'a>,
     site: &Site<'v, 'a>,
@@ -656,9 +650,8 @@ fn read_names<'v, 'a>(
     Ok(())
 }
 
-/// Returns the indices of the compiled forms of the schemas in the array that is the value of the keyword `name`, or
-/// `None` if the schema `site` does not have that keyword. Fails with `Keyword` if the value is not an array, otherwise
-/// like `Compiler::node`.
+/// Returns the indices of the compiled forms of the schemas in the array `name` of the schema `site`. Returns `None` if
+/// the member `name` is missing. Fails with `Keyword` if the member is not an array, otherwise like `Compiler::node`.
 fn list<'v, 'a>(
     compiler: &mut Compiler<'v, 'a>,
     site: &Site<'v, 'a>,
@@ -677,8 +670,8 @@ fn list<'v, 'a>(
     Ok(Some(nodes))
 }
 
-/// Returns the index of the compiled form of the schema that is the value of the keyword `name`, or `None` if the
-/// schema `site` does not have that keyword. Fails like `Compiler::node`.
+/// Returns the index of the compiled form of the schema in the member `name` of the schema `site`. Returns `None` if
+/// the member is missing. Fails like `Compiler::node`.
 fn one<'v, 'a>(
     compiler: &mut Compiler<'v, 'a>,
     site: &Site<'v, 'a>,
@@ -690,7 +683,7 @@ fn one<'v, 'a>(
     }
 }
 
-/// Reads `allOf`, `anyOf`, `oneOf`, `not` and `if`. Fails like `list`.
+/// Reads `allOf`, `anyOf`, `oneOf`, `not` and, from draft 7 on, `if` with `then` and `else`. Fails like `list`.
 fn read_combined<'v, 'a>(
     compiler: &mut Compiler<'v, 'a>,
     site: &Site<'v, 'a>,
@@ -724,7 +717,8 @@ fn read_combined<'v, 'a>(
     Ok(())
 }
 
-/// Reads `prefixItems`, `items` and `additionalItems`. Fails like `list`.
+/// Reads `prefixItems` and `items` of draft 2020-12, or `items` and `additionalItems` of earlier drafts. Fails like
+/// `list`.
 fn read_items<'v, 'a>(
     compiler: &mut Compiler<'v, 'a>,
     site: &Site<'v, 'a>,
@@ -732,16 +726,23 @@ fn read_items<'v, 'a>(
 ) -> Result<(), SchemaError> {
     let is_list = matches!(site.value.get("items"), Some(Json::Array(_)));
     let (prefix, rest) = if site.dialect.draft >= Draft::Of2020 {
-        ("prefixItems", "items")
+        (Some("prefixItems"), "items")
     } else if is_list {
-        ("items", "additionalItems")
+        (Some("items"), "additionalItems")
     } else {
-        ("", "items")
+        (None, "items")
     };
-    let first = list(compiler, site, prefix)?;
+    let first = match prefix {
+        Some(prefix) => list(compiler, site, prefix)?,
+        None => None,
+    };
     let others = one(compiler, site, rest)?;
     if first.is_some() || others.is_some() {
-        let name = if others.is_some() { rest } else { prefix };
+        let name = if others.is_some() {
+            rest
+        } else {
+            prefix.unwrap_or(rest)
+        };
         put(
             site,
             keywords,
@@ -752,7 +753,8 @@ fn read_items<'v, 'a>(
     Ok(())
 }
 
-/// Reads `contains`, `minContains` and `maxContains`. Fails like `Compiler::node` and `count`.
+/// Reads `contains` from draft 6 on, with `minContains` and `maxContains` from draft 2019-09 on. Fails like
+/// `Compiler::node` and `count`.
 fn read_contains<'v, 'a>(
     compiler: &mut Compiler<'v, 'a>,
     site: &Site<'v, 'a>,
@@ -790,9 +792,9 @@ fn read_contains<'v, 'a>(
     Ok(())
 }
 
-/// Returns the names in the object that is the value of the keyword `name`, each with the index of the compiled form of
-/// its schema. The list is empty if the schema `site` does not have that keyword. Fails with `Keyword` if the value is
-/// not an object, otherwise like `Compiler::node`.
+/// Returns the names in the object `name` of the schema `site`, each with the index of the compiled form of its schema.
+/// The list is empty if the member `name` is missing. Fails with `Keyword` if the member is not an object, otherwise
+/// like `Compiler::node`.
 fn members<'v, 'a>(
     compiler: &mut Compiler<'v, 'a>,
     site: &Site<'v, 'a>,
@@ -813,8 +815,7 @@ fn members<'v, 'a>(
     Ok(list)
 }
 
-/// Returns a map from names to the indices of their schemas. If a name occurs twice, its last schema counts. Fails if
-/// an allocation fails.
+/// Returns a map from names to the indices of their schemas. If a name occurs twice, its last schema counts.
 fn by_name(
     alloc: Global,
     members: Vec<(String, usize)>,
@@ -827,8 +828,8 @@ fn by_name(
     Ok(map)
 }
 
-/// Reads `properties`, `patternProperties`, `additionalProperties` and `propertyNames`. Fails like `members` and
-/// `compile_pattern`.
+/// Reads `properties`, `patternProperties`, `additionalProperties` and, from draft 6 on, `propertyNames`. Fails like
+/// `members` and `compile_pattern`.
 fn read_properties<'v, 'a>(
     compiler: &mut Compiler<'v, 'a>,
     site: &Site<'v, 'a>,
@@ -868,7 +869,7 @@ fn read_properties<'v, 'a>(
     Ok(())
 }
 
-/// Reads `dependentSchemas`, or `dependencies` of earlier drafts. Fails like `members`.
+/// Reads `dependentSchemas`, or `dependencies` before draft 2019-09. Fails like `members`.
 fn read_dependencies<'v, 'a>(
     compiler: &mut Compiler<'v, 'a>,
     site: &Site<'v, 'a>,
@@ -885,8 +886,8 @@ fn read_dependencies<'v, 'a>(
     Ok(())
 }
 
-/// Reads `dependencies`. A member whose value is an array of strings names required keys; any other value is a
-/// subschema. Ignores a `dependencies` that is not an object. Fails like `Compiler::node`.
+/// Reads `dependencies`. A member that is an array of strings names required keys; any other member is a subschema.
+/// Ignores a `dependencies` that is not an object. Fails like `Compiler::node`.
 fn read_old_dependencies<'v, 'a>(
     compiler: &mut Compiler<'v, 'a>,
     site: &Site<'v, 'a>,

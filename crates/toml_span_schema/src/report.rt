@@ -16,8 +16,7 @@ impl Schema {
     ///
     /// Each report marks a value that a keyword does not allow, or a key that is not allowed. Its notes name the
     /// keyword's place in the schema and the schema's title. Fails with `TooDeep` if the value nests too deep, with
-    /// `TooLong` if the check takes too many steps, and with `OutOfMemory` if an allocation fails. The limit on nesting
-    /// changes no answer: with a larger limit, the same values are valid.
+    /// `TooLong` if the check takes too many steps, and with `OutOfMemory` if an allocation fails.
     #[tactic(auto, using(crate::proofs::Monotone::valid_more))]
     pub fn check(&self, alloc: Global, value: &Value<'_>) -> Result<Vec<Report>, CheckError>
         ensures verdict { IfOk result (λ reports.
@@ -56,7 +55,7 @@ impl Schema {
     }
 }
 
-/// Returns the byte offset at which the first label of a report begins, or 0 if it has none.
+/// Returns the byte offset at which the first label of a report begins, or 0 if the report has no label.
 pub(crate) fn start_of(report: &Report) -> usize {
     match report.labels.first() {
         Some(label) => label.span.start,

@@ -11,11 +11,11 @@ use std::alloc::Global;
 /// A compiled JSON Schema, with which any number of values can be checked.
 #[derive(Drop)]
 pub struct Schema {
-    /// The whole schema, compiled, followed by the subschemas that it reaches.
+    /// The compiled schema of the whole document, followed by the subschemas that it reaches.
     pub(crate) nodes: Vec<Node>,
     pub(crate) patterns: Vec<Regex>,
-    /// The maximum number of subschemas that nest in a check. For each of 1,000 levels of a value, this is one more
-    /// than the number of schemas in the longest chain of references and combinations.
+    /// The maximum depth of subschemas in a check: 1,000 levels of a value, times one more than the number of schemas
+    /// in the longest chain of references and combinations.
     pub(crate) depth: usize,
     /// Whether `format` is checked.
     pub(crate) formats: bool,
@@ -27,7 +27,7 @@ impl Schema {
 
     /// Compiles a schema from its JSON text. `others` are the documents that references in the schema may name; nothing
     /// is fetched. Fails if a text is not JSON, if the schema is wrong or too large, if a reference names a document
-    /// that is not in `others`, or if an allocation fails: see `SchemaError`.
+    /// that is not in `others`, or if an allocation fails. `SchemaError` has the details.
     pub fn from_json(
         alloc: Global,
         text: &str,
@@ -41,8 +41,7 @@ impl Schema {
         Ok(schema)
     }
 
-    /// Sets whether `check` reports strings that don't have the format that the keyword `format` names. By default it
-    /// does.
+    /// Sets whether `check` reports strings that violate the keyword `format`. By default, `check` reports them.
     pub fn set_formats(&mut self, on: bool) {
         self.formats = on;
     }

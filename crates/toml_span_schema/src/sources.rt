@@ -3,11 +3,11 @@
 use crate::error::SchemaError;
 use crate::pointers::{pointed, with_position, with_step};
 use json::Value as Json;
-use percent_encoding::percent_decode;
+use percent_encoding::{DecodeError, percent_decode};
 use std::alloc::{AllocError, Global};
 use url::{ParseError, Url};
 
-/// The maximum number of schemas to visit in a document, and the maximum number to compile.
+/// Compiling fails if a document has this many schemas, or if this many schemas must be compiled.
 pub(crate) const MOST: usize = 1_000_000;
 
 /// A version of JSON Schema.
@@ -35,8 +35,7 @@ pub(crate) struct Source<'v, 'a> {
     pub(crate) value: &'v Json<'a>,
 }
 
-/// A schema with an address of its own. The schema is at the JSON pointer `pointer` in the document at the position
-/// `source`.
+/// A schema with an address of its own, at the JSON pointer `pointer` in the document at the position `source`.
 #[derive(Drop)]
 pub(crate) struct Resource {
     pub(crate) source: usize,
@@ -71,7 +70,7 @@ pub(crate) struct Sources<'v, 'a> {
     pub(crate) anchors: Vec<Anchor>,
 }
 
-/// A value that may be a schema, its place, and the position of the resource around it.
+/// A value that may be a schema, its JSON pointer, and the position of the resource around it.
 #[derive(Drop)]
 struct Visit<'v, 'a> {
     value: &'v Json<'a>,
@@ -88,7 +87,7 @@ enum Shape {
     Members,
 }
 
-/// Returns where the subschemas of this keyword are, or `None` if it has none.
+/// Returns where the subschemas of a keyword are, or `None` if the keyword has none.
 fn shape_of(keyword: &str) -> Option<Shape> {
     match keyword {
         "additionalItems"
@@ -117,7 +116,7 @@ fn shape_of(keyword: &str) -> Option<Shape> {
     }
 }
 
-/// Returns the draft that the value of `$schema` names, or `None` if it names no known draft.
+/// Returns the draft that `address`, the value of `$schema`, names, or `None` if the draft is unknown.
 fn draft_of(address: &str) -> Option<Draft> {
     match address.strip_suffix("#").unwrap_or(address) {
         "http://json-schema.org/draft-04/schema" => Some(Draft::Four),
@@ -129,8 +128,8 @@ fn draft_of(address: &str) -> Option<Draft> {
     }
 }
 
-/// Resolves a reference against the address `base`. Fails with `Reference` if the result is not a URL (`place` is the
-/// JSON pointer for this error), and with `OutOfMemory` if an allocation fails.
+/// Resolves a reference against the address `base`. Fails with `Reference` at the JSON pointer `place` if the result is
+/// not a URL.
 pub(crate) fn joined(
     alloc: Global,
     base: &str,
@@ -158,11 +157,11 @@ pub(crate) fn without_fragment(address: &str) -> &str {
     }
 }
 
-/// Returns a fragment with its percent escapes decoded, or unchanged if the result is not UTF-8. Fails if an allocation
-/// fails.
+/// Returns a fragment with its percent escapes decoded, or unchanged if the result is not UTF-8.
 pub(crate) fn decoded(alloc: Global, fragment: &str) -> Result<String, AllocError> {
     match percent_decode(fragment.as_bytes()).decode_utf8(alloc) {
         Ok(text) => String::from_str(alloc, text.as_ref()),
+        Err(DecodeError::OutOfMemory) => Err(AllocError),
         Err(_) => String::from_str(alloc, fragment),
     }
 }
@@ -173,9 +172,8 @@ pub(crate) fn text_of<'v, 'a>(value: &'v Json<'a>, name: &str) -> Option<&'a str
 }
 
 impl<'v, 'a> Sources<'v, 'a> {
-    /// Finds the resources and anchors of the documents. Fails with `Reference` if an address is not a URL, with
-    /// `Missing` if a dialect is unknown, with `TooLarge` if there are too many schemas, and with `OutOfMemory` if an
-    /// allocation fails.
+    /// Finds the resources and anchors of the documents. Fails with `Reference` if an `$id` can't be resolved to a URL,
+    /// with `Missing` if a dialect is unknown, and with `TooLarge` if there are too many schemas.
     pub(crate) fn new(
         alloc: Global,
         documents: Vec<Source<'v, 'a>>,
@@ -192,8 +190,7 @@ impl<'v, 'a> Sources<'v, 'a> {
     }
 
     /// Returns the dialect that a schema names by `$schema`, or `other` if the schema names none. Fails with `Missing`
-    /// if the schema names neither a known draft nor one of the documents, and with `OutOfMemory` if an allocation
-    /// fails.
+    /// if the schema names neither a known draft nor one of the documents.
     fn dialect(
         &self,
         alloc: Global,
@@ -254,7 +251,8 @@ impl<'v, 'a> Sources<'v, 'a> {
         Err(SchemaError::TooLarge)
     }
 
-    /// Reads the address and the anchors of a schema, and appends its subschemas to `visits`. Fails like `new`.
+    /// Adds the resource and the anchors that a schema defines to `self`, and its subschemas to `visits`. Fails like
+    /// `new`.
     fn visit(
         &mut self,
         alloc: Global,
@@ -274,8 +272,8 @@ impl<'v, 'a> Sources<'v, 'a> {
         Ok(())
     }
 
-    /// Adds a resource if a schema has an address of its own. Returns the position of the resource to which the schema
-    /// belongs. Fails like `new`.
+    /// Adds a resource if a schema has an address of its own. Returns the position of the innermost resource that
+    /// contains the schema. Fails like `new`.
     fn read_address(&mut self, alloc: Global, visit: &Visit<'v, 'a>) -> Result<usize, SchemaError> {
         let Some(outer) = self.resources.get(visit.resource) else {
             return Ok(visit.resource);
@@ -301,8 +299,8 @@ impl<'v, 'a> Sources<'v, 'a> {
         Ok(made)
     }
 
-    /// Adds the anchors that a schema defines. `resource` is the position of the resource to which the schema belongs.
-    /// Fails if an allocation fails.
+    /// Adds the anchors that a schema defines. `resource` is the position of the innermost resource that contains the
+    /// schema.
     fn read_anchors(
         &mut self,
         alloc: Global,
@@ -340,8 +338,8 @@ impl<'v, 'a> Sources<'v, 'a> {
         Ok(())
     }
 
-    /// Returns the position of the innermost resource that contains the place `pointer` of the document `source`, or 0
-    /// if none does.
+    /// Returns the position of the innermost resource that contains the place `pointer` of the document `source`.
+    /// Returns 0 if no resource contains the place.
     pub(crate) fn resource_at(&self, source: usize, pointer: &str) -> usize {
         let mut best = 0;
         let mut length = 0;
@@ -358,7 +356,7 @@ impl<'v, 'a> Sources<'v, 'a> {
         best
     }
 
-    /// Returns the value at the place `pointer` of the document `source`, if it exists. Fails if an allocation fails.
+    /// Returns the value at the place `pointer` of the document `source`, or `None` if there is none.
     pub(crate) fn value_at(
         &self,
         alloc: Global,
@@ -371,7 +369,7 @@ impl<'v, 'a> Sources<'v, 'a> {
         }
     }
 
-    /// Returns the resource with this address, if there is one.
+    /// Returns the resource with this address, or `None` if there is none.
     pub(crate) fn find(&self, address: &str) -> Option<&Resource> {
         for resource in self.resources.as_slice() {
             if resource.address.as_str() == address {
@@ -381,7 +379,7 @@ impl<'v, 'a> Sources<'v, 'a> {
         None
     }
 
-    /// Returns the position of the anchor with this name in a resource, if there is one.
+    /// Returns the position of the anchor with this name in a resource, or `None` if there is none.
     pub(crate) fn anchor(&self, resource: &Resource, name: &str) -> Option<usize> {
         for (i, anchor) in self.anchors.as_slice().iter().enumerate() {
             if anchor.is_in(resource) && anchor.name.as_str() == name {
@@ -392,13 +390,13 @@ impl<'v, 'a> Sources<'v, 'a> {
     }
 }
 
-/// Returns whether the member `name` of a value is `true`. Returns false if the member is missing.
+/// Returns whether the member `name` of a value is `true`.
 pub(crate) fn is_true(value: &Json<'_>, name: &str) -> bool {
     value.get(name).and_then(|member| member.as_bool()) == Some(true)
 }
 
-/// Returns the name of the anchor that `keyword` defines if its value is `text`, or `None` if it defines no anchor in
-/// this draft.
+/// Returns the name of the anchor that `keyword` with the value `text` defines in this draft, or `None` if it defines
+/// no anchor.
 fn anchor_in<'t>(draft: Draft, keyword: &str, text: &'t str) -> Option<&'t str> {
     match keyword {
         "id" if draft == Draft::Four => text.strip_prefix("#"),
@@ -409,7 +407,7 @@ fn anchor_in<'t>(draft: Draft, keyword: &str, text: &'t str) -> Option<&'t str> 
     }
 }
 
-/// Returns whether the place `pointer` is inside `outer`, or equal to it.
+/// Returns whether the place `pointer` is `outer` or inside `outer`.
 fn is_within(pointer: &str, outer: &str) -> bool {
     match pointer.strip_prefix(outer) {
         Some(rest) => rest.is_empty() || rest.starts_with("/"),
@@ -417,8 +415,8 @@ fn is_within(pointer: &str, outer: &str) -> bool {
     }
 }
 
-/// Returns the dialect that a metaschema describes. If the metaschema names no known draft, the draft is that of
-/// `other`.
+/// Returns the dialect that a metaschema describes. The draft is that of `other` if the metaschema names no known
+/// draft.
 fn own_dialect(metaschema: &Json<'_>, other: Dialect) -> Dialect {
     let draft = text_of_any(metaschema, "$schema")
         .and_then(|address| draft_of(address))
@@ -437,8 +435,8 @@ fn own_dialect(metaschema: &Json<'_>, other: Dialect) -> Dialect {
     Dialect { draft, validates }
 }
 
-/// Returns the string in the member `name`, or `None` if the member is missing or not a string. Unlike the result of
-/// `text_of`, the string borrows from `value`.
+/// Returns the string in the member `name`, or `None` if the member is missing or not a string. The string borrows from
+/// `value`, unlike the result of `text_of`.
 fn text_of_any<'t>(value: &'t Json<'_>, name: &str) -> Option<&'t str> {
     match value.get(name) {
         Some(member) => member.as_str(),
@@ -446,8 +444,8 @@ fn text_of_any<'t>(value: &'t Json<'_>, name: &str) -> Option<&'t str> {
     }
 }
 
-/// Appends the subschemas in `value`, the value of a keyword at the place `pointer`, to `visits`. `resource` is the
-/// position of the resource around them. Fails if an allocation fails.
+/// Appends the subschemas in `value`, a keyword's value at the JSON pointer `pointer`, to `visits`. Appends nothing for
+/// a boolean. `resource` is the position of the resource around the subschemas.
 fn push_visits<'v, 'a>(
     alloc: Global,
     value: &'v Json<'a>,

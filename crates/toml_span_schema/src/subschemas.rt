@@ -17,14 +17,13 @@ use toml_span_tree::{Value, ValueInner};
 /// The maximum number of subschemas that apply to one value. Further subschemas are left out.
 const MOST: usize = 1_000;
 
-/// The maximum number of subschemas that are tried to choose among alternatives. After that, all alternatives are
-/// chosen.
+/// The maximum number of subschemas that are tried to choose among alternatives. Later alternatives are all chosen.
 const MOST_TRIED: u64 = 100_000;
 
 /// Subschemas that apply to a value.
 #[derive(Drop)]
 pub struct Subschemas {
-    /// Their indices in `Schema::nodes`, each once.
+    /// The indices of the subschemas in `Schema::nodes`, each once.
     nodes: Vec<usize>,
 }
 
@@ -55,7 +54,7 @@ impl Kinds {
         *self == Kinds::NONE
     }
 
-    /// Adds the kinds that the keyword `type` allows. A number may be an integer or a float.
+    /// Adds the kinds that the keyword `type` names. A number may be an integer or a float.
     fn add_types(&mut self, types: &Types) {
         self.string |= types.string;
         self.integer |= types.integer | types.number;
@@ -77,7 +76,7 @@ impl Kinds {
         }
     }
 
-    /// Adds the kinds that `type` allows, a table for `required` and `Keyword::Properties`, or an array for
+    /// Adds the kinds that `type` names, a table for `required` and `Keyword::Properties`, or an array for
     /// `Keyword::Items`. Adds nothing for other keywords.
     fn add_keyword(&mut self, keyword: &Keyword) {
         match keyword {
@@ -89,8 +88,7 @@ impl Kinds {
     }
 }
 
-/// Adds the index of a compiled schema, unless it is in the list, or the list has `MOST` indices. Fails if an
-/// allocation fails.
+/// Appends the index of a compiled schema, unless `nodes` has it or has `MOST` indices.
 fn push_node(nodes: &mut Vec<usize>, node: usize) -> Result<(), AllocError> {
     if nodes.len() < MOST && !nodes.contains(&node) {
         nodes.push(node)?;
@@ -98,7 +96,7 @@ fn push_node(nodes: &mut Vec<usize>, node: usize) -> Result<(), AllocError> {
     Ok(())
 }
 
-/// Adds the indices of compiled schemas, as `push_node` does. Fails if an allocation fails.
+/// Appends the indices of compiled schemas, as `push_node` does.
 fn push_all(nodes: &mut Vec<usize>, more: &[usize]) -> Result<(), AllocError> {
     for node in more {
         push_node(nodes, *node)?;
@@ -106,7 +104,7 @@ fn push_all(nodes: &mut Vec<usize>, more: &[usize]) -> Result<(), AllocError> {
     Ok(())
 }
 
-/// Returns the verdict `found`, or true if it could not be found within the limits. Fails if an allocation failed.
+/// Returns the verdict in `found`, or true if the check exceeded the limits.
 fn verdict(found: Result<bool, CheckError>) -> Result<bool, AllocError> {
     match found {
         Ok(holds) => Ok(holds),
@@ -117,9 +115,11 @@ fn verdict(found: Result<bool, CheckError>) -> Result<bool, AllocError> {
 
 impl Guide {
     /// Returns the subschemas that apply to the root of a document. `value` is the root as far as it can be read, or
-    /// `None` if it can't be read. An alternative of `anyOf` or `oneOf` applies if the value may become valid against
-    /// it by having more keys. If the value fits no alternative, or there is no value, all alternatives apply. Fails if
-    /// an allocation fails.
+    /// `None` if it can't be read.
+    ///
+    /// An alternative of `anyOf` or `oneOf` applies if its `type`, `enum`, `const` and subschemas that are `false`
+    /// allow the value and, at any depth, the values of its keys. Other keywords are not checked. If the value fits no
+    /// alternative, or there is no value, all alternatives apply. Fails if an allocation fails.
     pub fn subschemas(
         &self,
         alloc: Global,
@@ -130,9 +130,9 @@ impl Guide {
         self.schema.closed(alloc, nodes, value)
     }
 
-    /// Returns the subschemas that apply to the entry or element to which `step` leads from a table or array. `outer`
-    /// are the subschemas that apply to the table or array, and `value` is the value of the entry, or the element, or
-    /// `None` if there is none yet. Alternatives apply as for `subschemas`. Fails if an allocation fails.
+    /// Returns the subschemas that apply to an entry or element. `outer` are the subschemas of the table or array
+    /// around it, and `step` leads from there to the entry or element. `value` is the value of the entry, or the
+    /// element, or `None` if there is none yet. Alternatives apply as for `subschemas`. Fails if an allocation fails.
     pub fn subschemas_inside(
         &self,
         alloc: Global,
@@ -177,7 +177,7 @@ impl Guide {
         Ok(notes)
     }
 
-    /// Returns the keys that `properties` in the subschemas names, sorted, each once. Fails if an allocation fails.
+    /// Returns the keys in `properties` of the subschemas, sorted, each once. Fails if an allocation fails.
     pub fn keys_of<'s>(
         &'s self,
         alloc: Global,
@@ -198,7 +198,7 @@ impl Guide {
         Ok(keys)
     }
 
-    /// Returns whether `required` in one of the subschemas lists a key.
+    /// Returns whether `required` in one of the subschemas lists the key `name`.
     pub fn is_required(&self, subschemas: &Subschemas, name: &str) -> bool {
         for node in subschemas.nodes.as_slice() {
             for placed in self.schema.keywords(*node) {
@@ -212,9 +212,9 @@ impl Guide {
         false
     }
 
-    /// Returns the kinds of values that `type` in the subschemas allows or, if none of them has `type`, those that
-    /// their other keywords are about: tables for keywords such as `required`, arrays for keywords such as `items`, and
-    /// the kinds of the values of `enum` and `const`.
+    /// Returns the kinds of values that `type` in the subschemas names. If `type` names none, returns the kinds that
+    /// other keywords are about: tables for `required`, `properties`, `patternProperties` and `additionalProperties`,
+    /// arrays for `items` and `prefixItems`, and the kinds of the values of `enum` and `const`.
     pub fn kinds_of(&self, subschemas: &Subschemas) -> Kinds {
         let mut named = Kinds::NONE;
         let mut implied = Kinds::NONE;
@@ -236,8 +236,8 @@ impl Guide {
 }
 
 impl Schema {
-    /// Returns the schemas at the indices `nodes` and those that they apply to the same value, such as those in
-    /// `allOf`, up to `MOST` schemas. `value` is as for `subschemas`. Fails if an allocation fails.
+    /// Returns the schemas at the indices `nodes`, and the schemas that they apply to the same value, such as those in
+    /// `allOf`. Returns at most `MOST` schemas. `value` is as for `subschemas`.
     fn closed(
         &self,
         alloc: Global,
@@ -256,8 +256,8 @@ impl Schema {
         Ok(Subschemas { nodes })
     }
 
-    /// Adds the indices of the subschemas that a keyword applies to the value itself. Takes 1 from `left` for each
-    /// subschema that is tried. Fails if an allocation fails.
+    /// Appends the indices of the subschemas that a keyword applies to the value itself. Takes 1 from `left` for each
+    /// subschema that is tried.
     fn push_applied(
         &self,
         alloc: Global,
@@ -287,9 +287,9 @@ impl Schema {
         }
     }
 
-    /// Adds the index of `then` if the value is valid against the schema at index `condition` or this can't be decided
-    /// within the limits, and otherwise the index of `else`. Adds both if there is no value. `branches` are the indices
-    /// of `then` and `else`. Fails if an allocation fails.
+    /// Appends the index of `then` if the value is valid against the schema at index `condition`, otherwise the index
+    /// of `else`. Appends that of `then` if the check exceeds the limits, and both if there is no value. `branches` are
+    /// the indices of `then` and `else`.
     fn push_branches(
         &self,
         alloc: Global,
@@ -316,8 +316,8 @@ impl Schema {
         Ok(())
     }
 
-    /// Returns the indices in `list` of the schemas that `may_fit` accepts for the value. Returns all indices if it
-    /// accepts none, or if there is no value. Fails if an allocation fails.
+    /// Returns the indices in `list` of the schemas that `may_fit` accepts for the value, or for which it exceeds the
+    /// limits. Returns the whole `list` if there are no such schemas, or if there is no value.
     fn alternatives(
         &self,
         alloc: Global,
@@ -340,8 +340,8 @@ impl Schema {
         Ok(fitting)
     }
 
-    /// Adds the indices of the subschemas that keywords of the subschemas `outer` apply to an entry or element, except
-    /// those of `unevaluatedProperties` and `unevaluatedItems`. Fails if an allocation fails.
+    /// Appends the indices of the subschemas that `schemas_for` returns for an entry or element and each keyword of the
+    /// schemas `outer`.
     fn push_inside(
         &self,
         alloc: Global,
@@ -358,8 +358,8 @@ impl Schema {
         Ok(())
     }
 
-    /// Adds the indices of `unevaluatedProperties` in the subschemas `outer` or, if the step is a position, those of
-    /// `unevaluatedItems`. Fails if an allocation fails.
+    /// Appends the indices of the subschemas of `unevaluatedProperties` in the schemas `outer` or, if `step` is a
+    /// position, of `unevaluatedItems`.
     fn push_unevaluated(
         &self,
         outer: &Subschemas,
@@ -382,9 +382,9 @@ impl Schema {
         Ok(())
     }
 
-    /// Returns whether a value may become valid against the schema at index `node` by having more keys. Checks only
-    /// `type`, `enum`, `const` and subschemas that are `false`, for the value itself and for the values of its keys, at
-    /// any depth. Fails like `is_valid`.
+    /// Returns whether a value may become valid against the schema at index `node` by having more keys, except that
+    /// `enum` and `const` compare the value as it is. Checks only `type`, `enum`, `const` and subschemas that are
+    /// `false`, for the value and for the values of its keys at any depth. Fails like `is_valid`.
     #[cycle(fit)]
     fn may_fit(
         &self,
@@ -406,8 +406,8 @@ impl Schema {
         Ok(true)
     }
 
-    /// Returns whether a keyword may allow a value once the value has more keys. Returns true for keywords that
-    /// `may_fit` does not check. Fails like `is_valid`.
+    /// Returns whether a keyword may allow a value that gets more keys. Returns true for keywords that `may_fit` does
+    /// not check. Fails like `is_valid`.
     #[cycle(fit)]
     fn keyword_may_fit(
         &self,

@@ -16,10 +16,11 @@ use crate::schema::Schema;
 use std::alloc::Global;
 use toml_span_tree::{Value, ValueInner};
 
-/// The maximum number of subschemas that are applied in one check.
+/// The maximum number of subschemas that are applied to decide whether a value is valid. As many can be applied again
+/// to explain why it is not, or to warn of deprecated values.
 pub(crate) const MOST_STEPS: u64 = 50_000_000;
 
-/// Subtracts 1 from `left`, the number of steps left. Fails with `TooLong` if no step is left.
+/// Takes 1 from `left`, the number of steps left. Fails with `TooLong` if `left` is 0.
 pub(crate) fn spend(left: &mut u64) -> Result<(), CheckError> {
     if *left == 0 {
         return Err(CheckError::TooLong);
@@ -36,10 +37,10 @@ fn is_between(least: u64, count: u64, most: u64) -> bool
 }
 
 impl Schema {
-    /// Returns whether a value is valid against the schema at index `node`. Fails with `TooDeep` if more than `depth`
-    /// subschemas are nested or a value nests too deep to be compared, with `TooLong` if more than `left` subschemas
-    /// are applied or a keyword takes too many steps, and with `OutOfMemory` if an allocation fails. Each subschema
-    /// that is applied takes 1 from `left`.
+    /// Returns whether a value is valid against the schema at index `node`. Takes 1 from `left` for each subschema that
+    /// is applied. Fails with `TooDeep` if more than `depth` subschemas nest, or if a value to compare nests too deep
+    /// or contains a taken value. Fails with `TooLong` if more than `left` subschemas are applied, or if a keyword
+    /// takes too many steps.
     #[cycle(valid)]
     pub(crate) fn is_valid(
         &self,
@@ -98,8 +99,8 @@ impl Schema {
         }
     }
 
-    /// Returns whether a keyword allows a value. The keyword must apply no subschema to the value itself, only to
-    /// values inside it. Fails like `is_valid`.
+    /// Returns whether a keyword allows a value. The keyword must not be one that `allows` decides itself, such as
+    /// `allOf` or `if`. Fails like `is_valid`.
     #[cycle(valid)]
     #[tactic(auto, unfolding(crate::specs::Valid::allows_inside))]
     fn allows_inside(
@@ -135,9 +136,9 @@ impl Schema {
         }
     }
 
-    /// Returns whether `unevaluatedProperties` (or, if `entries` is false, `unevaluatedItems`) allows all entries and
-    /// elements of a value. `nodes.0` is the index of a schema with the other keywords, and `nodes.1` that of the
-    /// keyword's subschema. Fails like `is_valid`.
+    /// Returns whether `unevaluatedProperties`, or `unevaluatedItems` if `entries` is false, allows all entries and
+    /// elements of a value. `nodes.0` is the index of the schema with the other keywords, and `nodes.1` the index of
+    /// the keyword's subschema. Fails like `is_valid`.
     #[cycle(valid)]
     fn allows_unevaluated(
         &self,
@@ -196,7 +197,7 @@ impl Schema {
         Ok(false)
     }
 
-    /// Returns against how many of the subschemas at the indices `nodes` a value is valid. Fails like `is_valid`.
+    /// Returns the number of subschemas at the indices `nodes` against which a value is valid. Fails like `is_valid`.
     #[cycle(valid)]
     fn count_allowing(
         &self,
@@ -238,8 +239,8 @@ impl Schema {
         }
     }
 
-    /// Returns whether a value is valid against the subschema of each pair in `entries` whose key the value has. Fails
-    /// like `is_valid`.
+    /// Returns whether a value is valid against the subschema of each pair in `entries` whose key is in the value.
+    /// Fails like `is_valid`.
     #[cycle(valid)]
     fn dependents_allow(
         &self,
@@ -281,7 +282,7 @@ impl Schema {
         Ok(true)
     }
 
-    /// Returns how many of `values` are valid against the subschema at index `node`. Fails like `is_valid`.
+    /// Returns the number of `values` that are valid against the subschema at index `node`. Fails like `is_valid`.
     #[cycle(valid)]
     fn count_allowed(
         &self,
@@ -303,8 +304,8 @@ impl Schema {
         Ok(count)
     }
 
-    /// Returns whether an array has from `least` to `most` elements that are valid against the subschema at index
-    /// `node`. A value that is not an array counts as such an array. Fails like `is_valid`.
+    /// Returns whether `least` to `most` elements of an array are valid against the subschema at index `node`. Returns
+    /// true for a value that is not an array. Fails like `is_valid`.
     #[cycle(valid)]
     fn contains_enough(
         &self,
@@ -331,8 +332,8 @@ impl Schema {
         }
     }
 
-    /// Returns whether each entry or element in `parts` is valid against the subschemas that `Keyword::Items` or
-    /// `Keyword::Properties` applies to it. Fails like `is_valid`.
+    /// Returns whether each entry or element in `parts` is valid against the subschemas that `keyword` applies to it.
+    /// Fails like `is_valid`.
     #[cycle(valid)]
     fn allows_parts(
         &self,
@@ -354,8 +355,8 @@ impl Schema {
         Ok(true)
     }
 
-    /// Returns whether `unevaluatedProperties` (or, if `entries` is false, `unevaluatedItems`) allows all of `parts`,
-    /// which are entries or elements of a value. `nodes` as for `allows_unevaluated`. Fails like `is_valid`.
+    /// Returns whether `unevaluatedProperties`, or `unevaluatedItems` if `entries` is false, allows all entries or
+    /// elements in `parts`. `nodes` are as for `allows_unevaluated`. Fails like `is_valid`.
     #[cycle(valid)]
     fn allows_rest(
         &self,
@@ -379,10 +380,9 @@ impl Schema {
         Ok(true)
     }
 
-    /// Returns whether `unevaluatedProperties` (or, if `entries` is false, `unevaluatedItems`) allows `part`, an entry
-    /// or element of a value: the schema at index `nodes.0`, which has the other keywords, evaluates `part`, or `part`
-    /// is valid against the schema at index `nodes.1`. `unevaluatedProperties` allows all elements, and
-    /// `unevaluatedItems` all entries. Fails like `is_valid`.
+    /// Returns whether `unevaluatedProperties`, or `unevaluatedItems` if `entries` is false, allows an entry or element
+    /// `part`. If the keyword is about `part`, the schema at index `nodes.0` must evaluate `part`, or `part` must be
+    /// valid against the schema at index `nodes.1`. Fails like `is_valid`.
     #[cycle(valid)]
     pub(crate) fn allows_part(
         &self,
@@ -406,8 +406,8 @@ impl Schema {
         self.is_valid(alloc, left, depth, nodes.1, part.value())
     }
 
-    /// Returns whether the schema at index `node` evaluates `part`, an entry or element of a value, so that `part` does
-    /// not count as unevaluated. The value must be valid against the schema. Fails like `is_valid`.
+    /// Returns whether the schema at index `node` evaluates `part`, an entry or element of `value`, so that `part` does
+    /// not count as unevaluated. `value` must be valid against the schema. Fails like `is_valid`.
     #[cycle(valid)]
     fn evaluates(
         &self,
@@ -433,8 +433,8 @@ impl Schema {
         Ok(false)
     }
 
-    /// Returns whether a keyword evaluates `part`, an entry or element of a value, so that `part` does not count as
-    /// unevaluated. The keyword must allow the value. Fails like `is_valid`.
+    /// Returns whether a keyword evaluates `part`, an entry or element of `value`, so that `part` does not count as
+    /// unevaluated. The keyword must allow `value`. Fails like `is_valid`.
     #[cycle(valid)]
     #[tactic(auto, unfolding(crate::specs::Valid::reaches))]
     fn reaches(
@@ -499,8 +499,8 @@ impl Schema {
         }
     }
 
-    /// Returns whether a value is valid against the subschema at index `node`, and the subschema evaluates `part`, an
-    /// entry or element of the value. Fails like `is_valid`.
+    /// Returns whether `value` is valid against the subschema at index `node`, and this subschema evaluates `part`, an
+    /// entry or element of `value`. Fails like `is_valid`.
     #[cycle(valid)]
     fn covers(
         &self,
@@ -520,8 +520,8 @@ impl Schema {
         self.evaluates(alloc, left, depth, node, value, part)
     }
 
-    /// Returns whether a value is valid against the subschema at index `node`, and the subschema evaluates `part`, an
-    /// entry or element of the value. Returns false if `node` is `None`. Fails like `is_valid`.
+    /// Returns whether the subschema at index `node` covers `part`, as `covers` does. Returns false if `node` is
+    /// `None`. Fails like `is_valid`.
     #[cycle(valid)]
     fn maybe_covers(
         &self,
@@ -542,8 +542,8 @@ impl Schema {
         }
     }
 
-    /// Returns whether one of the subschemas at the indices `nodes`, against which the value is valid, evaluates
-    /// `part`, an entry or element of the value. Fails like `is_valid`.
+    /// Returns whether one of the subschemas at the indices `nodes` covers `part`, as `covers` does. Fails like
+    /// `is_valid`.
     #[cycle(valid)]
     fn any_covers(
         &self,
@@ -565,8 +565,8 @@ impl Schema {
         Ok(false)
     }
 
-    /// Returns whether `entries` has a pair whose key the value has, and whose subschema allows the value and evaluates
-    /// `part`, an entry or element of the value. Fails like `is_valid`.
+    /// Returns whether the subschema of any pair in `entries` whose key is in `value` covers `part`, as `covers` does.
+    /// Fails like `is_valid`.
     #[cycle(valid)]
     fn dependents_cover(
         &self,

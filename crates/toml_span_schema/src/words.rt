@@ -4,7 +4,7 @@ use crate::keyword::{Keyword, Placed};
 use std::alloc::{AllocError, Global};
 use toml_span_tree::Value;
 
-/// Returns the code of a keyword's reports: `schema-min-length` for `minLength`. Fails if an allocation fails.
+/// Returns the code of a keyword's reports, such as `schema-min-length` for `minLength`. The code leaves out a `$`.
 pub(crate) fn code_of(alloc: Global, name: &str) -> Result<String, AllocError> {
     let mut code = String::from_str(alloc, "schema-")?;
     for c in name.chars() {
@@ -20,7 +20,8 @@ pub(crate) fn code_of(alloc: Global, name: &str) -> Result<String, AllocError> {
     Ok(code)
 }
 
-/// Returns the beginning of the message about a keyword. If `shows_value` returns `false`, this is the whole message.
+/// Returns the beginning of the message about a keyword. The beginning is the whole message if `shows_value` returns
+/// `false`.
 fn start_of(keyword: &Keyword) -> &'static str {
     match keyword {
         Keyword::Type(_) => "expected",
@@ -67,7 +68,7 @@ fn shows_value(keyword: &Keyword) -> bool {
     }
 }
 
-/// Returns the message which says that a keyword does not allow a value. Fails if an allocation fails.
+/// Returns the message that a keyword does not allow a value.
 pub(crate) fn message_of(
     alloc: Global,
     placed: &Placed,
