@@ -6,10 +6,14 @@ vim.lsp.config("toml-span", {
 })
 vim.lsp.enable("toml-span")
 
--- Before version 0.11
+-- From version 0.7 to 0.10
+local client
 vim.api.nvim_create_autocmd("FileType", {
   pattern = "toml",
   callback = function()
-    vim.lsp.start({ name = "toml-span", cmd = { "toml-span", "lsp" } })
+    if not client or vim.lsp.client_is_stopped(client) then
+      client = vim.lsp.start_client({ name = "toml-span", cmd = { "toml-span", "lsp" } })
+    end
+    vim.lsp.buf_attach_client(0, client)
   end,
 })

@@ -6,18 +6,17 @@ use crate::places::array_at;
 use std::alloc::{AllocError, Global};
 use toml_span_read::{Section, Val, ValKind};
 
-/// The indentation of an element on a line of its own, relative to the line of the array.
+/// The indentation of the elements, in addition to that of the array's line.
 const INDENT: &str = "    ";
 
-/// Returns the spaces and tabs at the start of the line that contains an offset.
+/// Returns the spaces and tabs at the start of the line that contains the offset `at`, up to `at`.
 fn indent_at(text: &str, at: usize) -> &str {
     let line = part(text, 0, at).split('\n').next_back().unwrap_or("");
     let rest = line.trim_start_matches([' ', '\t']);
     part(line, 0, line.len().saturating_sub(rest.len()))
 }
 
-/// Returns an array of `items` with one element per line. `indent` is the indentation of the line of the array. Fails
-/// if an allocation fails.
+/// Returns an array of `items` with one element per line. `indent` is the indentation of the array's line.
 fn lines_of(
     alloc: Global,
     text: &str,
@@ -39,8 +38,8 @@ fn lines_of(
     Ok(out)
 }
 
-/// Proposes the array at an offset with one element per line. Returns `None` if there is no array at the offset, or if
-/// the array is empty or on several lines. Fails if an allocation fails.
+/// Proposes to write the array at an offset with one element per line. Returns `None` if there is no array at the
+/// offset, or if the array is empty or on several lines.
 pub(crate) fn array_to_lines(
     alloc: Global,
     text: &str,
@@ -61,8 +60,8 @@ pub(crate) fn array_to_lines(
     Ok(Some(Proposal::Array(array.span, lines)))
 }
 
-/// Proposes the array at an offset on one line. Returns `None` if there is no array at the offset, or if the array is
-/// on one line or contains a comment or a string on several lines. Fails if an allocation fails.
+/// Proposes to write the array at an offset on one line. Returns `None` if there is no array at the offset, if the
+/// array is on one line, or if `flat` returns `None` for it.
 pub(crate) fn array_to_line(
     alloc: Global,
     text: &str,

@@ -10,21 +10,21 @@ pub enum Conversion {
     /// kept.
     InlineToSection,
     /// A section becomes an inline table on one line, in the section of the table around it. If that table has no
-    /// section, the inline table is written below a new header or, in the root, before the first header. There must be
-    /// no comments in the section, except above and after the header, and no strings on several lines.
+    /// section, the inline table is written below a new header or, in the root, before the first header. The section
+    /// must have no comments, except above the header and on its line, and no strings on several lines.
     SectionToInline,
     /// The dotted keys of a table, `a.b = 1` and `a.c = 2`, become a section: `[a]`, `b = 1` and `c = 2`. The new
     /// section is written after the section that contained the keys.
     DottedToSection,
     /// An array on one line is written with one element per line.
     ArrayToLines,
-    /// An array on several lines is written on one line. There must be no comments in it, and no strings on several
+    /// An array on several lines is written on one line. The array must contain no comments, and no strings on several
     /// lines.
     ArrayToLine,
 }
 
-/// The place that names the table to convert: its form and span, as in `TablePlace`. If the span names several tables
-/// in this form, `index` is the position of the table among them.
+/// A place that names the table to convert. `form` and `span` are as in `TablePlace`. If several tables have this form
+/// and span, `index` is the table's position among them, from 0.
 #[derive(Clone, Copy)]
 pub(crate) struct Named {
     pub(crate) form: TableForm,

@@ -6,7 +6,7 @@ ghost use Rattle.toml_span_convert.specs.Forms.{IsArrayConverted, IsTableConvert
 use crate::arrays::{array_to_line, array_to_lines};
 use crate::conversions::{Conversion, Proposal};
 use crate::dotted::dotted_to_section;
-use crate::forms::{is_converted, sections_of, with_array};
+use crate::forms::{is_converted, with_array};
 use crate::sections::section_to_inline;
 use crate::tables::inline_to_section;
 use std::alloc::{AllocError, Global};
@@ -14,19 +14,17 @@ use toml_span_edit::validated;
 use toml_span_format::permuted_comments;
 use toml_span_lex::stop::Stop;
 use toml_span_lex::tokenizer::first_place;
+use toml_span_read::Section;
 
-/// Proposes another form for the table or array at a byte offset. Returns `None` if the text can't be read, or if there
-/// is nothing to convert at the offset. Fails if an allocation fails.
+/// Proposes another form for the table or array at a byte offset. Returns `None` if there is nothing to convert at the
+/// offset, or if the conversion is not possible (see `Conversion`).
 fn proposed(
     alloc: Global,
     text: &str,
+    sections: &[Section<'_>],
     conversion: Conversion,
     at: usize,
 ) -> Result<Option<Proposal>, AllocError> {
-    let Some(sections) = sections_of(alloc, text)? else {
-        return Ok(None);
-    };
-    let sections = sections.as_slice();
     let at = at.max(first_place(text));
     match conversion {
         Conversion::InlineToSection => inline_to_section(alloc, text, sections, at),
@@ -37,8 +35,7 @@ fn proposed(
     }
 }
 
-/// Returns the text with a proposed change, or `None` if no table or array has the proposed form in it. Fails if an
-/// allocation fails.
+/// Returns the text with the change of `proposal`, or `None` if `conversion` does not permit this change.
 fn accepted(
     alloc: Global,
     text: &str,
@@ -60,22 +57,25 @@ fn accepted(
     }
 }
 
-/// Returns the document with one table or array written in another form. What is converted is the inline table, dotted
-/// key or array whose assignment contains or touches the byte offset `at`, or the section whose header does. Of nested
-/// arrays, the innermost one at the offset is converted. Inline tables inside other values are not converted.
+/// Returns the document with one table or array written in another form. Converts the inline table, dotted key or array
+/// whose assignment contains or touches the byte offset `at`, or the section whose header (in single brackets) does.
+/// Among nested arrays, converts the innermost one at `at`. Does not convert inline tables inside other values. An
+/// offset in a byte order mark counts as the offset after it. `sections` are the sections of `text`.
 ///
 /// The result has the same keys, values and comments; the comments may be in another order. Returns `None` if the text
-/// is not valid TOML, if there is nothing to convert at the offset, or if the conversion is not possible: the result
-/// would not be valid TOML, a value would change, or a comment would be lost. Fails if an allocation fails.
+/// is not valid TOML, if there is nothing to convert at `at`, or if the conversion is not possible (see `Conversion`).
+/// Also returns `None` if the result would not be valid TOML, or would change a value or lose a comment. If there is
+/// nothing to convert, the text is not read again. Fails if an allocation fails.
 pub fn converted(
     alloc: Global,
     text: &str,
+    sections: &[Section<'_>],
     conversion: Conversion,
     at: usize,
 ) -> Result<Option<String>, AllocError>
     ensures { IfOk result (λ made. IfSome made (λ new. IsConverted conversion text.now (string_bytes new))) }
 {
-    let Some(proposal) = proposed(alloc, text, conversion, at)? else {
+    let Some(proposal) = proposed(alloc, text, sections, conversion, at)? else {
         return Ok(None);
     };
     let Some(new) = accepted(alloc, text, conversion, proposal)? else {

@@ -9,7 +9,7 @@ use toml_span_lex::span::Span;
 use toml_span_places::{TableForm, assignment_lines, section_lines, with_quotes};
 use toml_span_read::{Assignment, DottedKey, Section};
 
-/// Returns whether two dotted keys have more than `count` parts, of which the first `count` are the same.
+/// Returns whether both keys have more than `count` parts and the same first `count` parts.
 fn has_front(key: &DottedKey<'_>, other: &DottedKey<'_>, count: usize) -> bool {
     for index in 0..count {
         match (key.inner.get(index), other.inner.get(index)) {
@@ -20,9 +20,8 @@ fn has_front(key: &DottedKey<'_>, other: &DottedKey<'_>, count: usize) -> bool {
     true
 }
 
-/// Returns how many parts of a dotted key name the table that becomes a section: the parts up to the one at the offset
-/// `at`, without the last part of the key. If the offset is not in the key, this is 1, or 0 if the key has only one
-/// part.
+/// Returns the number of parts, at the start of `key`, that name the table to convert. Counts the parts up to the part
+/// at the offset `at`, but never the last part. If no part is at `at`, returns 1, or 0 for a key of one part.
 fn table_parts(text: &str, key: &DottedKey<'_>, at: usize) -> usize {
     for (index, part) in key.inner.iter().enumerate() {
         if touches(with_quotes(text, part.span), at) {
@@ -35,8 +34,7 @@ fn table_parts(text: &str, key: &DottedKey<'_>, at: usize) -> usize {
     key.inner.len().min(1)
 }
 
-/// Appends the line of an assignment without the first `count` parts of its key, and the line end `end`. Fails if an
-/// allocation fails.
+/// Appends the lines of `assignment`, without the first `count` parts of the key, and with `end` as the last line end.
 fn push_rest(
     out: &mut String,
     text: &str,
@@ -51,9 +49,9 @@ fn push_rest(
     out.push_str(end)
 }
 
-/// Copies the old text up to the end of the section of `line`, except for the assignments whose keys begin with the
-/// first `count` parts of the key of `line`. Appends these assignments to `out`, with their comments but without the
-/// `count` parts. Fails if an allocation fails.
+/// Copies the old text to `writer`, up to the end of the section of `line`. Leaves out the assignments whose keys begin
+/// with the first `count` parts of the key of `line`. Appends these assignments to `out`, with their comments and
+/// without the `count` parts.
 fn move_rest(
     writer: &mut Writer<'_>,
     text: &str,
@@ -77,8 +75,8 @@ fn move_rest(
     writer.copy_to(body_end)
 }
 
-/// Proposes a section for the table that contains the dotted key at an offset, after the section of that key. Returns
-/// `None` if there is no dotted key at the offset. Fails if an allocation fails.
+/// Proposes to write the table of the dotted key at an offset as a section, after the section that contains the key.
+/// Returns `None` if there is no assignment with a dotted key at the offset.
 pub(crate) fn dotted_to_section(
     alloc: Global,
     text: &str,

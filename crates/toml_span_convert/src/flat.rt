@@ -8,7 +8,7 @@ use toml_span_places::literal_span;
 use toml_span_read::{Assignment, Val, ValKind};
 use toml_span_tree::{Value, ValueInner};
 
-/// Returns the span of the literal that spells a value. For a string, this includes the quotes.
+/// Returns the span of a value in the text, including the quotes of a string.
 pub(crate) fn literal_of(text: &str, value: &Val<'_>) -> Span {
     let ValKind::String(string) = &value.kind else {
         return value.span;
@@ -21,13 +21,14 @@ pub(crate) fn literal_of(text: &str, value: &Val<'_>) -> Span {
     span
 }
 
-/// Returns whether there is a comment from `start` to `end`. This part of the text must not contain strings.
+/// Returns whether there is a comment between the offsets `start` and `end`. This part of the text must not contain
+/// strings.
 pub(crate) fn has_comment(text: &str, start: usize, end: usize) -> bool {
     part(text, start, end).contains('#')
 }
 
-/// Appends the array of `items` at `span` on one line. Returns false if that is not possible, as `push_flat` does.
-/// Fails if an allocation fails.
+/// Appends the array at `span`, whose elements are `items`, on one line. Returns false if that is not possible, as
+/// `push_flat` does.
 #[cycle(push_flat)]
 fn push_items(
     text: &str,
@@ -49,8 +50,8 @@ fn push_items(
     Ok(!has_comment(text, from, span.end))
 }
 
-/// Appends the inline table of `pairs` at `span` on one line. Returns false if that is not possible, as `push_flat`
-/// does. Fails if an allocation fails.
+/// Appends the inline table at `span`, whose assignments are `pairs`, on one line. Returns false if that is not
+/// possible, as `push_flat` does.
 #[cycle(push_flat)]
 fn push_pairs(
     text: &str,
@@ -71,8 +72,8 @@ fn push_pairs(
     Ok(!has_comment(text, from, span.end))
 }
 
-/// Appends a pair on one line, such as `a = 1`. Returns false if that is not possible, as `push_flat` does. Fails if an
-/// allocation fails.
+/// Appends an assignment on one line, such as `a = 1`, without comments around the `=`. Returns false if that is not
+/// possible, as `push_flat` does.
 #[cycle(push_flat)]
 pub(crate) fn push_pair(
     text: &str,
@@ -84,8 +85,8 @@ pub(crate) fn push_pair(
     push_flat(text, &pair.value, out)
 }
 
-/// Appends a value on one line. Returns false if that is not possible, because the value contains a comment or a string
-/// on several lines; then only a part of the value may be appended. Fails if an allocation fails.
+/// Appends a value on one line, without comments around the `=` of pairs. Returns false if the value contains any other
+/// comment or a string on several lines. Then `out` may have a part of the value.
 #[cycle(push_flat)]
 pub(crate) fn push_flat(text: &str, value: &Val<'_>, out: &mut String) -> Result<bool, AllocError> {
     match &value.kind {
@@ -99,8 +100,7 @@ pub(crate) fn push_flat(text: &str, value: &Val<'_>, out: &mut String) -> Result
     }
 }
 
-/// Returns a value on one line, or `None` if the value contains a comment or a string on several lines. Fails if an
-/// allocation fails.
+/// Returns a value on one line, as `push_flat` writes it, or `None` if `push_flat` returns false.
 pub(crate) fn flat(
     alloc: Global,
     text: &str,

@@ -17,11 +17,8 @@ use toml_span_tree::nodes::Step;
 
 // ---- tables
 
-/// Returns the sections of a text, or `None` if the text can't be read. Fails if an allocation fails.
-pub(crate) fn sections_of<'t>(
-    alloc: Global,
-    text: &'t str,
-) -> Result<Option<Vec<Section<'t>>>, AllocError>
+/// Returns the sections of a text, or `None` if the text can't be read.
+fn sections_of<'t>(alloc: Global, text: &'t str) -> Result<Option<Vec<Section<'t>>>, AllocError>
     ensures { IfOk result (λ read. IfSome read (λ sections.
         document text.now depth_limit (Ok (map parsed_section sections.items)))) }
 {
@@ -32,8 +29,7 @@ pub(crate) fn sections_of<'t>(
     }
 }
 
-/// Returns the forms in which a text names the table at a path, one for each place that names it, or `None` if the text
-/// can't be read. Fails if an allocation fails.
+/// Returns the form of each place where the text names the table at `path`, or `None` if the text can't be read.
 #[tactic(auto, using(crate::proofs::FormLemmas::forms_found))]
 fn forms_in(
     alloc: Global,
@@ -86,8 +82,8 @@ fn has_header(forms: &[TableForm]) -> bool
     false
 }
 
-/// Returns whether the change from the forms `old` of a table to the forms `new` is that of a conversion. Returns false
-/// for conversions of arrays.
+/// Returns whether the forms `old` and `new` of a table differ as `conversion` requires. Returns false for conversions
+/// of arrays.
 fn changes(conversion: Conversion, old: &[TableForm], new: &[TableForm]) -> bool
     ensures { IsTrue result → spec.Changes conversion old.now new.now }
 {
@@ -99,8 +95,8 @@ fn changes(conversion: Conversion, old: &[TableForm], new: &[TableForm]) -> bool
     }
 }
 
-/// Returns whether the forms in which `text` and `new` name the table at a path differ as `changes` requires. Returns
-/// false if one of the texts can't be read. Fails if an allocation fails.
+/// Returns whether the forms of the table at `path` in `text` and in `new` differ as `changes` requires. Returns false
+/// if one of the texts can't be read.
 #[tactic(auto, using(crate::proofs::FormLemmas::table_converted))]
 fn is_changed(
     alloc: Global,
@@ -120,8 +116,8 @@ fn is_changed(
     Ok(changes(conversion, before.as_slice(), after.as_slice()))
 }
 
-/// Returns whether the forms in which `text` and `new` name the table `named` differ as `changes` requires. Returns
-/// false if `text` has no such table, or if one of the texts can't be read. Fails if an allocation fails.
+/// Returns whether the forms of the table `named` in `text` and in `new` differ as `changes` requires. Returns false if
+/// `text` has no such table, or if one of the texts can't be read.
 pub(crate) fn is_converted(
     alloc: Global,
     conversion: Conversion,
@@ -148,7 +144,7 @@ pub(crate) fn is_converted(
 
 // ---- arrays
 
-/// Returns the bytes of a span, without those after the end of the text.
+/// Returns the bytes in `span`. Ignores the part of `span` after the end of the text.
 fn bytes_of(text: &str, span: Span) -> &[u8]
     ensures { result.now ≡ slice_range text.now span.start span.end }
 {
@@ -161,7 +157,7 @@ fn bytes_of(text: &str, span: Span) -> &[u8]
     }
 }
 
-/// Returns whether there is a line feed among bytes.
+/// Returns whether `bytes` contains a line feed.
 fn has_line_end(bytes: &[u8]) -> bool
     ensures { result ≡ spec.has_line_end bytes.now }
 {
@@ -173,7 +169,7 @@ fn has_line_end(bytes: &[u8]) -> bool
     false
 }
 
-/// Returns whether the literal `old` of an array and its replacement `new` have line feeds as a conversion requires.
+/// Returns whether the old text `old` and the new text `new` of an array have line feeds as `conversion` requires.
 /// Returns false for conversions of tables.
 fn is_laid_out(conversion: Conversion, old: &[u8], new: &[u8]) -> bool
     ensures { IsTrue result → spec.IsLaidOut conversion old.now new.now }
@@ -186,7 +182,7 @@ fn is_laid_out(conversion: Conversion, old: &[u8], new: &[u8]) -> bool
 }
 
 /// Returns the text with the array at `span` replaced by `array`. Returns `None` if one of the two does not begin with
-/// a bracket, or if their line feeds are not as `is_laid_out` requires. Fails if an allocation fails.
+/// a bracket, or if their line feeds are not as `is_laid_out` requires.
 #[tactic(auto, using(crate::proofs::FormLemmas::array_converted))]
 pub(crate) fn with_array(
     alloc: Global,

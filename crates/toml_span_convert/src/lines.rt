@@ -3,13 +3,13 @@ use toml_span_lex::span::Span;
 use toml_span_places::assignment_lines;
 use toml_span_read::Assignment;
 
-/// Returns the part of a text from `start` to `end`. The part is empty if these are not character boundaries of the
-/// text in this order.
+/// Returns the part of a text between two byte offsets. The part is empty if `start` is after `end`, or if one of them
+/// is not a character boundary of the text.
 pub(crate) fn part(text: &str, start: usize, end: usize) -> &str {
     text.get(start..end).unwrap_or("")
 }
 
-/// Returns the part of a text at a span, as `part` does.
+/// Returns the part of a text in a span, as `part` does.
 pub(crate) fn spanned(text: &str, span: Span) -> &str {
     part(text, span.start, span.end)
 }
@@ -19,13 +19,13 @@ pub(crate) fn line_end(text: &str) -> &'static str {
     if text.contains("\r\n") { "\r\n" } else { "\n" }
 }
 
-/// Returns whether a text is empty, apart from a byte order mark, or ends with a blank line.
+/// Returns whether a text is empty, apart from a byte order mark, or ends with two line ends.
 pub(crate) fn ends_blank(text: &str) -> bool {
     let text = text.strip_prefix('\u{feff}').unwrap_or(text);
     text.is_empty() || text.ends_with("\n\n") || text.ends_with("\n\r\n")
 }
 
-/// Returns whether the first line of a text is blank, or the text is empty.
+/// Returns whether a text is empty or its first line is blank.
 pub(crate) fn begins_blank(text: &str) -> bool {
     match text.split_inclusive('\n').next() {
         Some(line) => line.trim().is_empty(),
@@ -58,7 +58,7 @@ pub(crate) fn note<'t>(text: &'t str, assignment: &Assignment<'_>) -> &'t str {
     line.trim_end()
 }
 
-/// Returns the start of the comment lines directly before the offset `to`, or `to` if there are none. Looks at no lines
+/// Returns the start of the comment lines directly before the offset `to`, or `to` if there are none. Ignores lines
 /// before the offset `from`. Both offsets must be starts of lines.
 pub(crate) fn comments_start(text: &str, from: usize, to: usize) -> usize {
     let mut start = from;

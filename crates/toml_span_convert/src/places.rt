@@ -11,7 +11,8 @@ use toml_span_read::{Assignment, DottedKey, Section, Val, ValKind};
 pub(crate) struct Line<'s, 'de> {
     pub(crate) section: &'s Section<'de>,
     pub(crate) assignment: &'s Assignment<'de>,
-    /// The end of the preceding assignment's lines or, if there is none, of the header or the byte order mark.
+    /// The offset after the lines of the preceding assignment or, for the first assignment, the `body_start` of the
+    /// section.
     pub(crate) above: usize,
 }
 
@@ -20,7 +21,8 @@ pub(crate) fn touches(span: Span, at: usize) -> bool {
     span.start <= at && at <= span.end
 }
 
-/// Returns the end of a section's header or, if it has no header, the end of the byte order mark, 0 without one.
+/// Returns the offset after the line of a section's header. Without a header, returns the start of the text, after a
+/// byte order mark.
 pub(crate) fn body_start(text: &str, section: &Section<'_>) -> usize {
     if section.header.as_slice().is_empty() {
         first_place(text)
@@ -29,8 +31,8 @@ pub(crate) fn body_start(text: &str, section: &Section<'_>) -> usize {
     }
 }
 
-/// Returns the assignment at an offset, which may also be at the end of the assignment, or `None` if there is none.
-/// Assignments in inline tables don't count.
+/// Returns the assignment that contains or touches an offset, or `None` if there is none. Ignores assignments in inline
+/// tables.
 pub(crate) fn line_at<'s, 'de>(
     text: &str,
     sections: &'s [Section<'de>],
@@ -52,8 +54,8 @@ pub(crate) fn line_at<'s, 'de>(
     None
 }
 
-/// Returns the innermost array in a value that contains or touches an offset, or `None` if there is none. The value
-/// itself may be the array.
+/// Returns the innermost array at an offset: `value` itself or an array in it. Returns `None` if no array contains or
+/// touches the offset.
 #[cycle(array_in)]
 fn array_in<'s, 'de>(text: &str, value: &'s Val<'de>, at: usize) -> Option<&'s Val<'de>> {
     if !touches(value.span, at) {
@@ -80,8 +82,8 @@ fn array_in<'s, 'de>(text: &str, value: &'s Val<'de>, at: usize) -> Option<&'s V
     }
 }
 
-/// Returns the innermost array at an offset, or `None` if there is none. If the offset is in the key of an array or
-/// before the array, this is that array.
+/// Returns the innermost array at an offset, or `None` if there is none. For an offset before the value of an
+/// assignment, such as in its key, returns the array that is this value.
 pub(crate) fn array_at<'s, 'de>(
     text: &str,
     sections: &'s [Section<'de>],

@@ -25,7 +25,8 @@ struct Found<'s, 'de> {
     header: usize,
 }
 
-/// Returns the section whose header, in single brackets, is at an offset, or `None` if there is none.
+/// Returns the section whose header contains or touches an offset, or `None` if there is none. The header must be in
+/// single brackets. A comment after the header counts as part of the header.
 fn section_at<'s, 'de>(
     text: &str,
     sections: &'s [Section<'de>],
@@ -67,7 +68,7 @@ enum Relation {
     Other,
 }
 
-/// Returns how the header of a section is related to the table that a header with these keys names.
+/// Returns how the header of a section is related to the table whose header has the parts `keys`.
 fn relation_of(section: &Section<'_>, keys: &[Key<'_>]) -> Relation {
     let header = section.header.as_slice();
     let mut rest = keys.iter();
@@ -85,7 +86,7 @@ fn relation_of(section: &Section<'_>, keys: &[Key<'_>]) -> Relation {
 }
 
 /// Returns the section of the table around the section at the position `index`, or `None` if that table has no section.
-/// `keys` are the keys of the table's header, none for the root.
+/// `keys` are the parts of that table's header, none for the root.
 fn parent_of<'s, 'de>(
     sections: &'s [Section<'de>],
     index: usize,
@@ -109,8 +110,8 @@ fn parent_of<'s, 'de>(
     None
 }
 
-/// Returns the assignments of a section as an inline table on one line. Returns `None` if the section contains comments
-/// after the header's line, or an assignment can't be on one line. Fails if an allocation fails.
+/// Returns the assignments of a section as an inline table on one line. Returns `None` if a comment is before, between
+/// or after the assignments, or if `push_pair` returns false for one of them.
 fn braces_of(
     alloc: Global,
     text: &str,
@@ -137,8 +138,8 @@ fn braces_of(
     Ok(Some(out))
 }
 
-/// Returns the line with the inline table `braces` for a section, and with the comment after the header. Fails if an
-/// allocation fails.
+/// Returns the line that replaces the section `found`: its key, the inline table `braces`, and the comment after the
+/// header.
 fn line_of(
     alloc: Global,
     text: &str,
@@ -154,7 +155,7 @@ fn line_of(
     format!(in alloc; "{key} = {braces}{note}{end}")
 }
 
-/// Returns the offset at which a new line of a section is inserted, and the indentation of this line.
+/// Returns the offset at which to insert a new assignment at the end of a section, and the indentation for its line.
 fn next_line_of<'t>(text: &'t str, section: &Section<'_>) -> (usize, &'t str) {
     let lines = section_lines(text, section);
     let front = match section.assignments.last() {
@@ -169,8 +170,8 @@ fn next_line_of<'t>(text: &'t str, section: &Section<'_>) -> (usize, &'t str) {
     (end, front)
 }
 
-/// Returns the text in which `line` replaces the section `found`. The line is at the end of the section `parent`. Fails
-/// if an allocation fails.
+/// Returns the text without the section `found`, and with `line` at the end of the section `parent`. The comments above
+/// the header of `found` are written above `line`.
 fn move_line(
     alloc: Global,
     text: &str,
@@ -200,9 +201,9 @@ fn move_line(
     writer.finish_after(alloc, end)
 }
 
-/// Returns the text in which `line` replaces the section `found`, if the table around it has no section. The line is
-/// below a new header for that table or, if the table is the root, before all other headers. `first` is the start of
-/// the first header's line or of the comment lines above that header. Fails if an allocation fails.
+/// Returns the text in which `line` replaces the section `found`, if the table around `found` has no section. Writes
+/// `line` below a new header for that table or, if the table is the root, before the first header. `first` is what
+/// `first_header` returns.
 fn write_line(
     alloc: Global,
     text: &str,
@@ -244,8 +245,8 @@ fn is_empty_root(section: &Section<'_>) -> bool {
     section.header.as_slice().is_empty() && section.assignments.is_empty()
 }
 
-/// Returns the start of the first header's line or of the comment lines above that header. Returns the start of the
-/// document, after a byte order mark, if there is no header.
+/// Returns the start of the first header's line or of the comment lines above that header. If there is no header,
+/// returns the start of the document, after a byte order mark.
 fn first_header(text: &str, sections: &[Section<'_>]) -> usize {
     let from = first_place(text);
     for section in sections {
@@ -257,7 +258,7 @@ fn first_header(text: &str, sections: &[Section<'_>]) -> usize {
 }
 
 /// Proposes an inline table for the section whose header is at an offset. Returns `None` if there is no header in
-/// single brackets at the offset, or if the section can't be on one line. Fails if an allocation fails.
+/// single brackets at the offset, or if the section can't be on one line (see `braces_of`).
 pub(crate) fn section_to_inline(
     alloc: Global,
     text: &str,

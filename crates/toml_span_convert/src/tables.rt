@@ -9,7 +9,7 @@ use toml_span_places::{TableForm, assignment_lines, section_lines};
 use toml_span_read::{Assignment, Section, ValKind};
 
 /// Returns the header of the table `key` in a section: `[a.b.c]` if the header of the section is `[a]` and `key` is
-/// `b.c`. Fails if an allocation fails.
+/// `b.c`.
 pub(crate) fn header_of(
     alloc: Global,
     text: &str,
@@ -21,9 +21,8 @@ pub(crate) fn header_of(
     format!(in alloc; "[{table}{dot}{key}]")
 }
 
-/// Ends the current line with the comment in the first line of `gap`, if there is one, and appends the comments in the
-/// other lines of `gap`, each on a line of its own. A gap is the text between two pairs: blanks, line ends, a comma and
-/// comments. Fails if an allocation fails.
+/// Ends the last line of `out`, and appends the comments in `gap`, the text between two pairs of an inline table. A
+/// comment in the first line of `gap` ends the last line of `out`. Each other comment is on a line of its own.
 fn push_gap(out: &mut String, gap: &str, indent: &str, end: &str) -> Result<(), AllocError> {
     for (index, line) in gap.split('\n').enumerate() {
         let comment = comment_in(line);
@@ -40,8 +39,8 @@ fn push_gap(out: &mut String, gap: &str, indent: &str, end: &str) -> Result<(), 
     Ok(())
 }
 
-/// Ends the current line, and appends the pairs of an inline table, each on a line of its own, with the comments in the
-/// table. `braces` is the span of the table. Fails if an allocation fails.
+/// Ends the last line of `out`, and appends the pairs and comments of an inline table, each pair on a line of its own.
+/// `braces` is the span of the table.
 fn push_pairs(
     out: &mut String,
     text: &str,
@@ -65,8 +64,8 @@ fn push_pairs(
     )
 }
 
-/// Returns whether there is a comment after the opening brace of an inline table, on the same line and before the first
-/// pair. `braces` is the span of the table.
+/// Returns whether a comment follows the opening brace of an inline table, on the same line and before the first pair.
+/// `braces` is the span of the table.
 fn has_open_comment(text: &str, braces: Span, pairs: &[Assignment<'_>]) -> bool {
     let end = match pairs.first() {
         Some(pair) => pair.extent.start,
@@ -78,9 +77,9 @@ fn has_open_comment(text: &str, braces: Span, pairs: &[Assignment<'_>]) -> bool 
     }
 }
 
-/// Returns the section for the inline table in `line`. `above` are the comment lines above the line. The comment after
-/// the table is written after the header or, if a comment after the opening brace is written there, above the header.
-/// Fails if an allocation fails.
+/// Returns the section for the inline table in `line`, whose pairs are `pairs`. `above` has the comment lines above
+/// `line`, and `end` is the line end to write. The comment after the table is written after the header or, if a comment
+/// follows the opening brace on its line, above the header.
 fn section_of(
     alloc: Global,
     text: &str,
@@ -108,7 +107,7 @@ fn section_of(
 }
 
 /// Proposes a section for the inline table at an offset, after the section that contains the table. Returns `None` if
-/// there is no assignment with an inline table at the offset. Fails if an allocation fails.
+/// there is no assignment with an inline table at the offset.
 pub(crate) fn inline_to_section(
     alloc: Global,
     text: &str,

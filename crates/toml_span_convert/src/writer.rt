@@ -27,8 +27,7 @@ impl<'t> Writer<'t> {
         }
     }
 
-    /// Copies the old text up to the offset `to`, or nothing if the writer is already past it. Fails if an allocation
-    /// fails.
+    /// Copies the old text up to the offset `to`. Does nothing if the writer is past `to`.
     pub(crate) fn copy_to(&mut self, to: usize) -> Result<(), AllocError> {
         if self.at < to {
             self.out.push_str(part(self.text, self.at, to))?;
@@ -37,21 +36,20 @@ impl<'t> Writer<'t> {
         Ok(())
     }
 
-    /// Writes a text. Fails if an allocation fails.
+    /// Appends `text` to the new text.
     pub(crate) fn push(&mut self, text: &str) -> Result<(), AllocError> {
         self.out.push_str(text)
     }
 
-    /// Copies the old text up to a span, and leaves out the span. Fails if an allocation fails.
+    /// Copies the old text up to a span, and leaves out the span.
     pub(crate) fn skip(&mut self, span: Span) -> Result<(), AllocError> {
         self.copy_to(span.start)?;
         self.at = self.at.max(span.end);
         Ok(())
     }
 
-    /// Copies the old text up to `lines`, the span of whole lines, and leaves these out. If the new text then ends with
-    /// a blank line or is empty, also leaves out the blank lines that follow, up to the offset `limit`. Fails if an
-    /// allocation fails.
+    /// Copies the old text up to `lines`, a span of whole lines, and leaves out `lines`. If `ends_blank` is then true
+    /// for the new text, also leaves out the blank lines after `lines`, up to the offset `limit`.
     pub(crate) fn skip_lines(&mut self, lines: Span, limit: usize) -> Result<(), AllocError> {
         self.skip(lines)?;
         if !ends_blank(self.out.as_str()) {
@@ -66,8 +64,8 @@ impl<'t> Writer<'t> {
         Ok(())
     }
 
-    /// Ends the last line of the new text, unless the line has an end or the text is empty. Fails if an allocation
-    /// fails.
+    /// Ends the last line of the new text, unless the line has an end or the text is empty, apart from a byte order
+    /// mark.
     pub(crate) fn begin_line(&mut self) -> Result<(), AllocError> {
         let out = self.out.as_str();
         if out.ends_with('\n') || out.strip_prefix('\u{feff}').unwrap_or(out).is_empty() {
@@ -76,8 +74,8 @@ impl<'t> Writer<'t> {
         self.out.push_str(self.end)
     }
 
-    /// Writes lines, with a blank line before and after them, unless there is one already. Writes no blank line at the
-    /// start or the end of the text. Fails if an allocation fails.
+    /// Writes `lines` with a blank line before and after them. Adds no blank line where there is one already, nor at
+    /// the start or the end of the text.
     pub(crate) fn push_apart(&mut self, lines: &str) -> Result<(), AllocError> {
         self.begin_line()?;
         if !ends_blank(self.out.as_str()) {
@@ -90,7 +88,7 @@ impl<'t> Writer<'t> {
         Ok(())
     }
 
-    /// Copies the rest of the old text, and returns the new text. Fails if an allocation fails.
+    /// Copies the rest of the old text, and returns the new text.
     pub(crate) fn finish(mut self) -> Result<String, AllocError> {
         let end = self.text.len();
         self.copy_to(end)?;
@@ -98,7 +96,7 @@ impl<'t> Writer<'t> {
     }
 
     /// Copies the rest of the old text, and returns the new text. If only blank lines follow the offset `end` in the
-    /// old text, leaves out the blank lines at the end of the new text. Fails if an allocation fails.
+    /// old text, leaves out the blank lines at the end of the new text.
     pub(crate) fn finish_after(self, alloc: Global, end: usize) -> Result<String, AllocError> {
         let is_last = part(self.text, end, self.text.len()).trim().is_empty();
         let line_end = self.end;

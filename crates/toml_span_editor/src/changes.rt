@@ -1,4 +1,4 @@
-//! Applies the changes of a text that an editor reports.
+//! Applies the changes that an editor makes to a text.
 ghost use Rattle.std.specs.Prelude.{◌≡◌, ◌≤◌, ◌++◌, IfOk, string_bytes, take, drop};
 ghost use Rattle.std.specs.Str.{IsCharBoundary};
 ghost use Rattle.toml_span_editor.specs.Changes as spec;
@@ -6,7 +6,7 @@ ghost use Rattle.toml_span_editor.specs.Changes as spec;
 use crate::positions::{Encoding, Range, offset_at};
 use std::alloc::{AllocError, Global};
 
-/// Returns the text with `new` in place of the bytes from `from` to `to`. Fails if an allocation fails.
+/// Returns the text with `new` in place of the bytes from `from` to `to`.
 pub(crate) fn spliced(
     alloc: Global,
     text: &str,
@@ -24,8 +24,8 @@ pub(crate) fn spliced(
     Ok(made)
 }
 
-/// Returns the text after a change: `new` replaces the range or, without a range, the whole text. If the end of the
-/// range is before its start, the two are swapped. Fails if an allocation fails.
+/// Returns the text after a change: `new` replaces the range or, if `range` is `None`, the whole text. If the range
+/// ends before its start, the two are swapped. Fails if an allocation fails.
 pub fn changed(
     alloc: Global,
     encoding: Encoding,

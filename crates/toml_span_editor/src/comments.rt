@@ -5,8 +5,7 @@ use toml_span_lex::stop::Stop;
 use toml_span_lex::tokenizer::Tokenizer;
 use toml_span_lex::tokens::Token;
 
-/// Returns the spans of the comments of a text, in order. Text that can't be split into tokens is skipped. Fails if an
-/// allocation fails.
+/// Returns the spans of the comments of a text, in order. Skips text that can't be split into tokens.
 pub(crate) fn comment_spans(alloc: Global, text: &str) -> Result<Vec<Span>, AllocError> {
     let mut tokenizer = Tokenizer::new(text);
     let mut found = Vec::new(alloc);

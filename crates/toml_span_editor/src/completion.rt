@@ -6,18 +6,18 @@ use toml_span::Value;
 use toml_span::value::{Step, nodes};
 use toml_span_places::{literal_span, quote_key, section_places};
 
-/// The maximum number of elements of an array that are searched for keys.
+/// The maximum number of elements of an array to search for keys.
 const MOST_TABLES: usize = 100;
 
 /// The maximum number of proposals.
 const MOST: usize = 200;
 
-/// Something that can be written at an offset.
+/// A key or value that can be written at an offset.
 #[derive(Debug, Drop)]
 pub struct Proposal {
     /// The text to write.
     pub text: String,
-    /// For a key, the kind of its value in another table. Otherwise `boolean`.
+    /// For a key, the kind of its value in another table, otherwise `boolean`.
     pub kind: &'static str,
     pub is_key: bool,
 }
@@ -27,23 +27,22 @@ pub struct Proposal {
 pub enum Part {
     Key,
     Value,
-    /// A header, a comment, or a part in which nothing is proposed.
+    /// A header, a comment, or another part for which nothing is proposed.
     Other,
 }
 
-/// Returns the text of a line from its start to the offset `at`, or an empty string if `at` is not at a character
-/// boundary.
+/// Returns the text from the start of a line to the offset `at`, or an empty text if `at` is not a character boundary.
 fn line_front(text: &str, at: usize) -> &str {
     let front = text.get(..at).unwrap_or("");
     front.rsplit('\n').next().unwrap_or("")
 }
 
-/// Returns whether a text, such as `true`, has only ASCII letters, or is empty.
+/// Returns whether a text has only ASCII letters, as in `true`, or is empty.
 fn is_word(text: &str) -> bool {
     text.chars().all(|c| c.is_ascii_alphabetic())
 }
 
-/// Returns the part of a statement that contains an offset. `front` is the text before the offset on the same line.
+/// Returns the part of a statement at an offset. `front` is the text before the offset on the same line.
 fn part_of(front: &str) -> Part {
     let front = front.trim_ascii_start();
     match front.rsplit_once('=') {
@@ -54,8 +53,8 @@ fn part_of(front: &str) -> Part {
     }
 }
 
-/// Returns the path of the table to which an assignment at an offset belongs: the path of the last header before the
-/// offset, or an empty path before the first header. Fails if an allocation fails.
+/// Returns the path of the table to which an assignment at the offset `at` belongs. The path is that of the last header
+/// before `at`, or empty before the first header.
 pub(crate) fn table_path<'d>(
     alloc: Global,
     document: &'d Document<'_>,
@@ -70,7 +69,7 @@ pub(crate) fn table_path<'d>(
     Ok(path)
 }
 
-/// Returns the index of the last step of a path that is a position in an array, or `None` if no step is a position.
+/// Returns the index of the last step that is a position in an array, or `None` if no step is a position.
 fn last_position(path: &[Step<'_>]) -> Option<usize> {
     let mut found = None;
     for (index, step) in path.iter().enumerate() {
@@ -88,7 +87,7 @@ fn is_proposed(proposals: &[Proposal], text: &str) -> bool {
         .any(|proposal| proposal.text.as_str() == text)
 }
 
-/// Returns whether a value is a table with this key.
+/// Returns whether `value` is a table with the key `name`. Returns `false` for `None`.
 pub(crate) fn has_key(value: Option<&Value<'_>>, name: &str) -> bool {
     let Some(table) = value.and_then(|value| value.as_table()) else {
         return false;
@@ -96,8 +95,8 @@ pub(crate) fn has_key(value: Option<&Value<'_>>, name: &str) -> bool {
     table.iter().any(|(key, _)| key.name.as_ref() == name)
 }
 
-/// Appends the keys of `table` that `own` lacks, unless they are proposed already. Stops at `MOST` proposals. Fails if
-/// an allocation fails.
+/// Appends proposals for the keys of `table` that `own` lacks, each once. Stops at `MOST` proposals. Appends nothing if
+/// `table` is not a table.
 fn push_keys(
     alloc: Global,
     table: &Value<'_>,
@@ -123,9 +122,8 @@ fn push_keys(
     Ok(())
 }
 
-/// Returns proposals for the keys that the table around an offset lacks, but that the corresponding tables in other
-/// elements of the innermost array have. The list is empty if the table is not in an array. Fails if an allocation
-/// fails.
+/// Returns proposals for keys that the table at the offset `at` lacks, but that the same table in other elements of the
+/// innermost array has. The list is empty if the table is not in an array.
 fn sibling_keys(
     alloc: Global,
     document: &Document<'_>,
@@ -151,8 +149,7 @@ fn sibling_keys(
     Ok(proposals)
 }
 
-/// Returns whether an offset is inside the literal of a value, such as a string of several lines. Fails if an
-/// allocation fails.
+/// Returns whether the offset `at` is inside the literal of a value, such as a string of several lines.
 fn is_in_value(alloc: Global, document: &Document<'_>, at: usize) -> Result<bool, AllocError> {
     for node in nodes(alloc, &document.root)? {
         let span = literal_span(document.text, node.value);
@@ -163,7 +160,7 @@ fn is_in_value(alloc: Global, document: &Document<'_>, at: usize) -> Result<bool
     Ok(false)
 }
 
-/// Returns a proposal for `true` and one for `false`. Fails if an allocation fails.
+/// Returns the proposals `true` and `false`.
 fn booleans(alloc: Global) -> Result<Vec<Proposal>, AllocError> {
     let mut proposals = Vec::new(alloc);
     for word in ["true", "false"] {
@@ -176,9 +173,10 @@ fn booleans(alloc: Global) -> Result<Vec<Proposal>, AllocError> {
     Ok(proposals)
 }
 
-/// Returns proposals for an offset. For a value, these are the booleans. For a key in a table inside an array, these
-/// are the keys that the corresponding tables in other elements have. Elsewhere, the list is empty. `document` is as
-/// much of `text` as can be read (see `readable`). Fails if an allocation fails.
+/// Returns what can be written at the byte offset `at`. For a value, the proposals are booleans. For a key in a table
+/// inside an array, they are keys that other tables of the array have. Elsewhere, the list is empty.
+///
+/// `document` is as much of `text` as can be read (see `readable`). Fails if an allocation fails.
 pub fn proposals(
     alloc: Global,
     text: &str,

@@ -1,4 +1,4 @@
-//! Finds what is being written at an offset, in a text that need not be valid.
+//! Finds out what is being written at an offset. The text need not be valid.
 use std::alloc::{AllocError, Global};
 use toml_span::value::Step;
 use toml_span_lex::span::Span;
@@ -14,7 +14,7 @@ pub(crate) enum Segment {
     Position(usize),
 }
 
-/// What can be written at an offset.
+/// The kind of text that can be written at an offset.
 #[derive(Clone, Copy, Debug, PartialEq, Eq)]
 pub(crate) enum Spot {
     /// A part of the key of an assignment.
@@ -28,58 +28,57 @@ pub(crate) enum Spot {
     Other,
 }
 
-/// What is being written at an offset.
+/// The text that is being written at an offset: its kind and its place in the tree.
 #[derive(Debug, Drop)]
 pub(crate) struct Context {
     pub(crate) spot: Spot,
-    /// For a key or a part of a header, the path of the table that the parts before it name. For a value, the path of
-    /// the value. The path starts at the table of the section or, for a header, at the root.
+    /// For a value, its path. For a key or a part of a header, the path of the table that contains it. In a header, the
+    /// path begins at the root, otherwise at the table of the section.
     pub(crate) path: Vec<Segment>,
-    /// The first parts of the keys that are written before, in the same inline table.
+    /// The first parts of the earlier keys in the same inline table.
     pub(crate) names: Vec<String>,
-    /// The span of the word or string that a proposal replaces, or an empty span.
+    /// The span of the word or string that a proposal replaces. Empty if nothing is replaced.
     pub(crate) typed: Span,
 }
 
-/// What is expected next in a statement.
+/// The next part that a statement can have.
 #[derive(Clone, Copy, Debug, PartialEq, Eq)]
 enum Next {
     Key,
-    /// A period, or `=`.
+    /// A period or `=`.
     AfterKey,
     Value,
-    /// A comma, a bracket, or the end of a line.
+    /// A comma, a closing bracket, or the end of a line.
     AfterValue,
     /// A part of a header.
     Header,
-    /// A period, or the end of a header.
+    /// A period or the end of a header.
     AfterHeader,
 }
 
 /// An inline table or an array that is not closed.
-#[derive(Clone, Copy, Debug, PartialEq, Eq)]
+#[derive(Debug, Drop)]
 enum Opened {
-    /// An inline table. `length` is the number of steps of its path.
-    Table { length: usize },
+    /// An inline table. `length` is the number of steps of its path, and `names` are the first parts of its keys so
+    /// far.
+    Table { length: usize, names: Vec<String> },
     /// An array. `length` is the number of steps of its path, and `position` the position of its current element.
     Array { length: usize, position: usize },
 }
 
-/// The state of reading statements up to an offset.
+/// The state after the statements up to an offset have been read.
 #[derive(Drop)]
 struct Scanner {
     next: Next,
-    /// Whether the header is that of a table in an array.
+    /// Whether the statement is a header in double brackets.
     is_in_array: bool,
-    /// The path of what has been read of the statement.
+    /// The path that the statement has named so far.
     path: Vec<Segment>,
-    /// The inline tables and arrays around the place, from the outside in.
+    /// The open inline tables and arrays, the outermost first.
     opened: Vec<Opened>,
-    /// The first parts of the keys that have been read of the innermost inline table.
-    names: Vec<String>,
 }
 
-/// Appends a segment to `steps`. Fails if an allocation fails.
+/// Appends a segment to `steps`.
 pub(crate) fn push_step<'p>(
     segment: &'p Segment,
     steps: &mut Vec<Step<'p>>,
@@ -92,28 +91,36 @@ pub(crate) fn push_step<'p>(
 }
 
 impl Scanner {
-    /// Forgets the last statement, and begins the next one.
+    /// Begins a new statement.
     fn begin(&mut self) {
         self.next = Next::Key;
         self.is_in_array = false;
         self.path.clear();
         self.opened.clear();
-        self.names.clear();
     }
 
-    /// Returns whether the next name is the first part of a key in an inline table.
-    fn is_first(&self) -> bool {
-        match self.opened.last() {
-            Some(Opened::Table { length }) => self.next == Next::Key && self.path.len() == *length,
-            _ => false,
+    /// Adds a name to those of the innermost inline table, if the name begins a key in this table.
+    fn push_first(&mut self, alloc: Global, name: &str) -> Result<(), AllocError> {
+        match self.opened.pop() {
+            Some(Opened::Table { length, mut names }) => {
+                if self.next == Next::Key && self.path.len() == length {
+                    names.push(String::from_str(alloc, name)?)?;
+                }
+                self.opened.push(Opened::Table { length, names })?;
+                Ok(())
+            }
+            Some(Opened::Array { length, position }) => {
+                self.opened.push(Opened::Array { length, position })?;
+                Ok(())
+            }
+            None => Ok(()),
         }
     }
 
-    /// Reads a name: a part of a key or header, or a word or string that is a value. Fails if an allocation fails.
+    /// Updates the state for a word or string, which is a part of a key or header, or a value. Elsewhere, changes
+    /// nothing.
     fn take_name(&mut self, alloc: Global, name: &str) -> Result<(), AllocError> {
-        if self.is_first() {
-            self.names.push(String::from_str(alloc, name)?)?;
-        }
+        self.push_first(alloc, name)?;
         self.next = match self.next {
             Next::Key => Next::AfterKey,
             Next::Header => Next::AfterHeader,
@@ -128,7 +135,8 @@ impl Scanner {
         Ok(())
     }
 
-    /// Reads `[`, which begins a header or an array. Fails if an allocation fails.
+    /// Updates the state for `[`: begins a header, makes it a header in double brackets, or opens an array. Elsewhere,
+    /// changes nothing.
     fn take_bracket(&mut self) -> Result<(), AllocError> {
         match self.next {
             Next::Key if self.path.is_empty() && self.opened.is_empty() => {
@@ -152,23 +160,23 @@ impl Scanner {
         }
     }
 
-    /// Reads `{`, which begins an inline table if a value is expected. Fails if an allocation fails.
-    fn take_brace(&mut self) -> Result<(), AllocError> {
+    /// Updates the state for `{`: opens an inline table if a value is expected. Elsewhere, changes nothing.
+    fn take_brace(&mut self, alloc: Global) -> Result<(), AllocError> {
         if self.next != Next::Value {
             return Ok(());
         }
         self.next = Next::Key;
-        self.names.clear();
-        let length = self.path.len();
-        self.opened.push(Opened::Table { length })?;
+        self.opened.push(Opened::Table {
+            length: self.path.len(),
+            names: Vec::new(alloc),
+        })?;
         Ok(())
     }
 
-    /// Reads `]` or `}`, which ends the innermost inline table or array, if there is one.
+    /// Updates the state for `]` or `}`: closes the innermost inline table or array, if there is one.
     fn close(&mut self) {
-        self.names.clear();
         match self.opened.pop() {
-            Some(Opened::Table { length } | Opened::Array { length, .. }) => {
+            Some(Opened::Table { length, .. } | Opened::Array { length, .. }) => {
                 self.path.truncate(length);
                 self.next = Next::AfterValue;
             }
@@ -176,14 +184,14 @@ impl Scanner {
         }
     }
 
-    /// Reads a comma, after which a key of the innermost inline table or an element of the innermost array is expected.
-    /// Fails if an allocation fails.
+    /// Updates the state for a comma: a key is expected next in an inline table, and an element in an array. Elsewhere,
+    /// changes nothing.
     fn take_comma(&mut self) -> Result<(), AllocError> {
         match self.opened.pop() {
-            Some(Opened::Table { length }) => {
+            Some(Opened::Table { length, names }) => {
                 self.path.truncate(length);
                 self.next = Next::Key;
-                self.opened.push(Opened::Table { length })?;
+                self.opened.push(Opened::Table { length, names })?;
                 Ok(())
             }
             Some(Opened::Array { length, position }) => {
@@ -198,7 +206,7 @@ impl Scanner {
         }
     }
 
-    /// Reads a token. Fails if an allocation fails.
+    /// Updates the state for `token`, the next token of the text.
     fn take(&mut self, alloc: Global, token: &Token<'_>) -> Result<(), AllocError> {
         match token {
             Token::Newline if self.opened.is_empty() => {
@@ -208,7 +216,7 @@ impl Scanner {
             Token::Keylike(name) => self.take_name(alloc, *name),
             Token::String { val, .. } => self.take_name(alloc, val.as_ref()),
             Token::LeftBracket => self.take_bracket(),
-            Token::LeftBrace => self.take_brace(),
+            Token::LeftBrace => self.take_brace(alloc),
             Token::Comma => self.take_comma(),
             Token::RightBracket | Token::RightBrace => {
                 self.close();
@@ -228,7 +236,7 @@ impl Scanner {
     }
 
     /// Returns what is being written. `typed` is the span that a proposal replaces.
-    fn context(self, typed: Span) -> Context {
+    fn context(self, alloc: Global, typed: Span) -> Context {
         let spot = match (self.next, self.is_in_array) {
             (Next::Key, _) => Spot::Key,
             (Next::Value, _) => Spot::Value,
@@ -236,7 +244,15 @@ impl Scanner {
             (Next::Header, true) => Spot::TableInArray,
             _ => Spot::Other,
         };
-        let Scanner { path, names, .. } = self;
+        let Scanner {
+            path,
+            mut opened,
+            ..
+        } = self;
+        let names = match opened.pop() {
+            Some(Opened::Table { names, .. }) => names,
+            _ => Vec::new(alloc),
+        };
         Context {
             spot,
             path,
@@ -246,8 +262,8 @@ impl Scanner {
     }
 }
 
-/// Returns the span that a proposal replaces at `at`, an offset within the token with this span or at its end. Returns
-/// `None` for a comment, for a string on several lines, at the end of a closed string, and for other tokens than words.
+/// Returns the span that a proposal at the offset `at` replaces: the span of a word, or of a single-line string that
+/// ends after `at`. Returns `None` for any other token.
 fn typed_in(token: &Token<'_>, span: Span, at: usize) -> Option<Span> {
     match token {
         Token::Keylike(_) => Some(span),
@@ -259,7 +275,7 @@ fn typed_in(token: &Token<'_>, span: Span, at: usize) -> Option<Span> {
     }
 }
 
-/// Returns whether an offset at the end of the token still belongs to the token: to a word, a string or a comment.
+/// Returns whether an offset at the end of the token belongs to the token, as it does for a word, string or comment.
 fn is_typed(token: &Token<'_>) -> bool {
     matches!(
         token,
@@ -267,7 +283,8 @@ fn is_typed(token: &Token<'_>) -> bool {
     )
 }
 
-/// Returns whether the bytes from `start` to `at` begin with a quote and contain no line feed.
+/// Returns whether the bytes from `start` to `at` begin with a quote and contain no line feed. Returns `false` if
+/// `start` is after `at`.
 fn is_open_string(text: &str, start: usize, at: usize) -> bool {
     if start > at {
         return false;
@@ -276,19 +293,18 @@ fn is_open_string(text: &str, start: usize, at: usize) -> bool {
     (front.starts_with('"') || front.starts_with('\'')) && !front.contains('\n')
 }
 
-/// Returns whether there is a line feed between two offsets. Returns false if `start` is after `end`.
+/// Returns whether there is a line feed between two offsets. Returns `false` if `start` is after `end`.
 fn has_line_end(text: &str, start: usize, end: usize) -> bool {
     start <= end && text.get(start..end).unwrap_or("").contains('\n')
 }
 
-/// Returns what is being written at a byte offset of a text, which need not be valid. Fails if an allocation fails.
+/// Returns what is being written at the byte offset `at` of a text, which need not be valid.
 pub(crate) fn context_at(alloc: Global, text: &str, at: usize) -> Result<Context, AllocError> {
     let mut scanner = Scanner {
         next: Next::Key,
         is_in_array: false,
         path: Vec::new(alloc),
         opened: Vec::new(alloc),
-        names: Vec::new(alloc),
     };
     let mut tokenizer = Tokenizer::new(text);
     for _ in 0..text.len() {
@@ -302,7 +318,7 @@ pub(crate) fn context_at(alloc: Global, text: &str, at: usize) -> Result<Context
             Ok(None) => break,
             Ok(Some((_, token))) if at <= end && is_typed(&token) => {
                 if let Some(typed) = typed_in(&token, Span { start, end }, at) {
-                    return Ok(scanner.context(typed));
+                    return Ok(scanner.context(alloc, typed));
                 }
                 scanner.next = Next::AfterValue;
                 break;
@@ -310,11 +326,11 @@ pub(crate) fn context_at(alloc: Global, text: &str, at: usize) -> Result<Context
             Ok(Some((_, token))) => scanner.take(alloc, &token)?,
             Err(Stop::Memory(error)) => return Err(error),
             Err(Stop::Fault(_)) if is_open_string(text, start, at) => {
-                return Ok(scanner.context(Span { start, end: at }));
+                return Ok(scanner.context(alloc, Span { start, end: at }));
             }
             Err(Stop::Fault(_)) if has_line_end(text, start, end) => scanner.begin(),
             Err(Stop::Fault(_)) => {}
         }
     }
-    Ok(scanner.context(Span { start: at, end: at }))
+    Ok(scanner.context(alloc, Span { start: at, end: at }))
 }

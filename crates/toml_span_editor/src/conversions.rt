@@ -2,6 +2,7 @@
 ghost use Rattle.std.specs.Prelude.{IfOk, IfSome};
 ghost use Rattle.toml_span_editor.specs.Conversions.{ConvertsBy};
 
+use crate::document::Document;
 use crate::edits::{Rewritten, differences};
 use std::alloc::{AllocError, Global};
 use toml_span_convert::{Conversion, converted};
@@ -38,18 +39,20 @@ pub const OFFERS: [Offer; 5] = [
     },
 ];
 
-/// Returns the edits that convert the table or array at a byte offset. After these edits, the document has the same
-/// keys, values and comments. Returns `None` if there is nothing to convert at the offset, or if it can't be converted
-/// (see `converted`). Fails if an allocation fails.
+/// Returns the edits that convert the table or array at the byte offset `at`. The edits keep all keys, values and
+/// comments. Returns `None` if there is nothing to convert at `at`, or if the conversion is not possible (see
+/// `converted`). Fails if an allocation fails.
 pub fn converting(
     alloc: Global,
-    text: &str,
+    document: &Document<'_>,
     conversion: Conversion,
     at: usize,
 ) -> Result<Option<Rewritten>, AllocError>
-    ensures { IfOk result (λ made. IfSome made (ConvertsBy conversion text.now)) }
+    ensures { IfOk result (λ made. IfSome made (ConvertsBy conversion document.now.text.now)) }
 {
-    let Some(new) = converted(alloc, text, conversion, at)? else {
+    let text = document.text;
+    let sections = document.sections.as_slice();
+    let Some(new) = converted(alloc, text, sections, conversion, at)? else {
         return Ok(None);
     };
     let edits = differences(alloc, text, new.as_str())?;

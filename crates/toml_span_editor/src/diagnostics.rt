@@ -1,10 +1,12 @@
-//! Converts the errors of a text to diagnostics, and returns the edits that repair them.
+//! Converts the errors of a text to diagnostics, and repairs errors.
 ghost use Rattle.std.specs.Prelude.{◌≡◌, IfOk, OnOk, fold, map, string_bytes};
 ghost use Rattle.toml_span_tree.specs.Diagnostic.{label_content};
 ghost use Rattle.toml_span_report.specs.Report.{report_content};
 ghost use Rattle.toml_span_tree.specs.Value.{view};
 ghost use Rattle.toml_span_editor.specs.Diagnostics as spec;
 
+use crate::document::Document;
+use crate::duplicates::without_duplicate;
 use crate::edits::{Edit, differences, edited};
 use crate::positions::Range;
 use crate::spans::touches;
@@ -14,13 +16,13 @@ use toml_span::de::parse;
 use toml_span::{Stop, Value};
 use toml_span_check::every::check;
 use toml_span_check::fixing::with_fixes;
-use toml_span_check::newer::{Version, version_reports};
+use toml_span_check::newer::{Version, version_reports, with_older_forms};
 use toml_span_check::schemas::{Chooser, SchemaReports, Schemas};
 use toml_span_lex::span::Span;
 use toml_span_report::{Report, Severity};
 use toml_span_tree::Label;
 
-/// A range that is related to a diagnostic, with a message.
+/// A range of the text with a message that explains a diagnostic.
 #[derive(Debug, Drop)]
 pub struct Related {
     pub range: Range,
@@ -30,28 +32,29 @@ pub struct Related {
 /// A report as an editor shows it.
 #[derive(Debug, Drop)]
 pub struct Diagnostic {
-    /// The range of the first primary label, or the start of the text.
+    /// The range of the first primary label or, without such a label, the start of the text.
     pub range: Range,
     pub severity: Severity,
     pub code: String,
-    /// The message, and below it the primary labels, the notes and the help, each on a line.
+    /// The message of the report, its primary labels, its notes and its help, each on a line.
     pub message: String,
-    /// The ranges and messages of the labels that are not primary.
+    /// The labels that are not primary.
     pub related: Vec<Related>,
 }
 
 /// A repair of an error.
 #[derive(Debug, Drop)]
 pub struct Repair {
-    /// What the repair does: the first help of the report or, if the report has no help, its message.
+    /// What the repair does: the first help of the report or, without help, its message. "Did you mean `a`?" becomes
+    /// "write `a`". For a duplicate key, it is "remove this duplicate key".
     pub title: String,
-    /// The position of the error's report in the list that `toml_span_check::every::check` returns.
+    /// The position of the diagnostic in the list that `diagnostics` returns.
     pub report: usize,
     pub edits: Vec<Edit>,
     pub is_safe: bool,
 }
 
-/// Returns the span of the first primary label, or 0..0 without such a label.
+/// Returns the span of the first primary label, or `0..0` if no label is primary.
 fn main_span(labels: &[Label<()>]) -> Span
     ensures { result ≡ spec.main_span (map label_content labels.now) }
 {
@@ -63,7 +66,7 @@ fn main_span(labels: &[Label<()>]) -> Span
     Span { start: 0, end: 0 }
 }
 
-/// Appends `front` and `text` on a new line. Does nothing if `text` is empty. Fails if an allocation fails.
+/// Appends a line with `front` and `text`, or nothing if `text` is empty.
 #[tactic(auto, unfolding(crate::specs::Diagnostics::with_line))]
 fn push_line(out: &mut String, front: &str, text: &str) -> Result<(), AllocError>
     ensures { OnOk result (string_bytes out.new ≡ spec.with_line front.now (string_bytes out.old) text.now) }
@@ -78,7 +81,7 @@ fn push_line(out: &mut String, front: &str, text: &str) -> Result<(), AllocError
     out.push_str(text)
 }
 
-/// Appends each non-empty line of `lines` on a new line, with `front` before it. Fails if an allocation fails.
+/// For each text in `lines` that is not empty, appends a line with `front` and the text.
 fn push_lines(out: &mut String, front: &str, lines: &[String]) -> Result<(), AllocError>
     ensures { OnOk result (string_bytes out.new
         ≡ fold (spec.with_line front.now) (string_bytes out.old) (map string_bytes lines.now)) }
@@ -89,8 +92,7 @@ fn push_lines(out: &mut String, front: &str, lines: &[String]) -> Result<(), All
     Ok(())
 }
 
-/// Appends the message of a label on a new line, if the label is primary and its message differs from `message`, the
-/// message of the report. Fails if an allocation fails.
+/// Appends a line with the message of a label, if the label is primary and its message is neither empty nor `message`.
 fn push_label(out: &mut String, message: &str, label: &Label<()>) -> Result<(), AllocError>
     ensures { OnOk result (string_bytes out.new
         ≡ spec.with_label message.now (string_bytes out.old) (label_content label.now)) }
@@ -101,8 +103,7 @@ fn push_label(out: &mut String, message: &str, label: &Label<()>) -> Result<(), 
     Ok(())
 }
 
-/// Appends the messages of the primary labels, each on a new line, except for those that equal `message`, the message
-/// of the report. Fails if an allocation fails.
+/// Appends a line for each primary label whose message is neither empty nor `message`.
 fn push_labels(out: &mut String, message: &str, labels: &[Label<()>]) -> Result<(), AllocError>
     ensures { OnOk result (string_bytes out.new
         ≡ fold (spec.with_label message.now) (string_bytes out.old) (map label_content labels.now)) }
@@ -113,8 +114,7 @@ fn push_labels(out: &mut String, message: &str, labels: &[Label<()>]) -> Result<
     Ok(())
 }
 
-/// Returns the message of a report, followed by its primary labels, its notes and its help, each on a line. Fails if an
-/// allocation fails.
+/// Returns the message of a report, its primary labels, its notes and its help, each on a line.
 fn message_of(alloc: Global, report: &Report) -> Result<String, AllocError>
     ensures { IfOk result (λ out. string_bytes out ≡ spec.message_of (report_content report.now)) }
 {
@@ -125,7 +125,7 @@ fn message_of(alloc: Global, report: &Report) -> Result<String, AllocError>
     Ok(out)
 }
 
-/// Returns the ranges and messages of the labels that are not primary. Fails if an allocation fails.
+/// Returns the labels that are not primary.
 fn related_of(
     alloc: Global,
     table: &PositionTable<'_>,
@@ -146,7 +146,7 @@ fn related_of(
     Ok(related)
 }
 
-/// Returns a report as a diagnostic. Fails if an allocation fails.
+/// Converts a report to a diagnostic.
 #[tactic(auto, unfolding(crate::specs::Diagnostics::diagnostic_of))]
 fn diagnostic_of(
     alloc: Global,
@@ -165,7 +165,7 @@ fn diagnostic_of(
     })
 }
 
-/// Returns reports as diagnostics. Fails if an allocation fails.
+/// Converts reports to diagnostics.
 fn diagnostics_of(
     alloc: Global,
     table: &PositionTable<'_>,
@@ -181,16 +181,16 @@ fn diagnostics_of(
     Ok(found)
 }
 
-/// The diagnostics of a text, and why its schema can't be used.
+/// The diagnostics of a text, and the reason why its schema can't be used, if there is one.
 #[derive(Debug, Drop)]
 pub struct Diagnosed {
     pub diagnostics: Vec<Diagnostic>,
-    /// If the schema can't be used: error lines that say why. Otherwise empty.
+    /// Error lines that say why the schema can't be used. Empty if nothing is wrong with the schema.
     pub complaint: String,
 }
 
-/// Returns the reports on a document: on syntax that this version of TOML lacks, and then those of its schema. `name`
-/// is the name of the file, `text` its source, and `root` its tree. Fails if an allocation fails.
+/// Returns the reports on a document: first on syntax that this version of TOML lacks, then those of `schemas`. `text`
+/// is the source of the file `name`, and `root` its tree.
 #[tactic(auto, using(crate::proofs::DiagnosticLemmas::reports_append))]
 fn document_reports<S: Schemas>(
     alloc: Global,
@@ -213,8 +213,8 @@ fn document_reports<S: Schemas>(
     })
 }
 
-/// Returns the reports on a text: on all its errors or, if there are none, those of `document_reports`. `name` is the
-/// name of the file. Fails if an allocation fails.
+/// Returns the reports on all errors of a text. For a text without errors, returns those of `document_reports`. `name`
+/// is the name of the file.
 fn text_reports<S: Schemas>(
     alloc: Global,
     version: Version,
@@ -236,9 +236,9 @@ fn text_reports<S: Schemas>(
     }
 }
 
-/// Returns the diagnostics of a text, in the order of the reports of `toml-span check`: of all errors or, if there are
-/// none, of syntax that this version of TOML lacks, and then of what the schema of the file reports. `name` is the name
-/// of the file. Fails if an allocation fails.
+/// Returns the diagnostics of a text, in the order in which `toml-span check` prints reports. They are about all errors
+/// of the text. If it is valid TOML, they are about syntax that this version of TOML lacks, followed by those of
+/// `schemas`. `name` is the name of the file. Fails if an allocation fails.
 pub fn diagnostics<S: Schemas>(
     alloc: Global,
     table: &PositionTable<'_>,
@@ -257,7 +257,7 @@ pub fn diagnostics<S: Schemas>(
     })
 }
 
-/// Returns the replacements of a report as edits. Fails if an allocation fails.
+/// Converts the replacements of a report to edits.
 fn edits_of(alloc: Global, report: &Report) -> Result<Vec<Edit>, AllocError> {
     let mut edits = Vec::new(alloc);
     for replacement in &report.replacements {
@@ -269,14 +269,31 @@ fn edits_of(alloc: Global, report: &Report) -> Result<Vec<Edit>, AllocError> {
     Ok(edits)
 }
 
-/// Returns the repair of a report, or `None` if the report has no replacements or they don't fit the text. `index` is
-/// the position of the report in the list of reports. Fails if an allocation fails.
+/// Returns the title of the repair of a report with this help: "write `a`" for "did you mean `a`?", otherwise the help.
+fn title_of(alloc: Global, help: &str) -> Result<String, AllocError> {
+    let meant = help
+        .strip_prefix("did you mean ")
+        .and_then(|rest| rest.strip_suffix('?'));
+    match meant {
+        Some(meant) => format!(in alloc; "write {meant}"),
+        None => String::from_str(alloc, help),
+    }
+}
+
+/// Returns the repair of a report: its replacements or, for a duplicate key, the result of `without_duplicate`. Returns
+/// `None` if there are no replacements, or if they don't fit the text. `index` is the position of the report in the
+/// list of the `count` reports.
 fn repair_of(
     alloc: Global,
     text: &str,
+    count: usize,
     index: usize,
     report: &Report,
 ) -> Result<Option<Repair>, AllocError> {
+    if report.code.as_str() == "duplicate-key" {
+        let place = main_span(report.labels.as_slice()).start;
+        return without_duplicate(alloc, text, place, index, count);
+    }
     let edits = edits_of(alloc, report)?;
     if edits.is_empty() || edited(alloc, text, edits.as_slice())?.is_none() {
         return Ok(None);
@@ -286,21 +303,38 @@ fn repair_of(
         None => report.message.as_str(),
     };
     Ok(Some(Repair {
-        title: String::from_str(alloc, title)?,
+        title: title_of(alloc, title)?,
         report: index,
         edits,
         is_safe: report.replacements.iter().all(|one| one.is_safe),
     }))
 }
 
-/// Returns the repairs of the errors that touch a span, in the order of the reports. The edits of each repair fit the
-/// text. Fails if an allocation fails.
-pub fn repairs(alloc: Global, text: &str, span: Span) -> Result<Vec<Repair>, AllocError> {
+/// Returns the repairs of the diagnostics that touch a span, in the order of `diagnostics`. `document` is the text as
+/// `read` returns it: `None` if the text is not valid TOML. Leaves out repairs whose edits don't fit the text. Fails if
+/// an allocation fails.
+pub fn repairs<S: Schemas>(
+    alloc: Global,
+    text: &str,
+    document: Option<&Document<'_>>,
+    version: Version,
+    chooser: Chooser,
+    name: &str,
+    schemas: &mut S,
+    span: Span,
+) -> Result<Vec<Repair>, AllocError> {
+    let reports = match document {
+        None => check(alloc, text)?,
+        Some(document) => {
+            let root = &document.root;
+            document_reports(alloc, version, chooser, name, text, root, schemas)?.reports
+        }
+    };
     let mut found = Vec::new(alloc);
-    for (index, report) in check(alloc, text)?.iter().enumerate() {
+    for (index, report) in reports.iter().enumerate() {
         let place = main_span(report.labels.as_slice());
         if touches(place, span.start) || touches(span, place.start) {
-            if let Some(repair) = repair_of(alloc, text, index, report)? {
+            if let Some(repair) = repair_of(alloc, text, reports.len(), index, report)? {
                 found.push(repair)?;
             }
         }
@@ -308,12 +342,23 @@ pub fn repairs(alloc: Global, text: &str, span: Span) -> Result<Vec<Repair>, All
     Ok(found)
 }
 
-/// Returns the edits that make all safe repairs of a text. There are none if nothing can be repaired. Fails if an
-/// allocation fails.
-pub fn all_repairs(alloc: Global, text: &str) -> Result<Vec<Edit>, AllocError> {
-    let fixed = with_fixes(alloc, text)?;
-    if fixed.count == 0 {
+/// Returns edits that make all safe repairs of a text, as `toml-span check --fix` does: of errors, and then of syntax
+/// that this version of TOML lacks. `document` is as for `repairs`, and `name` is the name of the file. The list is
+/// empty if nothing can be repaired. Fails if an allocation fails.
+pub fn all_repairs(
+    alloc: Global,
+    text: &str,
+    document: Option<&Document<'_>>,
+    version: Version,
+    name: &str,
+) -> Result<Vec<Edit>, AllocError> {
+    let fixed = match document {
+        None => with_fixes(alloc, text)?.text,
+        Some(_) => String::from_str(alloc, text)?,
+    };
+    let made = with_older_forms(alloc, fixed.as_str(), version, name)?;
+    if made.text.as_str() == text {
         return Ok(Vec::new(alloc));
     }
-    differences(alloc, text, fixed.text.as_str())
+    differences(alloc, text, made.text.as_str())
 }

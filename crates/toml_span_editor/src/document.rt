@@ -9,10 +9,10 @@ use toml_span::de::parse;
 use toml_span::{Stop, Value};
 use toml_span_read::{Section, read_sections};
 
-/// The maximum number of lines that are left out of a text so that the rest can be read.
+/// The maximum number of lines to leave out so that the rest of a text can be read.
 const MOST: usize = 16;
 
-/// A text that is valid TOML: its tree and its sections.
+/// A valid TOML text with its tree and its sections.
 #[derive(Drop)]
 pub struct Document<'t> {
     pub text: &'t str,
@@ -20,8 +20,7 @@ pub struct Document<'t> {
     pub sections: Vec<Section<'t>>,
 }
 
-/// Returns the start of the error that `parse` returns for a text, or `None` if the text is valid TOML. Fails if an
-/// allocation fails.
+/// Returns the offset at which the error that `parse` returns starts, or `None` if the text is valid TOML.
 fn error_place(alloc: Global, text: &str) -> Result<Option<usize>, AllocError> {
     match parse(alloc, text) {
         Ok(_) => Ok(None),
@@ -32,7 +31,7 @@ fn error_place(alloc: Global, text: &str) -> Result<Option<usize>, AllocError> {
     }
 }
 
-/// Returns the offset at which the line that contains an offset begins.
+/// Returns the start of the line that contains the offset `at`.
 fn line_begin(text: &str, at: usize) -> usize {
     let at = text.floor_char_boundary(at);
     match text[..at].rfind('\n') {
@@ -41,8 +40,7 @@ fn line_begin(text: &str, at: usize) -> usize {
     }
 }
 
-/// Returns the text with spaces in place of the line that contains an offset. The line end stays. Fails if an
-/// allocation fails.
+/// Returns the text with spaces in place of the line that contains the offset `at`. The line feed at its end stays.
 #[tactic(auto, using(crate::proofs::DocumentLemmas::spaces_length, crate::proofs::DocumentLemmas::spliced_length))]
 fn without_line(alloc: Global, text: &str, at: usize) -> Result<String, AllocError>
     ensures { IfOk result (λ kept. length (string_bytes kept) ≡ length text.now) }
@@ -59,8 +57,8 @@ fn without_line(alloc: Global, text: &str, at: usize) -> Result<String, AllocErr
     spliced(alloc, text, from, to, spaces.as_str())
 }
 
-/// Returns the text with spaces in place of the lines that have errors, so that the rest is valid TOML. Offsets are the
-/// same as in the text. Returns `None` if more than 16 lines would have to be left out. Fails if an allocation fails.
+/// Returns the text with spaces in place of the lines where errors start, so that the rest is valid TOML. Offsets stay
+/// the same. Returns `None` if the rest is not valid after 16 lines have been replaced. Fails if an allocation fails.
 pub fn readable<'t>(alloc: Global, text: &'t str) -> Result<Option<CowStr<'t>>, AllocError>
     ensures { IfOk result (λ kept. IfSome kept (λ kept. length (cow_str_bytes kept) ≡ length text.now)) }
 {

@@ -1,4 +1,4 @@
-//! Edits that turn one text into another.
+//! Edits that change one text into another.
 ghost use Rattle.std.specs.Prelude.{◌≡◌, IfOk, IsTrue, Some, map, option_map, string_bytes};
 ghost use Rattle.toml_span_places.specs.Replace.{edit_of};
 ghost use Rattle.toml_span_places.specs.Replace as places;
@@ -17,14 +17,14 @@ pub struct Edit {
     pub text: String,
 }
 
-/// Edits of a text, and the new text that they make.
+/// Edits of a text, and the new text that they produce.
 #[derive(Debug, Drop)]
 pub struct Rewritten {
     pub edits: Vec<Edit>,
     pub text: String,
 }
 
-/// Returns the edits as replacements. Fails if an allocation fails.
+/// Converts edits to replacements.
 fn replacements<'e>(alloc: Global, edits: &'e [Edit]) -> Result<Vec<Replacement<'e>>, AllocError>
     ensures { IfOk result (λ list. map edit_of list.items ≡ map edit_content edits.now) }
 {
@@ -38,8 +38,8 @@ fn replacements<'e>(alloc: Global, edits: &'e [Edit]) -> Result<Vec<Replacement<
     Ok(list)
 }
 
-/// Returns the text with all edits made, or `None` if their spans overlap, are not in order, or are not in the text.
-/// Fails if an allocation fails.
+/// Makes the edits, and returns the new text. Returns `None` if the spans overlap, are not in order, or don't fit the
+/// text. Fails if an allocation fails.
 pub fn edited(alloc: Global, text: &str, edits: &[Edit]) -> Result<Option<String>, AllocError>
     ensures { IfOk result (λ new. option_map string_bytes new
         ≡ places.replaced text.now (map edit_content edits.now)) }
@@ -52,7 +52,7 @@ pub fn edited(alloc: Global, text: &str, edits: &[Edit]) -> Result<Option<String
     }
 }
 
-/// Returns whether the edits turn `old` into `new`. Fails if an allocation fails.
+/// Returns whether the edits change `old` into `new`.
 #[tactic(auto, unfolding(crate::specs::Edits::Turns))]
 pub(crate) fn turns(alloc: Global, old: &str, edits: &[Edit], new: &str) -> Result<bool, AllocError>
     ensures { IfOk result (λ does. IsTrue does → Turns old.now (map edit_content edits.now) new.now) }
@@ -63,7 +63,7 @@ pub(crate) fn turns(alloc: Global, old: &str, edits: &[Edit], new: &str) -> Resu
     }
 }
 
-/// An edit under construction: the lines of the old text from `start` to `end`, in bytes, which `text` replaces.
+/// An edit under construction. `text` replaces the lines of the old text from the byte offset `start` to `end`.
 #[derive(Drop)]
 struct Hunk {
     start: usize,
@@ -71,8 +71,7 @@ struct Hunk {
     text: String,
 }
 
-/// Returns an edit for each group of lines in which the texts differ. The caller checks with `turns` that the edits
-/// turn `old` into `new`. Fails if an allocation fails.
+/// Returns an edit for each group of lines in which the texts differ. The caller must check the edits with `turns`.
 fn guessed(alloc: Global, old: &str, new: &str) -> Result<Vec<Edit>, AllocError> {
     let mut edits = Vec::new(alloc);
     let mut hunk = Hunk {
@@ -99,7 +98,7 @@ fn guessed(alloc: Global, old: &str, new: &str) -> Result<Vec<Edit>, AllocError>
     Ok(edits)
 }
 
-/// Appends the edit of a hunk, unless it changes nothing. Fails if an allocation fails.
+/// Appends the edit of a hunk, or nothing if the hunk changes nothing.
 fn push_hunk(hunk: Hunk, edits: &mut Vec<Edit>) -> Result<(), AllocError> {
     let Hunk { start, end, text } = hunk;
     if start < end || !text.is_empty() {
@@ -109,7 +108,7 @@ fn push_hunk(hunk: Hunk, edits: &mut Vec<Edit>) -> Result<(), AllocError> {
     Ok(())
 }
 
-/// Returns the edit that replaces the whole text `old` with `new`. Fails if an allocation fails.
+/// Returns the edit that replaces the whole text `old` with `new`.
 #[tactic(auto, using(crate::proofs::EditLemmas::whole_turns))]
 fn whole(alloc: Global, old: &str, new: &str) -> Result<Vec<Edit>, AllocError>
     ensures { IfOk result (λ edits. Turns old.now (map edit_content edits.items) new.now) }
@@ -124,7 +123,8 @@ fn whole(alloc: Global, old: &str, new: &str) -> Result<Vec<Edit>, AllocError>
     Ok(edits)
 }
 
-/// Returns the edits that turn `old` into `new`, one for each group of lines that differ. Fails if an allocation fails.
+/// Returns the edits that change `old` into `new`: one for each group of lines that differ. Fails if an allocation
+/// fails.
 pub fn differences(alloc: Global, old: &str, new: &str) -> Result<Vec<Edit>, AllocError>
     ensures { IfOk result (λ edits. Turns old.now (map edit_content edits.items) new.now) }
 {

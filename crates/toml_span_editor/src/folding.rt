@@ -14,7 +14,7 @@ pub struct Fold {
     pub is_comment: bool,
 }
 
-/// Returns whether the text of a span contains a line feed, apart from white space at the end of the span.
+/// Returns whether a span has more than one line, apart from blanks and line ends at its end.
 fn has_lines(text: &str, span: Span) -> bool {
     match text.get(span.start..span.end) {
         Some(part) => part.trim_ascii_end().contains('\n'),
@@ -22,7 +22,7 @@ fn has_lines(text: &str, span: Span) -> bool {
     }
 }
 
-/// Appends a fold of a span, if the span has more than one line. Fails if an allocation fails.
+/// Appends a fold of a span, or nothing if the span has only one line.
 fn push_fold(
     text: &str,
     span: Span,
@@ -35,7 +35,7 @@ fn push_fold(
     Ok(())
 }
 
-/// Returns whether the text between two offsets is white space with exactly one line feed.
+/// Returns whether there are only blanks and one line end between two offsets. Returns `false` if `from` is after `to`.
 fn is_next_line(text: &str, from: usize, to: usize) -> bool {
     if from > to {
         return false;
@@ -46,7 +46,7 @@ fn is_next_line(text: &str, from: usize, to: usize) -> bool {
     }
 }
 
-/// Appends a fold for each group of comments on consecutive lines. Fails if an allocation fails.
+/// Appends a fold for each group of several comments on consecutive lines with nothing else between them.
 fn push_comments(alloc: Global, text: &str, folds: &mut Vec<Fold>) -> Result<(), AllocError> {
     let mut group = Span { start: 0, end: 0 };
     for comment in comment_spans(alloc, text)? {

@@ -1,4 +1,4 @@
-//! Formats a document, or lines of it.
+//! Formats a document, or some lines.
 ghost use Rattle.std.specs.Prelude.{IfOk, IfSome};
 ghost use Rattle.toml_span_editor.specs.Formatting.{FormatsBy, KeepsTree};
 
@@ -10,8 +10,8 @@ use toml_span_edit::validated;
 use toml_span_format::{Options, format};
 use toml_span_lex::span::Span;
 
-/// Returns the edits that format a document, with the new text, or `None` if the text is not valid TOML or can't be
-/// formatted. Fails if an allocation fails.
+/// Returns the edits that format a document, with the new text. Returns `None` if the text is not valid TOML or can't
+/// be formatted. Fails if an allocation fails.
 pub fn formatting(
     alloc: Global,
     text: &str,
@@ -29,7 +29,7 @@ pub fn formatting(
     }
 }
 
-/// Returns the edits of a list that touch a span. Fails if an allocation fails.
+/// Returns the edits that touch a span.
 fn within(alloc: Global, edits: Vec<Edit>, span: Span) -> Result<Vec<Edit>, AllocError> {
     let mut kept = Vec::new(alloc);
     for edit in edits {
@@ -40,7 +40,7 @@ fn within(alloc: Global, edits: Vec<Edit>, span: Span) -> Result<Vec<Edit>, Allo
     Ok(kept)
 }
 
-/// Returns the edits that format the lines of a span, with the new text, which has the same keys and values. Returns
+/// Returns the edits that format the lines of a span, with the new text. The edits keep all keys and values. Returns
 /// `None` if the text is not valid TOML, or if these lines can't be formatted without others. Fails if an allocation
 /// fails.
 #[tactic(auto, unfolding(crate::specs::Edits::Turns))]

@@ -11,7 +11,7 @@ use toml_span_lex::span::Span;
 use toml_span_places::{key_places, literal_span, node_at};
 use toml_span_schema::Guide;
 
-/// The maximum number of keys that are listed.
+/// The maximum number of keys to list.
 const MOST: usize = 12;
 
 /// The names of the months.
@@ -30,15 +30,14 @@ const MONTHS: [&str; 12] = [
     "December",
 ];
 
-/// The description of a key or a value, as Markdown, and its span.
+/// The description of a key or value in Markdown, with the span of the key or value.
 #[derive(Debug, Drop)]
 pub struct Hover {
     pub span: Span,
     pub text: String,
 }
 
-/// Returns the text between two offsets, or an empty string if the offsets are not in order or not at character
-/// boundaries.
+/// Returns the text between two offsets. Returns an empty text if they are not in order or not character boundaries.
 fn part(text: &str, from: usize, to: usize) -> &str {
     if from > to {
         return "";
@@ -46,8 +45,8 @@ fn part(text: &str, from: usize, to: usize) -> &str {
     text.get(from..to).unwrap_or("")
 }
 
-/// Returns the name of a month, given its number from `01` to `12`. Returns an empty string for a larger number, or for
-/// a text that is not a number.
+/// Returns the name of the month with a number from `01` to `12`. Returns an empty text for a larger number, or if
+/// `digits` is not a number.
 fn month_of(digits: &str) -> &'static str {
     match digits.parse::<usize>() {
         Ok(month) => MONTHS.get(month.saturating_sub(1)).copied().unwrap_or(""),
@@ -55,7 +54,7 @@ fn month_of(digits: &str) -> &'static str {
     }
 }
 
-/// Appends a date `YYYY-MM-DD` spelled out, such as `5 January 2024`. Fails if an allocation fails.
+/// Appends a date `YYYY-MM-DD` in words, such as `5 January 2024`.
 fn push_day(date: &str, out: &mut String) -> Result<(), AllocError> {
     let day = part(date, 8, 10);
     out.push_str(day.strip_prefix('0').unwrap_or(day))?;
@@ -65,7 +64,7 @@ fn push_day(date: &str, out: &mut String) -> Result<(), AllocError> {
     out.push_str(part(date, 0, 4))
 }
 
-/// Appends a time with its offset from UTC, if the time has one. Fails if an allocation fails.
+/// Appends a time, with its offset from UTC if there is one.
 fn push_time(time: &str, out: &mut String) -> Result<(), AllocError> {
     let is_utc = time.ends_with('Z') || time.ends_with('z');
     let local = time
@@ -81,7 +80,7 @@ fn push_time(time: &str, out: &mut String) -> Result<(), AllocError> {
     Ok(())
 }
 
-/// Appends a date or a time spelled out. Fails if an allocation fails.
+/// Appends a date or time in words.
 fn push_date(date: &str, out: &mut String) -> Result<(), AllocError> {
     if date.as_bytes().get(4) != Some(&b'-') {
         return push_time(date, out);
@@ -94,7 +93,7 @@ fn push_date(date: &str, out: &mut String) -> Result<(), AllocError> {
     Ok(())
 }
 
-/// Appends a count and a noun, such as `3 elements`. `word` is the singular of the noun. Fails if an allocation fails.
+/// Appends a count and a noun, as in `3 elements`. `word` is the singular of the noun.
 fn push_count(out: &mut String, count: usize, word: &str) -> Result<(), AllocError> {
     write!(out, "{count} {word}")?;
     if count != 1 {
@@ -103,8 +102,7 @@ fn push_count(out: &mut String, count: usize, word: &str) -> Result<(), AllocErr
     Ok(())
 }
 
-/// Appends the number of a table's keys and their names, at most `MOST` of them. Appends nothing for any other value.
-/// Fails if an allocation fails.
+/// Appends the number of a table's keys, and the names of the first `MOST` keys. Appends nothing for any other value.
 fn push_names(value: &Value<'_>, out: &mut String) -> Result<(), AllocError> {
     let Some(table) = value.as_table() else {
         return Ok(());
@@ -121,9 +119,8 @@ fn push_names(value: &Value<'_>, out: &mut String) -> Result<(), AllocError> {
     Ok(())
 }
 
-/// Appends the value of an integer that is not written in plain decimal, a date spelled out, the size of a string or
-/// array, or the number and the names of a table's keys. Appends nothing for other values. `literal` is the text that
-/// spells the value. Fails if an allocation fails.
+/// Appends the decimal value of an integer, a date in words, the size of a string or array, or the keys of a table.
+/// Appends nothing for any other value, or if `literal`, the text of the value, is the decimal integer already.
 fn push_details(value: &Value<'_>, literal: &str, out: &mut String) -> Result<(), AllocError> {
     if let Some(number) = value.as_integer() {
         let number = format!(in *out.allocator(); "{number}")?;
@@ -143,8 +140,8 @@ fn push_details(value: &Value<'_>, literal: &str, out: &mut String) -> Result<()
     push_names(value, out)
 }
 
-/// Appends a blank line and the description in the schema `guide` of the value at a path, or nothing if the schema has
-/// no description. Fails if an allocation fails.
+/// Appends a blank line and what the schema `guide` says about the value at a path, or nothing if the schema says
+/// nothing.
 fn push_said(
     alloc: Global,
     guide: &Guide,
@@ -161,8 +158,7 @@ fn push_said(
     Ok(())
 }
 
-/// Returns the description of the value at a path, as Markdown: the path, the kind and the details. Fails if an
-/// allocation fails.
+/// Returns a description of the value at a path in Markdown: the path, the kind and the details.
 fn described(
     alloc: Global,
     text: &str,
@@ -183,8 +179,7 @@ fn described(
     Ok(out)
 }
 
-/// Returns the description of the key at an offset, or `None` if the offset is not at a key. Fails if an allocation
-/// fails.
+/// Returns the description of the key at the offset `at`, or `None` if no key is there.
 fn key_hover(
     alloc: Global,
     document: &Document<'_>,
@@ -209,9 +204,9 @@ fn key_hover(
     }))
 }
 
-/// Returns the description of the key or the value at an offset: its path, its kind, the decimal value of an integer, a
-/// date spelled out, the size of a string, array or table, and the description in the schema `guide`. Returns `None` if
-/// the offset is neither at a key nor at a value other than a table. Fails if an allocation fails.
+/// Describes the key or value at the byte offset `at`: its path and kind, the decimal value of an integer, a date in
+/// words, the size of a string, array or table, and what the schema `guide` says. Returns `None` if neither a key nor a
+/// value other than a table is at `at`. Fails if an allocation fails.
 pub fn hover_at(
     alloc: Global,
     document: &Document<'_>,

@@ -1,4 +1,4 @@
-//! Finds the key at an offset, all places where it is written, and its value.
+//! Finds the key at an offset, the places where the key is written, and its value.
 use crate::document::Document;
 use crate::spans::touches;
 use std::alloc::{AllocError, Global};
@@ -10,13 +10,13 @@ use toml_span_places::{KeyPlace, Role, key_places};
 /// A place where a key is written.
 #[derive(Clone, Copy, Debug, PartialEq, Eq)]
 pub struct Mention {
-    /// The bytes of the key with its quotes.
+    /// The span of the key with its quotes.
     pub span: Span,
     /// Whether the key is here the last part of a header, or of the key of an assignment.
     pub is_definition: bool,
 }
 
-/// Returns the first key that contains an offset or ends at the offset, or `None` if no key does.
+/// Returns the first key that contains the offset `at` or ends there, or `None` if no key does.
 pub(crate) fn key_at<'p, 't>(keys: &'p [KeyPlace<'t>], at: usize) -> Option<&'p KeyPlace<'t>> {
     for key in keys {
         if touches(key.whole, at) {
@@ -26,13 +26,13 @@ pub(crate) fn key_at<'p, 't>(keys: &'p [KeyPlace<'t>], at: usize) -> Option<&'p 
     None
 }
 
-/// Returns whether a part of a key or header with this role is the last part.
+/// Returns whether a part with this role is the last part of a header or key.
 fn is_last(role: Role) -> bool {
     matches!(role, Role::HeaderLast | Role::Last)
 }
 
-/// Returns the places where the key at an offset is written, in the order of the text. The list is empty if there is no
-/// key. Fails if an allocation fails.
+/// Returns the places where the key at the byte offset `at` is written, in the order of the text. The list is empty if
+/// no key is at `at`. Fails if an allocation fails.
 pub fn mentions(
     alloc: Global,
     document: &Document<'_>,
@@ -54,9 +54,9 @@ pub fn mentions(
     Ok(found)
 }
 
-/// Returns the place where the key at an offset is defined: the first place where the key is the last part of a header
-/// or of an assignment's key. Without such a place, returns the first place where the key is written. Returns `None` if
-/// the offset is not at a key. Fails if an allocation fails.
+/// Returns the place where the key at the byte offset `at` is defined: the first place where it is the last part of a
+/// header, or of the key of an assignment. If no place is like this, returns the first place where the key is written.
+/// Returns `None` if no key is at `at`. Fails if an allocation fails.
 pub fn definition(
     alloc: Global,
     document: &Document<'_>,
@@ -71,7 +71,8 @@ pub fn definition(
     Ok(mentions.first().map(|mention| mention.span))
 }
 
-/// Returns whether a value is written as a literal, and not defined by headers or dotted keys.
+/// Returns whether a value is written as a literal, rather than defined by headers or dotted keys. Also returns `true`
+/// for a table made by dotted keys alone if the first value assigned through it is an inline table.
 pub(crate) fn is_spelled(text: &str, value: &Value<'_>) -> bool {
     if value.as_table().is_some() {
         return text.as_bytes().get(value.span.start) == Some(&b'{');
@@ -82,7 +83,7 @@ pub(crate) fn is_spelled(text: &str, value: &Value<'_>) -> bool {
     }
 }
 
-/// Returns the entry of a table, or the element of an array, that a step names, if it exists.
+/// Returns the entry of a table, or the element of an array, that a step names. Returns `None` if it does not exist.
 pub(crate) fn child<'v, 'de>(value: &'v Value<'de>, step: Step<'_>) -> Option<&'v Value<'de>> {
     match step {
         Step::Position(at) => value.as_array()?.get(at),
@@ -97,7 +98,7 @@ pub(crate) fn child<'v, 'de>(value: &'v Value<'de>, step: Step<'_>) -> Option<&'
     }
 }
 
-/// Returns the value at a path, if it exists.
+/// Returns the value at a path, or `None` if it does not exist.
 pub(crate) fn value_of<'v, 'de>(root: &'v Value<'de>, path: &[Step<'_>]) -> Option<&'v Value<'de>> {
     let [step, rest @ ..] = path else {
         return Some(root);

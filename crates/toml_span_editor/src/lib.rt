@@ -1,5 +1,5 @@
-//! Answers for editors about a TOML text, as functions of values: positions, changes, outlines, hovers, completion,
-//! renames and more.
+//! Answers the requests of editors about a TOML text: positions, changes, outlines, hovers, completion, renames and
+//! more.
 #![tactic(auto)]
 
 pub mod changes;
@@ -9,6 +9,7 @@ mod context;
 pub mod conversions;
 pub mod diagnostics;
 pub mod document;
+mod duplicates;
 pub mod edits;
 pub mod folding;
 pub mod formatting;

@@ -13,9 +13,9 @@ pub struct Symbol {
     pub name: String,
     /// The kind of the value, such as `table` or `integer`.
     pub kind: &'static str,
-    /// The bytes of the key or element, and of everything inside it.
+    /// The span of the key or element, with everything inside.
     pub span: Span,
-    /// The bytes of the key, or of the element. They are within `span`.
+    /// The span of the key alone, or of the element. It is within `span`.
     pub selection: Span,
     /// The symbols inside this one, in the order of the text.
     pub children: Vec<Symbol>,
@@ -30,7 +30,7 @@ fn around(span: Span, symbols: &[Symbol]) -> Span {
     span
 }
 
-/// Returns the symbol of a value. The symbol's span contains `selection`, the literal of the value, and the children.
+/// Returns the symbol of a value. Its span contains `selection`, the literal of the value, and the children.
 fn symbol_of(
     text: &str,
     name: String,
@@ -48,7 +48,7 @@ fn symbol_of(
     }
 }
 
-/// Returns the symbols inside a value, in the order of the text. Fails if an allocation fails.
+/// Returns the symbols inside a value, in the order of the text.
 #[cycle(symbols_in)]
 fn symbols_in(alloc: Global, text: &str, value: &Value<'_>) -> Result<Vec<Symbol>, AllocError> {
     if value.is_taken() {
@@ -61,7 +61,7 @@ fn symbols_in(alloc: Global, text: &str, value: &Value<'_>) -> Result<Vec<Symbol
     }
 }
 
-/// Returns the symbols of the elements of an array that are tables or arrays. Fails if an allocation fails.
+/// Returns the symbols of those elements of an array that are tables or arrays.
 #[cycle(symbols_in)]
 fn element_symbols(
     alloc: Global,
@@ -82,7 +82,7 @@ fn element_symbols(
     Ok(out)
 }
 
-/// Returns the symbols of the entries of a table, in the order of the text. Fails if an allocation fails.
+/// Returns the symbols of the entries of a table, in the order of the text.
 #[cycle(symbols_in)]
 fn entry_symbols(alloc: Global, text: &str, table: &Table<'_>) -> Result<Vec<Symbol>, AllocError> {
     let mut out = Vec::new(alloc);

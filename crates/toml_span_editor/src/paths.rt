@@ -4,7 +4,7 @@ use std::fmt::Write;
 use toml_span::value::Step;
 use toml_span_places::quote_key;
 
-/// Returns a path as a pointer, such as `/a/0/b`. Names are written without escapes. Fails if an allocation fails.
+/// Returns a path as a pointer, such as `/a/0/b`. Names are not escaped.
 pub(crate) fn pointer(alloc: Global, path: &[Step<'_>]) -> Result<String, AllocError> {
     let mut out = String::new(alloc);
     for step in path {
@@ -17,7 +17,7 @@ pub(crate) fn pointer(alloc: Global, path: &[Step<'_>]) -> Result<String, AllocE
     Ok(out)
 }
 
-/// Returns a path as a dotted key with positions in brackets, such as `a[0].b`. Fails if an allocation fails.
+/// Returns a path as a dotted key with positions in brackets, such as `a[0].b`.
 pub(crate) fn dotted(alloc: Global, path: &[Step<'_>]) -> Result<String, AllocError> {
     let mut out = String::new(alloc);
     for step in path {

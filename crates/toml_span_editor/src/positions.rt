@@ -24,7 +24,7 @@ pub struct Range {
     pub end: Position,
 }
 
-/// The largest number of the protocol, at which counts stop.
+/// The largest number of the protocol. Larger counts are cut to this number.
 const LARGEST: usize = 2_147_483_647;
 
 /// The position of the start of a text.
@@ -33,14 +33,14 @@ pub const FIRST: Position = Position {
     character: 0,
 };
 
-/// Returns the sum of two counts, or `LARGEST` if the sum is larger.
+/// Returns the sum of two counts, but at most `LARGEST`.
 fn plus(count: usize, more: usize) -> usize
     ensures { result ≡ spec.plus count more }
 {
     count.saturating_add(more).min(LARGEST)
 }
 
-/// Returns the byte at the offset `at`, or 0 if that is the end of the text or after it.
+/// Returns the byte at the offset `at`, or 0 at the end of the text and after it.
 pub(crate) fn byte_at(text: &str, at: usize) -> u8
     ensures { result ≡ slice_index text.now at }
 {
@@ -48,7 +48,7 @@ pub(crate) fn byte_at(text: &str, at: usize) -> u8
     if at < bytes.len() { bytes[at] } else { 0 }
 }
 
-/// Returns the number of code units of a character of several bytes, given its first byte.
+/// Returns the number of code units of the character of several bytes that begins with `byte`.
 fn wide_units(encoding: Encoding, byte: u8) -> usize
     ensures { result ≡ spec.wide_units encoding byte }
 {
@@ -61,7 +61,7 @@ fn wide_units(encoding: Encoding, byte: u8) -> usize
     }
 }
 
-/// Returns the number of code units of the character that begins with this byte, or 0 if the byte is inside a
+/// Returns the number of code units of the character that begins with `byte`, or 0 if `byte` is not the first byte of a
 /// character.
 fn units(encoding: Encoding, byte: u8) -> usize
     ensures { result ≡ spec.units encoding byte }
@@ -73,15 +73,15 @@ fn units(encoding: Encoding, byte: u8) -> usize
     }
 }
 
-/// Returns whether a line ends with `byte`, which is followed by `next`. Lines end with LF, CRLF, or a CR alone.
+/// Returns whether a line ends with `byte`, if the byte after it is `next`. Lines end with LF, CRLF, or a CR alone.
 fn ends_line(byte: u8, next: u8) -> bool
     ensures { result ≡ spec.ends_line byte next }
 {
     byte == b'\n' || (byte == b'\r' && next != b'\n')
 }
 
-/// Returns the position after `byte`, which is at `position` and followed by the byte `next`. There is no position
-/// between CR and LF.
+/// Returns the position after `byte`, which is at `position` and before the byte `next`. A CR before LF does not change
+/// the position.
 fn after(encoding: Encoding, position: Position, byte: u8, next: u8) -> Position
     ensures { result ≡ spec.after encoding position byte next }
 {
@@ -101,8 +101,8 @@ fn after(encoding: Encoding, position: Position, byte: u8, next: u8) -> Position
     }
 }
 
-/// Returns the position of the byte offset `to`. `position` is the position of the byte offset `from`, which must not
-/// be after `to`.
+/// Returns the position of the byte offset `to`, given the `position` of the byte offset `from`. Returns `position` if
+/// `to` is not after `from`.
 pub(crate) fn advanced(
     encoding: Encoding,
     text: &str,
@@ -120,14 +120,16 @@ pub(crate) fn advanced(
     position
 }
 
-/// Returns the position of a byte offset. An offset after the end of the text has the position of the end.
+/// Returns the position of the byte offset `at`. An offset after the end of the text has the position of the end, and
+/// an offset inside a character the position of the character's end.
 pub fn position_at(encoding: Encoding, text: &str, at: usize) -> Position
     ensures { result ≡ spec.position_of encoding text.now at }
 {
     advanced(encoding, text, FIRST, 0, at)
 }
 
-/// Returns the byte offset at which a line begins, or the length of the text if it has fewer lines.
+/// Returns the byte offset at which a line begins, or the length of the text if it has fewer lines. Lines are counted
+/// from 0.
 pub fn line_start(text: &str, line: usize) -> usize
     ensures value { result ≡ spec.line_start line text.now }
     ensures within { result ≤ length text.now }
@@ -143,9 +145,8 @@ pub fn line_start(text: &str, line: usize) -> usize
     at
 }
 
-/// Returns the byte offset of the character after `character` code units on the line that begins at `start`. If the
-/// line is shorter, returns the end of the line. If the count ends inside a character, returns the start of that
-/// character.
+/// Returns the byte offset that is `character` code units after `start`, the start of a line. If the line is shorter,
+/// returns the end of the line. If the count ends inside a character, returns the start of the character.
 fn column_end(encoding: Encoding, text: &str, start: usize, character: usize) -> usize
     requires { start ≤ length text.now }
     ensures value { result ≡ start + spec.column encoding character (drop start text.now) }
@@ -165,8 +166,8 @@ fn column_end(encoding: Encoding, text: &str, start: usize, character: usize) ->
     at
 }
 
-/// Returns the byte offset of a position. A character past the end of its line counts as the line's end, a line past
-/// the end of the text as the text's end, and a position inside a character as the character's start.
+/// Returns the byte offset of a position. A position past the end of its line counts as the end of the line, and a line
+/// past the end of the text as the end of the text. A position inside a character counts as the character's start.
 pub fn offset_at(encoding: Encoding, text: &str, position: Position) -> usize
     ensures value { result ≡ spec.offset_of encoding text.now position }
     ensures boundary { IsCharBoundary text.now result }

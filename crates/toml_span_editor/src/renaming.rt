@@ -1,4 +1,4 @@
-//! Renames a key at each place where it is written.
+//! Renames a key wherever it is written.
 ghost use Rattle.std.specs.Prelude.{IfOk, string_bytes};
 ghost use Rattle.toml_span_editor.specs.Renaming.{Renames, RenamesBy};
 
@@ -15,15 +15,15 @@ use toml_span_places::{key_places, quote_key};
 /// A key that can be renamed.
 #[derive(Debug, Drop)]
 pub struct Renamable {
-    /// The bytes of the key with its quotes.
+    /// The span of the key with its quotes.
     pub span: Span,
     /// The name without quotes and escapes.
     pub name: String,
-    /// The segments of the path from the root to the value of the key. The last one is the name.
+    /// The segments of the path from the root to the key's value. The last segment is the name.
     pub path: Vec<String>,
 }
 
-/// Returns a step as the segment of a path. Fails if an allocation fails.
+/// Returns a step as the segment of a path: a name, or a position in decimal digits.
 fn segment_of(alloc: Global, step: Step<'_>) -> Result<String, AllocError> {
     match step {
         Step::Key(name) => String::from_str(alloc, name),
@@ -31,7 +31,7 @@ fn segment_of(alloc: Global, step: Step<'_>) -> Result<String, AllocError> {
     }
 }
 
-/// Returns the segments of a path. Fails if an allocation fails.
+/// Returns the segments of a path.
 fn segments_of(alloc: Global, path: &[Step<'_>]) -> Result<Vec<String>, AllocError> {
     let mut segments = Vec::new(alloc);
     for step in path {
@@ -40,7 +40,7 @@ fn segments_of(alloc: Global, path: &[Step<'_>]) -> Result<Vec<String>, AllocErr
     Ok(segments)
 }
 
-/// Returns the key at an offset, if there is one. Fails if an allocation fails.
+/// Returns the key at the byte offset `at`, or `None` if no key is there. Fails if an allocation fails.
 pub fn renamable_at(
     alloc: Global,
     document: &Document<'_>,
@@ -61,15 +61,14 @@ pub fn renamable_at(
     }))
 }
 
-/// Returns why a rename was refused, in words. Fails if an allocation fails.
+/// Returns the message of a refused rename.
 fn refusal(alloc: Global, error: &EditError) -> Result<String, AllocError> {
     let mut message = String::from_str(alloc, error.reason.text())?;
     message.push_str(error.reason.detail())?;
     Ok(message)
 }
 
-/// Returns the text with the key at a path renamed to `name`. Fails with the reason if the rename is refused, and with
-/// `Stop::Memory` if an allocation fails.
+/// Returns the text with the key at a path renamed to `name`. Fails with a message if the rename is refused.
 fn renamed(alloc: Global, text: &str, path: &[&str], name: &str) -> Result<String, Stop<String>>
     ensures { IfOk result (λ new. Renames name.now text.now (string_bytes new)) }
 {
@@ -87,7 +86,7 @@ fn renamed(alloc: Global, text: &str, path: &[&str], name: &str) -> Result<Strin
     }
 }
 
-/// Returns edits that replace each mention of the key at an offset with the key `name`. Fails if an allocation fails.
+/// Returns edits that replace each mention of the key at the offset `at` with the key `name`.
 fn mention_edits(
     alloc: Global,
     document: &Document<'_>,
@@ -104,9 +103,9 @@ fn mention_edits(
     Ok(edits)
 }
 
-/// Returns the edits that rename the key at an offset, at each place where it is written. With these edits made, the
-/// document is valid, and only the name has changed. Fails with the reason if there is no key at the offset or the
-/// rename is refused, and with `Stop::Memory` if an allocation fails.
+/// Returns the edits that rename the key at the byte offset `at` to `name`, wherever the key is written. The new text
+/// is valid, and only the name has changed. Fails with a message if no key is at `at`, or if the rename is refused.
+/// Fails with `Stop::Memory` if an allocation fails.
 pub fn rename(
     alloc: Global,
     document: &Document<'_>,

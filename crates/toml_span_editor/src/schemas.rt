@@ -6,11 +6,10 @@ use toml_span::value::Step;
 use toml_span_places::to_toml;
 use toml_span_schema::{Guide, Notes, Subschemas};
 
-/// The maximum number of values that are listed.
+/// The maximum number of values to list.
 const MOST: usize = 30;
 
-/// Returns the subschemas that apply to the value at a path, which need not be in the document. Fails if an allocation
-/// fails.
+/// Returns the subschemas that apply to the value at a path. The value need not exist.
 pub(crate) fn subschemas_at(
     alloc: Global,
     guide: &Guide,
@@ -29,8 +28,7 @@ pub(crate) fn subschemas_at(
     Ok(found)
 }
 
-/// Returns the values of `enum` and `const` in the subschemas, as they are written in TOML, each once. Fails if an
-/// allocation fails.
+/// Returns the values of `enum` and `const` in the subschemas, each once, as TOML.
 pub(crate) fn words_of(
     alloc: Global,
     guide: &Guide,
@@ -48,8 +46,7 @@ pub(crate) fn words_of(
     Ok(words)
 }
 
-/// Returns the default value in the first of the subschemas that has one, as it is written in TOML, or `None` if none
-/// has. Fails if an allocation fails.
+/// Returns the default value of the first subschema that has one, as TOML, or `None` if none has one.
 pub(crate) fn default_of(
     alloc: Global,
     guide: &Guide,
@@ -63,7 +60,7 @@ pub(crate) fn default_of(
     Ok(None)
 }
 
-/// Returns whether one of the subschemas has `deprecated: true`. Fails if an allocation fails.
+/// Returns whether any of the subschemas has `deprecated: true`.
 pub(crate) fn is_deprecated(
     alloc: Global,
     guide: &Guide,
@@ -77,7 +74,7 @@ pub(crate) fn is_deprecated(
     Ok(false)
 }
 
-/// Appends a paragraph, unless it is empty, or `out` already contains it. Fails if an allocation fails.
+/// Appends a paragraph, or nothing if `text` is empty or already in `out`.
 fn push_paragraph(out: &mut String, text: &str) -> Result<(), AllocError> {
     if text.is_empty() || out.contains(text) {
         return Ok(());
@@ -88,8 +85,7 @@ fn push_paragraph(out: &mut String, text: &str) -> Result<(), AllocError> {
     out.push_str(text)
 }
 
-/// Appends a paragraph with the title of a schema, in bold, and one with its description, if the schema has these.
-/// Fails if an allocation fails.
+/// Appends the title of a schema in bold, and the description, each as a paragraph, if the schema has them.
 fn push_text(alloc: Global, note: &Notes, out: &mut String) -> Result<(), AllocError> {
     if let Some(title) = &note.title {
         let title = format!(in alloc; "**{title}**")?;
@@ -101,8 +97,7 @@ fn push_text(alloc: Global, note: &Notes, out: &mut String) -> Result<(), AllocE
     Ok(())
 }
 
-/// Appends a paragraph that lists `words`, at most `MOST` of them. Appends nothing if there are none. Fails if an
-/// allocation fails.
+/// Appends a paragraph that lists the first `MOST` words. Appends nothing if `words` is empty.
 fn push_words(alloc: Global, words: &[String], out: &mut String) -> Result<(), AllocError> {
     if words.is_empty() {
         return Ok(());
@@ -120,9 +115,8 @@ fn push_words(alloc: Global, words: &[String], out: &mut String) -> Result<(), A
     push_paragraph(out, line.as_str())
 }
 
-/// Returns the description of a value in the subschemas that apply to it, as Markdown: that it is deprecated, titles,
-/// descriptions, the default, and the values of `enum` and `const`. The text is empty if the subschemas have none of
-/// these. Fails if an allocation fails.
+/// Returns what the subschemas say about a value, in Markdown: whether it is deprecated, titles, descriptions, the
+/// default, and the values of `enum` and `const`. The text is empty if they say none of these.
 pub(crate) fn documentation(
     alloc: Global,
     guide: &Guide,

@@ -6,7 +6,7 @@ use toml_span::value::nodes;
 use toml_span_lex::span::Span;
 use toml_span_places::{key_places, literal_span, section_places, with_quotes};
 
-/// Appends a span, if it is not empty and touches an offset. Fails if an allocation fails.
+/// Appends a span, or nothing if the span is empty or does not touch the offset `at`.
 fn push_touching(span: Span, at: usize, spans: &mut Vec<Span>) -> Result<(), AllocError> {
     if touches(span, at) && span.start < span.end {
         spans.push(span)?;
@@ -14,8 +14,8 @@ fn push_touching(span: Span, at: usize, spans: &mut Vec<Span>) -> Result<(), All
     Ok(())
 }
 
-/// Returns the spans of keys, values, entries and sections that touch an offset, and the span of the whole text. Fails
-/// if an allocation fails.
+/// Returns the spans of keys, values, entries, headers and sections that touch the offset `at`, and the span of the
+/// whole text.
 fn spans_at(alloc: Global, document: &Document<'_>, at: usize) -> Result<Vec<Span>, AllocError> {
     let text = document.text;
     let sections = document.sections.as_slice();
@@ -41,8 +41,8 @@ fn spans_at(alloc: Global, document: &Document<'_>, at: usize) -> Result<Vec<Spa
     Ok(spans)
 }
 
-/// Returns the spans around an offset, each within the next one: those of the key or value there, of its entry, of the
-/// values and sections around it, and of the whole text. Fails if an allocation fails.
+/// Returns the spans around the byte offset `at`, each inside the next: of the key or value, its entry or header, the
+/// values and sections around it, and the whole text. Fails if an allocation fails.
 pub fn selections(
     alloc: Global,
     document: &Document<'_>,

@@ -1,8 +1,8 @@
-//! Writes snippets: texts with places to fill in (LSP 3.17, Snippet Syntax).
+//! Writes snippets, which are texts with places to fill in (LSP 3.17, Snippet Syntax).
 use std::alloc::AllocError;
 use toml_span_schema::Kinds;
 
-/// Appends a text of a snippet, outside choices: `$`, `}` and `\` are escaped with `\`. Fails if an allocation fails.
+/// Appends text outside a choice, with `\` before each `$`, `}` and `\`.
 pub(crate) fn push_text(out: &mut String, text: &str) -> Result<(), AllocError> {
     for c in text.chars() {
         if matches!(c, '$' | '}' | '\\') {
@@ -13,7 +13,7 @@ pub(crate) fn push_text(out: &mut String, text: &str) -> Result<(), AllocError> 
     Ok(())
 }
 
-/// Appends a word of a choice: `,`, `|` and `\` are escaped with `\`. Fails if an allocation fails.
+/// Appends a word of a choice, with `\` before each `,`, `|` and `\`.
 fn push_word(out: &mut String, word: &str) -> Result<(), AllocError> {
     for c in word.chars() {
         if matches!(c, ',' | '|' | '\\') {
@@ -24,7 +24,7 @@ fn push_word(out: &mut String, word: &str) -> Result<(), AllocError> {
     Ok(())
 }
 
-/// Appends a place that takes one of `words`, as the user chooses. Fails if an allocation fails.
+/// Appends a place at which the user chooses one of `words`.
 fn push_choice(out: &mut String, words: &[&str]) -> Result<(), AllocError> {
     out.push_str("${1|")?;
     for (at, word) in words.iter().enumerate() {
@@ -36,8 +36,8 @@ fn push_choice(out: &mut String, words: &[&str]) -> Result<(), AllocError> {
     out.push_str("|}")
 }
 
-/// Appends a place for a value, inside the quotes, braces or brackets of the first of these that is allowed: a string,
-/// a table or an array. Fails if an allocation fails.
+/// Appends a place for a value: in quotes if strings are allowed, otherwise in braces for a table or in brackets for an
+/// array, otherwise alone.
 fn push_kind(out: &mut String, kinds: Kinds) -> Result<(), AllocError> {
     out.push_str(if kinds.string {
         "\"$1\""
@@ -50,8 +50,9 @@ fn push_kind(out: &mut String, kinds: Kinds) -> Result<(), AllocError> {
     })
 }
 
-/// Appends a place for a value: the first of these that applies is a choice among `words`, a choice of a boolean with
-/// the default first, the default, or a place as `push_kind` appends it. Fails if an allocation fails.
+/// Appends a place for a value: a choice among `words`, if there are any. Without words, it is a choice of booleans,
+/// with the default first, if booleans but not strings are allowed. Otherwise it is the default, or the place that
+/// `push_kind` appends.
 pub(crate) fn push_place(
     out: &mut String,
     kinds: Kinds,

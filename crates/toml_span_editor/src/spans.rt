@@ -13,7 +13,7 @@ pub(crate) fn cover(one: Span, other: Span) -> Span
     }
 }
 
-/// Returns whether an offset is in a span or at its end.
+/// Returns whether the offset `at` is in a span or at its end.
 pub(crate) fn touches(span: Span, at: usize) -> bool {
     span.start <= at && at <= span.end
 }

@@ -1,4 +1,4 @@
-//! Suggests what can be written at an offset, from a schema.
+//! Suggests what can be written at an offset, according to a schema.
 use crate::completion::{has_key, table_path};
 use crate::context::{Context, Segment, Spot, context_at, push_step};
 use crate::document::Document;
@@ -15,7 +15,7 @@ use toml_span_schema::{Guide, Kinds, Subschemas};
 /// The maximum number of suggestions.
 const MOST: usize = 500;
 
-/// What a suggestion is.
+/// The kind of a suggestion.
 #[derive(Clone, Copy, Debug, PartialEq, Eq)]
 pub enum Nature {
     Key,
@@ -24,24 +24,24 @@ pub enum Nature {
     Value,
 }
 
-/// A suggestion of a schema for what to write at an offset.
+/// A key, table or value that can be written at an offset, according to a schema.
 #[derive(Debug, Drop)]
 pub struct Suggestion {
     pub nature: Nature,
-    /// The key or the value, as it is written in TOML.
+    /// The key or value as TOML.
     pub label: String,
     /// For a key, the kinds of its values, and `required` if it is required. For a value, `default` if it is the
-    /// default. May be empty.
+    /// default. Empty if there is nothing to say.
     pub detail: String,
-    /// The description of the key in the schema, as Markdown, or an empty text.
+    /// For a key, what the schema says about its value, in Markdown. May be empty.
     pub documentation: String,
     pub is_required: bool,
     pub is_deprecated: bool,
-    /// The bytes that the suggestion replaces.
+    /// The span that the suggestion replaces.
     pub span: Span,
-    /// The text that replaces these bytes.
+    /// The text that replaces `span`.
     pub text: String,
-    /// The text with places to fill in, as a snippet of LSP, or `None` if it has no such places.
+    /// The text with places to fill in, as a snippet of LSP, or `None` without such places.
     pub snippet: Option<String>,
 }
 
@@ -49,27 +49,34 @@ pub struct Suggestion {
 #[derive(Clone, Copy)]
 struct Site<'t> {
     spot: Spot,
-    /// The bytes that a suggestion replaces.
+    /// The span that a suggestion replaces.
     typed: Span,
-    /// The text after the offset, up to the end of its line.
+    /// The text from the offset to the end of its line.
     rest: &'t str,
 }
 
-/// Returns the text after an offset, up to the end of its line.
+/// Returns the text from the offset `at` to the end of its line.
 fn rest_of_line(text: &str, at: usize) -> &str {
     let rest = text.get(at..).unwrap_or("");
     rest.split('\n').next().unwrap_or("")
 }
 
-/// Returns whether a key is followed by `=` or a period. `rest` is the text from an offset in the key to the end of the
-/// line.
-fn is_assigned(rest: &str) -> bool {
+/// Returns what follows a key on its line. `rest` is the text from an offset in the key to the end of the line. In a
+/// quoted key, only letters, digits, dashes and underscores may be between the offset and the closing quote.
+fn after_key(rest: &str) -> &str {
     let is_word = |c: char| c.is_ascii_alphanumeric() || c == '-' || c == '_';
-    let rest = rest.trim_start_matches(is_word).trim_ascii_start();
+    let rest = rest.trim_start_matches(is_word);
+    let rest = rest.strip_prefix('"').unwrap_or(rest);
+    rest.strip_prefix('\'').unwrap_or(rest)
+}
+
+/// Returns whether `=` or a period follows a key. `rest` is as for `after_key`.
+fn is_assigned(rest: &str) -> bool {
+    let rest = after_key(rest).trim_ascii_start();
     rest.starts_with('=') || rest.starts_with('.')
 }
 
-/// Returns the names of kinds, as in `string or table`. Fails if an allocation fails.
+/// Returns the names of the kinds, as in `string or table`.
 fn kinds_text(alloc: Global, kinds: Kinds) -> Result<String, AllocError> {
     let named = [
         (kinds.string, "string"),
@@ -89,7 +96,7 @@ fn kinds_text(alloc: Global, kinds: Kinds) -> Result<String, AllocError> {
     Ok(out)
 }
 
-/// Returns the detail of a key: the kinds of its values, and whether it is required. Fails if an allocation fails.
+/// Returns the detail of a key: the kinds of its values, and `required` if `is_required`.
 fn detail_of(alloc: Global, kinds: Kinds, is_required: bool) -> Result<String, AllocError> {
     let mut out = kinds_text(alloc, kinds)?;
     if is_required {
@@ -102,16 +109,18 @@ fn detail_of(alloc: Global, kinds: Kinds, is_required: bool) -> Result<String, A
     Ok(out)
 }
 
-/// Appends the brackets that close a header at the site, except for those that are there. Appends nothing if the site
-/// is not in a header. Fails if an allocation fails.
+/// Appends the brackets that close a header, except for brackets that follow the key at the offset. Appends nothing
+/// outside a header, or if the header goes on after the key.
 fn push_brackets(out: &mut String, site: Site<'_>) -> Result<(), AllocError> {
     let needed = match site.spot {
         Spot::Table => 1,
         Spot::TableInArray => 2,
         _ => 0,
     };
-    let is_word = |c: char| c.is_ascii_alphanumeric() || c == '-' || c == '_';
-    let rest = site.rest.trim_start_matches(is_word);
+    let rest = after_key(site.rest).trim_ascii_start();
+    if rest.starts_with('.') {
+        return Ok(());
+    }
     for at in 0..needed {
         if rest.as_bytes().get(at) != Some(&b']') {
             out.push(']')?;
@@ -120,14 +129,14 @@ fn push_brackets(out: &mut String, site: Site<'_>) -> Result<(), AllocError> {
     Ok(())
 }
 
-/// Returns the kinds of the elements of an array to which the subschemas `inner` apply. Fails if an allocation fails.
+/// Returns the kinds of the elements of an array to which the subschemas `inner` apply.
 fn element_kinds(alloc: Global, guide: &Guide, inner: &Subschemas) -> Result<Kinds, AllocError> {
     let elements = guide.subschemas_inside(alloc, inner, Step::Position(0), None)?;
     Ok(guide.kinds_of(&elements))
 }
 
-/// Returns whether a key can be written at a spot. `inner` are the subschemas that apply to the value of the key. A
-/// header needs a table, and a header in double brackets an array of tables. Fails if an allocation fails.
+/// Returns whether a key can be written at a spot. `inner` are the subschemas for the value of the key. A header needs
+/// a table, and a header in double brackets an array of tables.
 fn is_possible(
     alloc: Global,
     guide: &Guide,
@@ -142,7 +151,7 @@ fn is_possible(
     }
 }
 
-/// Returns the nature of the suggestion of a key at a spot.
+/// Returns the nature of a key that is suggested at a spot.
 fn nature_of(spot: Spot) -> Nature {
     if spot == Spot::Key {
         Nature::Key
@@ -151,8 +160,7 @@ fn nature_of(spot: Spot) -> Nature {
     }
 }
 
-/// Returns the suggestion of the key `name`. `inner` are the subschemas that apply to the value of the key. Fails if an
-/// allocation fails.
+/// Returns the suggestion of the key `name`. `inner` are the subschemas for the value of the key.
 fn key_suggestion(
     alloc: Global,
     guide: &Guide,
@@ -190,8 +198,7 @@ fn key_suggestion(
     })
 }
 
-/// Returns the snippet that consists of the text `front` and a place for a value, as `push_place` appends it. Fails if an
-/// allocation fails.
+/// Returns a snippet with the text `front` and the place for a value that `push_place` appends.
 fn snippet_of(
     alloc: Global,
     front: &str,
@@ -210,9 +217,9 @@ fn snippet_of(
     Ok(out)
 }
 
-/// Returns the suggestions of the keys that a table may have. For an assignment, leaves out the keys that the table has
-/// (`own`, if it can be read) or that are written before (`written`). `outer` are the subschemas that apply to the
-/// table. Fails if an allocation fails.
+/// Returns at most `MOST` suggestions of keys for a table. `outer` are the subschemas for the table, and `own` is the
+/// table if it can be read. Leaves out keys that are not possible (see `is_possible`) and, for an assignment, keys of
+/// `own` and keys in `written`.
 fn key_suggestions(
     alloc: Global,
     guide: &Guide,
@@ -238,8 +245,8 @@ fn key_suggestions(
     Ok(found)
 }
 
-/// Appends the suggestion of the value `word`, unless there is one already, or there are `MOST` suggestions. Fails if
-/// an allocation fails.
+/// Appends the suggestion of the value `word`. Appends nothing if `word` is suggested already, or if there are `MOST`
+/// suggestions.
 fn push_value(
     alloc: Global,
     found: &mut Vec<Suggestion>,
@@ -264,9 +271,8 @@ fn push_value(
     Ok(())
 }
 
-/// Returns the suggestions of values: the default, those of `enum` and `const`, and booleans if they are allowed.
-/// `inner` are the subschemas that apply to the value. Returns `None` if they say nothing about the value. Fails if an
-/// allocation fails.
+/// Returns suggestions of values: the default, the values of `enum` and `const`, and the booleans if they are allowed.
+/// `inner` are the subschemas for the value. Returns `None` if they say nothing about it.
 fn value_suggestions(
     alloc: Global,
     guide: &Guide,
@@ -291,14 +297,15 @@ fn value_suggestions(
     Ok(Some(found))
 }
 
-/// Returns the position of the last element of the array at a path, or `None` if there is no array.
+/// Returns the position of the last element of the array at a path, or 0 if the array is empty. Returns `None` if the
+/// path does not lead to an array.
 fn last_element(root: &Value<'_>, path: &[Step<'_>]) -> Option<usize> {
     let array = value_of(root, path)?.as_array()?;
     Some(array.len().saturating_sub(1))
 }
 
-/// Returns the path of a table that parts of a header name: after the name of an array of tables comes the position of
-/// its last table. Fails if an allocation fails.
+/// Returns the path for `segments`, the first parts of a header. After each part that leads to an array, adds the
+/// position of the array's last element, or 0 if the array is empty.
 fn header_steps<'p>(
     alloc: Global,
     root: &Value<'_>,
@@ -314,8 +321,7 @@ fn header_steps<'p>(
     Ok(steps)
 }
 
-/// Returns the path, from the root, that `Context::path` describes. `at` is the offset of the context. Fails if an
-/// allocation fails.
+/// Returns the path of `context` from the root. `at` is the offset of the context.
 fn steps_of<'p>(
     alloc: Global,
     document: &'p Document<'_>,
@@ -333,10 +339,11 @@ fn steps_of<'p>(
     Ok(steps)
 }
 
-/// Returns the suggestions of a schema for a byte offset: keys that the table at the offset does not have, names of
-/// tables in a header, or values. `text` is the whole text, and `document` as much of it as can be read. Returns no
-/// suggestions in a comment, and where neither a key nor a value is expected. Returns `None` if the schema says nothing
-/// about the place. Fails if an allocation fails.
+/// Returns what can be written at the byte offset `at`, according to a schema: keys that the table at `at` lacks, names
+/// of tables in a header, or values. `text` is the whole text, and `document` as much of it as can be read.
+///
+/// The list is empty in a comment, and where neither a key nor a value is expected. Returns `None` if there is no key
+/// to suggest, or if the schema says nothing about the value. Fails if an allocation fails.
 pub fn suggestions(
     alloc: Global,
     guide: &Guide,

@@ -1,4 +1,4 @@
-//! A table of positions, with which the position of any offset is found in constant time.
+//! A table that finds the position of any offset in a text in constant time.
 ghost use Rattle.std.specs.Prelude.{◌≡◌, ℕ, ◌*◌, ◌<◌, IfOk, length, slice_index_or};
 ghost use Rattle.toml_span_editor.specs.Positions as spec;
 ghost use Rattle.toml_span_editor.specs.declared.positions.Position.{Position};
@@ -7,10 +7,10 @@ use crate::positions::{Encoding, FIRST, Position, Range, advanced};
 use std::alloc::{AllocError, Global};
 use toml_span_lex::span::Span;
 
-/// The number of bytes between two offsets of the table.
+/// The number of bytes between the offsets of the table.
 const STEP: usize = 256;
 
-/// A text, and the positions of every 256th byte offset in it.
+/// A text, and the positions of the byte offsets 0, 256, 512 and so on.
 #[derive(Drop)]
 pub struct PositionTable<'t> {
     pub text: &'t str,
@@ -42,7 +42,8 @@ impl<'t> PositionTable<'t> {
         })
     }
 
-    /// Returns the position of a byte offset. An offset after the end of the text has the position of the end.
+    /// Returns the position of the byte offset `at`. An offset after the end of the text has the position of the end,
+    /// and an offset inside a character the position of the character's end.
     pub fn position(&self, at: usize) -> Position
         ensures { result ≡ spec.position_of self.now.encoding self.now.text.now at }
     {

@@ -1,4 +1,4 @@
-//! Returns the tokens of a document with their meanings, for syntax highlighting.
+//! Finds the tokens of a document with their meanings, for syntax highlighting.
 use crate::comments::comment_spans;
 use crate::document::Document;
 use std::alloc::{AllocError, Global};
@@ -49,7 +49,7 @@ fn value_meaning(value: &Value<'_>) -> Option<Meaning> {
     }
 }
 
-/// Appends a token for each line of a span. Fails if an allocation fails.
+/// Appends a token for each line of a span, except for empty lines.
 fn push_lines(
     text: &str,
     span: Span,
@@ -72,8 +72,8 @@ fn push_lines(
     Ok(())
 }
 
-/// Returns the tokens of a document in the order of the text: its keys, its values other than tables and arrays, and
-/// its comments. Strings of several lines are one token per line. Fails if an allocation fails.
+/// Returns the tokens of a document in the order of the text: keys, values other than tables and arrays, and comments.
+/// A string of several lines has a token for each line, except for empty lines. Fails if an allocation fails.
 pub fn tokens(alloc: Global, document: &Document<'_>) -> Result<Vec<Token>, AllocError> {
     let text = document.text;
     let mut tokens = Vec::new(alloc);

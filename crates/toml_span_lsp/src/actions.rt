@@ -3,12 +3,15 @@ use crate::incoming::{member, range_of};
 use crate::outgoing::{flag, text, write_workspace_edit};
 use json::{Value, Writer};
 use std::alloc::{AllocError, Global};
+use toml_span_check::newer::Version;
 use toml_span_editor::conversions::{OFFERS, converting};
 use toml_span_editor::diagnostics::{all_repairs, repairs};
+use toml_span_editor::document::{Document, read};
 use toml_span_editor::edits::Edit;
 use toml_span_editor::positions::offset_at;
 use toml_span_editor::table::PositionTable;
 use toml_span_lex::span::Span;
+use toml_span_lookup::lookup::Lookup;
 
 /// The kind of an action that repairs one error.
 const QUICK_FIX: &str = "quickfix";
@@ -19,7 +22,8 @@ const FIX_ALL: &str = "source.fixAll";
 /// The kind of an action that converts a table or an array to another form.
 const REWRITE: &str = "refactor.rewrite";
 
-/// Returns whether the kind of actions `kind` is `wanted` or inside it, as `source.fixAll` is inside `source`.
+/// Returns whether the kind of action `kind` is `wanted` or a part of `wanted`, as `source.fixAll` is a part of
+/// `source`. Every kind is a part of the empty kind.
 fn is_kind(kind: &str, wanted: &str) -> bool {
     match kind.strip_prefix(wanted) {
         Some(rest) => rest.is_empty() || wanted.is_empty() || rest.starts_with('.'),
@@ -27,8 +31,8 @@ fn is_kind(kind: &str, wanted: &str) -> bool {
     }
 }
 
-/// Returns whether a client wants actions of this kind: the request lists the kind or a kind that contains it, or has
-/// no list of kinds.
+/// Returns whether a client wants actions of a kind: the request lists the kind or a kind that contains it, or has no
+/// list of kinds.
 fn is_wanted(params: &Value<'_>, kind: &str) -> bool {
     match member(params, &["context", "only"]) {
         Some(Value::Array(kinds)) => kinds.iter().any(|wanted| wanted
@@ -38,7 +42,7 @@ fn is_wanted(params: &Value<'_>, kind: &str) -> bool {
     }
 }
 
-/// Writes an action. Fails if an allocation fails.
+/// Writes an action of this kind that makes these edits.
 fn write_action(
     out: &mut Writer,
     uri: &str,
@@ -57,16 +61,17 @@ fn write_action(
     out.end_object()
 }
 
-/// Writes an action for each conversion of the table or array at the offset `at`. Fails if an allocation fails.
+/// Writes an action for each possible conversion of the table or array at the offset `at`.
 fn write_conversions(
     alloc: Global,
     out: &mut Writer,
     uri: &str,
     table: &PositionTable<'_>,
+    document: &Document<'_>,
     at: usize,
 ) -> Result<(), AllocError> {
     for offer in &OFFERS {
-        if let Some(made) = converting(alloc, table.text, offer.conversion, at)? {
+        if let Some(made) = converting(alloc, document, offer.conversion, at)? {
             write_action(
                 out,
                 uri,
@@ -81,34 +86,76 @@ fn write_conversions(
     Ok(())
 }
 
-/// Writes an action for each repair of an error that touches a span, an action that makes all safe repairs of the
-/// document, and an action for each conversion of the table or array at the start of the span. Leaves out kinds that
-/// the client does not want. Fails if an allocation fails.
+/// Writes an action for each repair of a diagnostic that touches `span`. `document` is the text as `read` returns it.
+fn write_repairs(
+    alloc: Global,
+    out: &mut Writer,
+    uri: &str,
+    table: &PositionTable<'_>,
+    document: Option<&Document<'_>>,
+    version: Version,
+    name: &str,
+    lookup: &mut Lookup,
+    span: Span,
+) -> Result<(), AllocError> {
+    let (text, chooser) = (table.text, lookup.chooser());
+    let found = repairs(alloc, text, document, version, chooser, name, lookup, span)?;
+    for repair in &found {
+        let title = repair.title.as_str();
+        let edits = repair.edits.as_slice();
+        write_action(out, uri, table, title, QUICK_FIX, repair.is_safe, edits)?;
+    }
+    Ok(())
+}
+
+/// Writes an action that makes all safe repairs of a text, if there are any. `document` is the text as `read` returns
+/// it.
+fn write_fix_all(
+    alloc: Global,
+    out: &mut Writer,
+    uri: &str,
+    table: &PositionTable<'_>,
+    document: Option<&Document<'_>>,
+    version: Version,
+    name: &str,
+) -> Result<(), AllocError> {
+    let edits = all_repairs(alloc, table.text, document, version, name)?;
+    if edits.is_empty() {
+        return Ok(());
+    }
+    let title = "Make all safe repairs";
+    write_action(out, uri, table, title, FIX_ALL, false, edits.as_slice())
+}
+
+/// Writes an action for each repair of a diagnostic that touches `span`, an action with all safe repairs of the
+/// document, and an action for each conversion of the table or array at the start of `span`. Leaves out kinds that the
+/// client does not want. `name` is the path of the file. Reads no files.
 pub(crate) fn write_actions(
     alloc: Global,
     out: &mut Writer,
     uri: &str,
     table: &PositionTable<'_>,
+    version: Version,
+    name: &str,
+    lookup: &mut Lookup,
     span: Span,
     params: &Value<'_>,
 ) -> Result<(), AllocError> {
+    let document = read(alloc, table.text)?;
+    let document = document.as_ref();
     out.begin_array()?;
     if is_wanted(params, QUICK_FIX) {
-        for repair in &repairs(alloc, table.text, span)? {
-            let title = repair.title.as_str();
-            let edits = repair.edits.as_slice();
-            write_action(out, uri, table, title, QUICK_FIX, repair.is_safe, edits)?;
-        }
+        write_repairs(
+            alloc, out, uri, table, document, version, name, lookup, span,
+        )?;
     }
     if is_wanted(params, FIX_ALL) {
-        let edits = all_repairs(alloc, table.text)?;
-        if !edits.is_empty() {
-            let title = "Make all safe repairs";
-            write_action(out, uri, table, title, FIX_ALL, false, edits.as_slice())?;
-        }
+        write_fix_all(alloc, out, uri, table, document, version, name)?;
     }
-    if is_wanted(params, REWRITE) {
-        write_conversions(alloc, out, uri, table, span.start)?;
+    if let Some(document) = document {
+        if is_wanted(params, REWRITE) {
+            write_conversions(alloc, out, uri, table, document, span.start)?;
+        }
     }
     out.end_array()
 }

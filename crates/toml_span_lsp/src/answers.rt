@@ -11,8 +11,7 @@ use toml_span_editor::suggestions::suggestions;
 use toml_span_editor::table::PositionTable;
 use toml_span_schema::Guide;
 
-/// Writes the place where the key at an offset is defined, or null if the offset is not at a key. Fails if an
-/// allocation fails.
+/// Writes the location where the key at an offset is defined, or null if there is no key at the offset.
 pub(crate) fn write_definition(
     alloc: Global,
     out: &mut Writer,
@@ -27,7 +26,8 @@ pub(crate) fn write_definition(
     }
 }
 
-/// Writes the description of the key or value at an offset, or null if there is neither. Fails if an allocation fails.
+/// Writes the description of the key or value at an offset. Writes null if neither a key nor a value other than a table
+/// is there.
 pub(crate) fn write_hover(
     alloc: Global,
     out: &mut Writer,
@@ -49,7 +49,7 @@ pub(crate) fn write_hover(
     out.end_object()
 }
 
-/// Writes a proposal as a completion item. Fails if an allocation fails.
+/// Writes a proposal as a completion item.
 fn write_proposal(out: &mut Writer, proposal: &Proposal) -> Result<(), AllocError> {
     out.begin_object()?;
     text(out, "label", proposal.text.as_str())?;
@@ -58,8 +58,8 @@ fn write_proposal(out: &mut Writer, proposal: &Proposal) -> Result<(), AllocErro
     out.end_object()
 }
 
-/// Writes the proposals for an offset: those of the schema `guide` or, if there is no schema or it says nothing about
-/// the place, those of `write_proposals`. Fails if an allocation fails.
+/// Writes the proposals for an offset: what `suggestions` returns for the schema `guide` or, if `guide` is `None` or
+/// `suggestions` returns `None`, those of `write_proposals`.
 pub(crate) fn write_completion(
     alloc: Global,
     out: &mut Writer,
@@ -77,7 +77,7 @@ pub(crate) fn write_completion(
     write_proposals(alloc, out, table, document, at)
 }
 
-/// Writes the proposals for an offset in a document without a schema. Fails if an allocation fails.
+/// Writes the proposals for an offset that need no schema.
 fn write_proposals(
     alloc: Global,
     out: &mut Writer,

@@ -1,5 +1,5 @@
 //! The answer to `initialize`, which lists the capabilities of the server.
-use crate::configuration::use_settings;
+use crate::configuration::{settings_in, use_settings};
 use crate::incoming::{member, text_in};
 use crate::outgoing::{flag, number, text};
 use crate::state::{Client, State};
@@ -24,7 +24,7 @@ const PROVIDERS: [&str; 9] = [
 /// The types of semantic tokens, in the order of their numbers.
 const TOKEN_TYPES: [&str; 6] = ["comment", "type", "property", "string", "number", "keyword"];
 
-/// Returns whether a client can count characters in UTF-8 code units.
+/// Returns whether the client offers positions in UTF-8 code units. `params` are the parameters of `initialize`.
 fn offers_utf8(params: &Value<'_>) -> bool {
     match member(params, &["capabilities", "general", "positionEncodings"]) {
         Some(Value::Array(names)) => names.iter().any(|name| name.as_str() == Some("utf-8")),
@@ -32,7 +32,7 @@ fn offers_utf8(params: &Value<'_>) -> bool {
     }
 }
 
-/// Returns whether the member of `capabilities` at the path `names` is `true` in the parameters of `initialize`.
+/// Returns whether `names` select a member of `capabilities` that is `true`, in the parameters of `initialize`.
 fn can(params: &Value<'_>, names: &[&str]) -> bool {
     let said = params
         .get("capabilities")
@@ -63,8 +63,8 @@ fn client_of(params: &Value<'_>) -> Client {
     }
 }
 
-/// Returns the URI of the folder that is open in the editor, or of the first one if several are open. Returns `None` if
-/// no folder is open.
+/// Returns the URI of the folder that is open in the editor, or of the first of several folders. Returns `None` if no
+/// folder is open.
 fn root_uri<'v>(params: &'v Value<'_>) -> Option<&'v str> {
     let first = params
         .get("workspaceFolders")
@@ -75,8 +75,8 @@ fn root_uri<'v>(params: &'v Value<'_>) -> Option<&'v str> {
     }
 }
 
-/// Returns the path of the folder that is open in the editor, with a slash at the end, or an empty text if no folder is
-/// open or its URI is not that of a file. Fails if an allocation fails.
+/// Returns the path of the folder that is open in the editor, with a slash at the end. Returns an empty text if no
+/// folder is open, or if the folder's URI is not that of a file.
 fn root_of(alloc: Global, params: &Value<'_>) -> Result<String, AllocError> {
     let found = match root_uri(params) {
         Some(uri) => path_of_uri(alloc, uri)?,
@@ -91,8 +91,7 @@ fn root_of(alloc: Global, params: &Value<'_>) -> Result<String, AllocError> {
     Ok(root)
 }
 
-/// Stores the capabilities, the folder and the settings of the client, from the parameters of `initialize`, in `state`.
-/// Fails if an allocation fails.
+/// Stores in `state` the capabilities, the folder and the settings of the client, from the parameters of `initialize`.
 pub(crate) fn learn(
     alloc: Global,
     state: &mut State,
@@ -106,12 +105,17 @@ pub(crate) fn learn(
     state.client = client_of(params);
     state.root = root_of(alloc, params)?;
     match params.get("initializationOptions") {
-        Some(options) => use_settings(alloc, state, options),
+        Some(options) => {
+            let given = settings_in(alloc, state, options)?;
+            state.initial = given.clone()?;
+            use_settings(alloc, state, given);
+            Ok(())
+        }
         None => Ok(()),
     }
 }
 
-/// Writes a member whose value is a list of strings. Fails if an allocation fails.
+/// Writes a member whose value is a list of strings.
 fn list(out: &mut Writer, name: &str, items: &[&str]) -> Result<(), AllocError> {
     out.key(name)?;
     out.begin_array()?;
@@ -121,8 +125,7 @@ fn list(out: &mut Writer, name: &str, items: &[&str]) -> Result<(), AllocError> 
     out.end_array()
 }
 
-/// Writes which notifications about documents the client must send: changes by ranges, and that a document was opened,
-/// saved or closed. Fails if an allocation fails.
+/// Writes which notifications the client must send: changes as ranges, and when a document is opened, saved or closed.
 fn write_sync(out: &mut Writer) -> Result<(), AllocError> {
     out.key("textDocumentSync")?;
     out.begin_object()?;
@@ -132,7 +135,7 @@ fn write_sync(out: &mut Writer) -> Result<(), AllocError> {
     out.end_object()
 }
 
-/// Writes the capabilities of the server that have options. Fails if an allocation fails.
+/// Writes the capabilities of the server that have options.
 fn write_options(out: &mut Writer) -> Result<(), AllocError> {
     out.key("completionProvider")?;
     out.begin_object()?;
@@ -160,7 +163,7 @@ fn write_options(out: &mut Writer) -> Result<(), AllocError> {
     out.end_object()
 }
 
-/// Writes the types of semantic tokens. Fails if an allocation fails.
+/// Writes the types of semantic tokens.
 fn write_tokens(out: &mut Writer) -> Result<(), AllocError> {
     out.key("semanticTokensProvider")?;
     out.begin_object()?;
@@ -173,7 +176,7 @@ fn write_tokens(out: &mut Writer) -> Result<(), AllocError> {
     out.end_object()
 }
 
-/// Writes the answer to `initialize`. Fails if an allocation fails.
+/// Writes the answer to `initialize`.
 pub(crate) fn write_capabilities(out: &mut Writer, encoding: Encoding) -> Result<(), AllocError> {
     let units = match encoding {
         Encoding::Utf8 => "utf-8",

@@ -1,8 +1,8 @@
 //! Requests the settings of the client, and uses them.
-use crate::incoming::{Id, member};
+use crate::incoming::Id;
 use crate::outgoing::{finished, request, text};
 use crate::publish::publish;
-use crate::settings::read_settings;
+use crate::settings::{Given, read_settings};
 use crate::state::State;
 use json::Value;
 use std::alloc::{AllocError, Global};
@@ -15,7 +15,7 @@ const SECTION: &str = "toml-span";
 /// The id of the request for the settings, and of the registration for their changes.
 const SETTINGS: &str = "settings";
 
-/// Returns the request for the settings. Fails if an allocation fails.
+/// Returns the request for the settings.
 fn settings_request(alloc: Global) -> Result<Vec<u8>, AllocError> {
     let mut out = request(alloc, SETTINGS, "workspace/configuration")?;
     out.begin_object()?;
@@ -29,8 +29,7 @@ fn settings_request(alloc: Global) -> Result<Vec<u8>, AllocError> {
     finished(out)
 }
 
-/// Returns the request that asks the client to notify the server when the settings change. Fails if an allocation
-/// fails.
+/// Returns the request that asks the client to report changes of the settings.
 fn registration(alloc: Global) -> Result<Vec<u8>, AllocError> {
     let mut out = request(alloc, "registration", "client/registerCapability")?;
     out.begin_object()?;
@@ -49,7 +48,7 @@ fn registration(alloc: Global) -> Result<Vec<u8>, AllocError> {
     finished(out)
 }
 
-/// Returns the request that asks the client to request diagnostics again. Fails if an allocation fails.
+/// Returns the request that asks the client to request diagnostics again.
 fn refresh_request(alloc: Global) -> Result<Vec<u8>, AllocError> {
     let mut out = request(alloc, "refresh", "workspace/diagnostic/refresh")?;
     out.begin_object()?;
@@ -57,46 +56,54 @@ fn refresh_request(alloc: Global) -> Result<Vec<u8>, AllocError> {
     finished(out)
 }
 
-/// Replaces the settings and the schemas in `state` by those that `value` sets. The schemas are not read yet. Adds a
-/// line to `state.notices` if settings are wrong. Fails if an allocation fails.
-pub(crate) fn use_settings(
+/// Returns the settings in `value`. Adds a line to `state.notices` if settings are wrong.
+pub(crate) fn settings_in(
     alloc: Global,
     state: &mut State,
     value: &Value<'_>,
-) -> Result<(), AllocError> {
+) -> Result<Given, AllocError> {
     let read = read_settings(alloc, state.root.as_str(), value)?;
-    state.settings = read.settings;
-    state.lookup = Lookup::new(alloc, read.options);
     if !read.faults.is_empty() {
         state.notices.push_str(read.faults.as_str())?;
         state.notices.push_str("\n")?;
     }
-    Ok(())
+    Ok(read.given)
 }
 
-/// Returns whether a value is null or an empty object, and so sets nothing.
-fn is_nothing(value: &Value<'_>) -> bool {
-    match value {
-        Value::Null => true,
-        Value::Object(members) => members.is_empty(),
-        _ => false,
+/// Replaces the settings in `state`, and `state.lookup` with a `Lookup` that has read no schemas.
+pub(crate) fn use_settings(alloc: Global, state: &mut State, given: Given) {
+    state.settings = given.settings;
+    state.lookup = Lookup::new(alloc, given.options);
+}
+
+/// Returns a value, or `None` if it is null or an empty object.
+fn not_empty<'v, 'j>(value: Option<&'v Value<'j>>) -> Option<&'v Value<'j>> {
+    match value? {
+        Value::Null => None,
+        Value::Object(members) if members.is_empty() => None,
+        _ => value,
     }
 }
 
-/// Uses the settings in `value`, unless it sets nothing. Then reads the schemas of the open documents, and appends a
-/// notification with the errors of each document. If the client requests diagnostics itself, appends the request to do
-/// that again instead, provided that the client supports it. Fails if an allocation fails.
+/// Uses the settings in `value`, or those of `initializationOptions` if `value` has none. Then reads the schemas of the
+/// open documents, and appends a notification with the diagnostics of each document, as `publish` does. If the client
+/// requests diagnostics itself and supports `refresh_request`, appends that request. Does nothing if `value` has no
+/// settings and those of `initializationOptions` are in use.
 fn change_settings<D: Disk>(
     alloc: Global,
     state: &mut State,
     disk: &mut D,
-    value: &Value<'_>,
+    value: Option<&Value<'_>>,
     out: &mut Vec<Vec<u8>>,
 ) -> Result<(), AllocError> {
-    if is_nothing(value) {
-        return Ok(());
-    }
-    use_settings(alloc, state, value)?;
+    let value = not_empty(value);
+    let given = match value {
+        Some(value) => settings_in(alloc, state, value)?,
+        None if state.has_later_settings => state.initial.clone()?,
+        None => return Ok(()),
+    };
+    state.has_later_settings = value.is_some();
+    use_settings(alloc, state, given);
     let mut uris = Vec::new(alloc);
     for (uri, open) in state.documents.iter() {
         state
@@ -107,7 +114,7 @@ fn change_settings<D: Disk>(
     let complaint = state.lookup.take_complaint(alloc);
     state.notices.push_str(complaint.as_str())?;
     for uri in &uris {
-        let _complaint = publish(alloc, state, uri.as_str(), out)?;
+        publish(alloc, state, uri.as_str(), out)?;
     }
     if state.client.asks_diagnostics && state.client.refreshes_diagnostics {
         out.push(refresh_request(alloc)?)?;
@@ -115,8 +122,8 @@ fn change_settings<D: Disk>(
     Ok(())
 }
 
-/// Appends the requests for changes of the settings, and for the settings, if the client supports them. Fails if an
-/// allocation fails.
+/// Appends the request to report changes of the settings, and the request for the settings. Leaves out a request that
+/// the client does not support.
 pub(crate) fn initialized(
     alloc: Global,
     state: &State,
@@ -131,9 +138,8 @@ pub(crate) fn initialized(
     Ok(())
 }
 
-/// Carries out the notification that the settings have changed: appends the request for the settings if the client
-/// supports it, and otherwise uses the settings in the notification, as `change_settings` does. Fails if an allocation
-/// fails.
+/// Carries out the notification that the settings have changed. Appends the request for the settings if the client
+/// supports it. Otherwise, uses the settings in the notification, as `change_settings` does.
 pub(crate) fn settings_changed<D: Disk>(
     alloc: Global,
     state: &mut State,
@@ -145,14 +151,16 @@ pub(crate) fn settings_changed<D: Disk>(
         out.push(settings_request(alloc)?)?;
         return Ok(());
     }
-    match member(params, &["settings", SECTION]) {
-        Some(settings) => change_settings(alloc, state, disk, settings, out),
-        None => Ok(()),
+    match params.get("settings") {
+        Some(settings @ (Value::Object(_) | Value::Null)) => {
+            change_settings(alloc, state, disk, settings.get(SECTION), out)
+        }
+        _ => Ok(()),
     }
 }
 
-/// Uses the settings in a response to the request for them, as `change_settings` does. Ignores other responses, and
-/// those without settings. Fails if an allocation fails.
+/// Uses the settings in a response to the request for the settings, as `change_settings` does. Ignores other responses,
+/// and responses without a list of settings.
 pub(crate) fn settings_came<D: Disk>(
     alloc: Global,
     state: &mut State,
@@ -165,7 +173,7 @@ pub(crate) fn settings_came<D: Disk>(
         return Ok(());
     };
     match answer.and_then(|answer| answer.at(0)) {
-        Some(settings) => change_settings(alloc, state, disk, settings, out),
+        Some(settings) => change_settings(alloc, state, disk, Some(settings), out),
         None => Ok(()),
     }
 }

@@ -13,8 +13,8 @@ use toml_span_format::Options;
 use toml_span_lex::span::Span;
 use toml_span_lex::stop::Stop;
 
-/// Writes the edits that rename the key at an offset. Fails with the reason if the rename is refused, and with
-/// `Stop::Memory` if an allocation fails.
+/// Writes the edits that rename the key at an offset. Fails with a `Refusal` if the rename is refused, or if the
+/// document has errors.
 pub(crate) fn write_rename(
     alloc: Global,
     out: &mut Writer,
@@ -39,8 +39,8 @@ pub(crate) fn write_rename(
     }
 }
 
-/// Writes the range and the name of the key at an offset, or null if the offset is not at a key or the document has
-/// errors. Fails if an allocation fails.
+/// Writes the range and the name of the key at an offset. Writes null if there is no key at the offset, or if the
+/// document has errors.
 pub(crate) fn write_renamable(
     alloc: Global,
     out: &mut Writer,
@@ -59,8 +59,8 @@ pub(crate) fn write_renamable(
     out.end_object()
 }
 
-/// Returns the options of the formatter: `width`, which the client set by `initialize`, and the indentation in the
-/// request, if it is at most 64. Options that are missing have their defaults.
+/// Returns the options of the formatter: `width`, and the `tabSize` of the request as the indentation, unless `tabSize`
+/// exceeds 64. An option that is missing has its default.
 fn options_of(width: Option<usize>, params: &Value<'_>) -> Options {
     let mut options = Options::new();
     if let Some(width) = width {
@@ -73,8 +73,8 @@ fn options_of(width: Option<usize>, params: &Value<'_>) -> Options {
     }
 }
 
-/// Writes the edits that format a document or, if the request has a range, the lines of the range. Writes null if that
-/// is not possible. Fails if an allocation fails.
+/// Writes the edits that format a document or, if the request has a valid range, the lines of the range. Writes null if
+/// the document can't be formatted.
 pub(crate) fn write_formatting(
     alloc: Global,
     out: &mut Writer,

@@ -22,7 +22,7 @@ pub enum FrameFault {
     TooLong,
 }
 
-/// The result of reading a frame at the start of the bytes received so far.
+/// The result of reading a frame at the start of the bytes.
 #[derive(Clone, Copy, Debug, PartialEq, Eq)]
 pub enum Framed {
     /// The whole frame is there. Its content is from `start` to `end`, the end exclusive.
@@ -33,7 +33,8 @@ pub enum Framed {
     Fault(FrameFault),
 }
 
-/// Returns the offset after the empty line that ends the headers, or `None` if the first 8 KiB have no such line.
+/// Returns the offset after the empty line that ends the headers, or `None` if this line does not end in the first 8
+/// KiB.
 fn headers_end(bytes: &[u8]) -> Option<usize> {
     let most = bytes.len().min(HEADERS);
     for at in 3..most {
@@ -48,7 +49,8 @@ fn headers_end(bytes: &[u8]) -> Option<usize> {
     None
 }
 
-/// Returns the value of the last header `Content-Length`, or `None` if it is missing or not a number.
+/// Returns the value of the last header `Content-Length`, or `None` if the header is missing or its value is not a
+/// number.
 fn length_in(headers: &str) -> Option<usize> {
     let mut found = None;
     for line in headers.split("\r\n") {
@@ -61,8 +63,8 @@ fn length_in(headers: &str) -> Option<usize> {
     found
 }
 
-/// Returns the frame whose content begins at `start` and has this length, `Part` if the bytes end before the content
-/// does, or a fault if the content is longer than `LIMIT`.
+/// Returns the frame whose content begins at `start` and has this length. Returns `Part` if the bytes end before the
+/// content does, or a fault if `length` exceeds `LIMIT`.
 fn content(bytes: &[u8], start: usize, length: usize) -> Framed {
     if length > LIMIT {
         return Framed::Fault(FrameFault::TooLong);
@@ -93,7 +95,7 @@ pub fn frame(bytes: &[u8]) -> Framed {
     }
 }
 
-/// Appends a frame with this content. Fails if an allocation fails.
+/// Appends a frame with this content to `out`. Fails if an allocation fails.
 pub fn push_frame(out: &mut Vec<u8>, content: &[u8]) -> Result<(), AllocError>
     ensures { OnOk result (out.new.items ≡ out.old.items ++ spec.frame_of content.now) }
 {

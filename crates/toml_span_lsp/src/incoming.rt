@@ -23,9 +23,10 @@ pub(crate) struct Call<'v, 'j> {
 #[derive(Clone, Copy)]
 pub(crate) enum Message<'v, 'j> {
     Call(Call<'v, 'j>),
-    /// A response to a request of the server: its id, and its result, or `None` if the response has no result.
+    /// A response to a request of the server: the request's id, and the result, or `None` if the response has no
+    /// result.
     Response(Id<'v>, Option<&'v Value<'j>>),
-    /// A value that is not a message of JSON-RPC 2.0, with its id, or `Null` if the id is missing or wrong.
+    /// A value that is not a message of JSON-RPC 2.0, with its id. The id is `Null` if the value has no valid id.
     Invalid(Id<'v>),
 }
 
@@ -42,7 +43,7 @@ fn id_of<'v, 'j>(message: &'v Value<'j>) -> Result<Option<Id<'v>>, ()> {
     }
 }
 
-/// Reads a JSON value as a message. In a call without `params`, the whole message takes their place.
+/// Reads a JSON value as a message. The `params` of a call without parameters are the whole message.
 pub(crate) fn message_of<'v, 'j>(value: &'v Value<'j>) -> Message<'v, 'j> {
     let Ok(id) = id_of(value) else {
         return Message::Invalid(Id::Null);
@@ -65,7 +66,8 @@ pub(crate) fn message_of<'v, 'j>(value: &'v Value<'j>) -> Message<'v, 'j> {
     }
 }
 
-/// Returns the member that `names` select in nested objects, from the outermost object inwards, if it exists.
+/// Returns the member that `names` select in nested objects, from the outermost object inwards, or `None` if there is
+/// none.
 pub(crate) fn member<'v, 'j>(value: &'v Value<'j>, names: &[&str]) -> Option<&'v Value<'j>> {
     let [name, rest @ ..] = names else {
         return Some(value);
@@ -73,8 +75,8 @@ pub(crate) fn member<'v, 'j>(value: &'v Value<'j>, names: &[&str]) -> Option<&'v
     member(value.get(*name)?, rest)
 }
 
-/// Returns the string that `names` select in nested objects, from the outermost object inwards, or `None` if the member
-/// is missing or not a string.
+/// Returns the string that `names` select in nested objects, from the outermost object inwards. Returns `None` if the
+/// member is missing or not a string.
 pub(crate) fn text_in<'v>(value: &'v Value<'_>, names: &[&str]) -> Option<&'v str> {
     member(value, names)?.as_str()
 }
@@ -85,7 +87,7 @@ fn count_in(value: &Value<'_>, name: &str) -> Option<usize> {
     usize::try_from(count).ok()
 }
 
-/// Reads a JSON value as a position. Returns `None` if it lacks a valid `line` or `character`.
+/// Reads a JSON value as a position. Returns `None` if `line` or `character` is missing or not valid.
 pub(crate) fn position_of(value: &Value<'_>) -> Option<Position> {
     Some(Position {
         line: count_in(value, "line")?,
@@ -93,7 +95,7 @@ pub(crate) fn position_of(value: &Value<'_>) -> Option<Position> {
     })
 }
 
-/// Reads a JSON value as a range. Returns `None` if it lacks a valid `start` or `end`.
+/// Reads a JSON value as a range. Returns `None` if `start` or `end` is missing or not valid.
 pub(crate) fn range_of(value: &Value<'_>) -> Option<Range> {
     Some(Range {
         start: position_of(value.get("start")?)?,

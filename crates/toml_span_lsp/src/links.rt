@@ -7,9 +7,8 @@ use toml_span_editor::table::PositionTable;
 use toml_span_lookup::directive::directive_of;
 use toml_span_lookup::lookup::Lookup;
 
-/// Returns the URI of the schema at `address`, which the file `name` names: the address itself if the schema is on a
-/// server and has no local copy. Returns `None` if the path of the schema is not absolute. Fails if an allocation
-/// fails.
+/// Returns the URI of the schema that the file `name` names by `address`. Returns `address` itself if the schema is on
+/// a server and has no local copy, and `None` if the schema's path is not absolute.
 fn target_of(
     alloc: Global,
     lookup: &Lookup,
@@ -23,8 +22,8 @@ fn target_of(
     }
 }
 
-/// Writes the list of links in the document with this name: one if it has a `#:schema` directive whose schema has a
-/// URI, otherwise none. Fails if an allocation fails.
+/// Writes a list with a link from the `#:schema` directive of the document `name` to the schema. The list is empty if
+/// there is no directive, or if `target_of` returns `None`.
 pub(crate) fn write_links(
     alloc: Global,
     out: &mut Writer,

@@ -24,7 +24,7 @@ fn symbol_kind(kind: &str) -> usize {
     }
 }
 
-/// Writes a symbol with the symbols inside it. Fails if an allocation fails.
+/// Writes a symbol and the symbols inside it.
 fn write_symbol(
     out: &mut Writer,
     table: &PositionTable<'_>,
@@ -49,7 +49,7 @@ fn write_symbol(
     out.end_object()
 }
 
-/// Writes the outline of a document. Fails if an allocation fails.
+/// Writes the outline of a document.
 pub(crate) fn write_symbols(
     alloc: Global,
     out: &mut Writer,
@@ -63,8 +63,7 @@ pub(crate) fn write_symbols(
     out.end_array()
 }
 
-/// Writes the first and last lines of the parts that can be folded. Leaves out parts that are on one line. Fails if an
-/// allocation fails.
+/// Writes the first and last lines of the parts of a document that can be folded. Leaves out parts on one line.
 pub(crate) fn write_folds(
     alloc: Global,
     out: &mut Writer,
@@ -91,7 +90,7 @@ pub(crate) fn write_folds(
     out.end_array()
 }
 
-/// Writes the ranges around an offset, each with the next one as its parent. Fails if an allocation fails.
+/// Writes the ranges around an offset, from the inside out, each with the next range as its parent.
 pub(crate) fn write_selection(
     alloc: Global,
     out: &mut Writer,
@@ -113,7 +112,7 @@ pub(crate) fn write_selection(
     Ok(())
 }
 
-/// Writes the ranges to highlight: all places where the key at an offset is written. Fails if an allocation fails.
+/// Writes the ranges of all places where the key at an offset is written.
 pub(crate) fn write_highlights(
     alloc: Global,
     out: &mut Writer,
@@ -130,8 +129,8 @@ pub(crate) fn write_highlights(
     out.end_array()
 }
 
-/// Writes the places where the key at an offset is written. Without `with_definitions`, leaves out the places where the
-/// key is defined. Fails if an allocation fails.
+/// Writes the locations where the key at an offset is written. Leaves out its definitions unless `with_definitions` is
+/// set.
 pub(crate) fn write_references(
     alloc: Global,
     out: &mut Writer,
@@ -150,7 +149,7 @@ pub(crate) fn write_references(
     out.end_array()
 }
 
-/// Returns the number of a token's type: its position in the list of types in the answer to `initialize`.
+/// Returns the number of a token's type: the position of the type in `TOKEN_TYPES`.
 fn token_type(meaning: Meaning) -> usize {
     match meaning {
         Meaning::Comment => 0,
@@ -162,9 +161,8 @@ fn token_type(meaning: Meaning) -> usize {
     }
 }
 
-/// Writes the tokens of a document, each as five numbers (LSP 3.17, SemanticTokens): its line relative to the previous
-/// token's, its start relative to the previous token's on the same line, its length, its type, and 0 for no modifiers.
-/// Fails if an allocation fails.
+/// Writes the tokens of a document, each as five numbers (LSP 3.17, SemanticTokens). The numbers are the line and the
+/// start relative to the previous token, the length, the type, and 0 for no modifiers.
 pub(crate) fn write_tokens(
     alloc: Global,
     out: &mut Writer,

@@ -21,7 +21,7 @@ pub(crate) enum Method {
     Diagnose,
 }
 
-/// Returns the request with this name, or `None` if the name is not known.
+/// Returns the request with this name, or `None` if the name is unknown.
 pub(crate) fn method_named(name: &str) -> Option<Method> {
     match name {
         "textDocument/documentSymbol" => Some(Method::Symbols),

@@ -1,4 +1,4 @@
-//! Writes messages to the client, and the parts that several of them have.
+//! Writes messages to the client, and parts of messages.
 use crate::incoming::Id;
 use crate::refusal::Refusal;
 use json::Writer;
@@ -7,25 +7,25 @@ use toml_span_editor::edits::Edit;
 use toml_span_editor::positions::{Position, Range};
 use toml_span_editor::table::PositionTable;
 
-/// Writes a member whose value is a string. Fails if an allocation fails.
+/// Writes a member whose value is a string.
 pub(crate) fn text(out: &mut Writer, name: &str, value: &str) -> Result<(), AllocError> {
     out.key(name)?;
     out.string(value)
 }
 
-/// Writes a member whose value is a number. Fails if an allocation fails.
+/// Writes a member whose value is a number.
 pub(crate) fn number(out: &mut Writer, name: &str, value: usize) -> Result<(), AllocError> {
     out.key(name)?;
     out.u64(value as u64)
 }
 
-/// Writes a member whose value is a boolean. Fails if an allocation fails.
+/// Writes a member whose value is a boolean.
 pub(crate) fn flag(out: &mut Writer, name: &str, value: bool) -> Result<(), AllocError> {
     out.key(name)?;
     out.boolean(value)
 }
 
-/// Writes the id of a request. Fails if an allocation fails.
+/// Writes the id of a request.
 fn write_id(out: &mut Writer, id: Id<'_>) -> Result<(), AllocError> {
     match id {
         Id::Null => out.null(),
@@ -34,7 +34,7 @@ fn write_id(out: &mut Writer, id: Id<'_>) -> Result<(), AllocError> {
     }
 }
 
-/// Begins a message, which `finished` ends. Fails if an allocation fails.
+/// Begins a message. `finished` ends the message.
 fn message(alloc: Global) -> Result<Writer, AllocError> {
     let mut out = Writer::new(Vec::new(alloc));
     out.begin_object()?;
@@ -42,13 +42,13 @@ fn message(alloc: Global) -> Result<Writer, AllocError> {
     Ok(out)
 }
 
-/// Ends a message, and returns it. Fails if an allocation fails.
+/// Ends a message, and returns its bytes.
 pub(crate) fn finished(mut out: Writer) -> Result<Vec<u8>, AllocError> {
     out.end_object()?;
     Ok(out.into_inner())
 }
 
-/// Begins the response to a request. The caller must write the result next. Fails if an allocation fails.
+/// Begins the response to a request. The caller must write the result next.
 pub(crate) fn response(alloc: Global, id: Id<'_>) -> Result<Writer, AllocError> {
     let mut out = message(alloc)?;
     out.key("id")?;
@@ -57,7 +57,7 @@ pub(crate) fn response(alloc: Global, id: Id<'_>) -> Result<Writer, AllocError> 
     Ok(out)
 }
 
-/// Returns the response which refuses a request. Fails if an allocation fails.
+/// Returns the response that refuses a request.
 pub(crate) fn error_response(
     alloc: Global,
     id: Id<'_>,
@@ -75,7 +75,7 @@ pub(crate) fn error_response(
     finished(out)
 }
 
-/// Begins a notification. The caller must write its parameters next. Fails if an allocation fails.
+/// Begins a notification. The caller must write its parameters next.
 pub(crate) fn notification(alloc: Global, method: &str) -> Result<Writer, AllocError> {
     let mut out = message(alloc)?;
     text(&mut out, "method", method)?;
@@ -83,8 +83,7 @@ pub(crate) fn notification(alloc: Global, method: &str) -> Result<Writer, AllocE
     Ok(out)
 }
 
-/// Begins a request of the server with this id and method. The parameters must be written next. Fails if an allocation
-/// fails.
+/// Begins a request of the server. The caller must write the parameters next.
 pub(crate) fn request(alloc: Global, id: &str, method: &str) -> Result<Writer, AllocError> {
     let mut out = message(alloc)?;
     text(&mut out, "id", id)?;
@@ -93,7 +92,7 @@ pub(crate) fn request(alloc: Global, id: &str, method: &str) -> Result<Writer, A
     Ok(out)
 }
 
-/// Returns the notification that shows the warning `words` to the user. Fails if an allocation fails.
+/// Returns the notification that shows the warning `words` to the user.
 pub(crate) fn show_message(alloc: Global, words: &str) -> Result<Vec<u8>, AllocError> {
     let mut out = notification(alloc, "window/showMessage")?;
     out.begin_object()?;
@@ -103,7 +102,7 @@ pub(crate) fn show_message(alloc: Global, words: &str) -> Result<Vec<u8>, AllocE
     finished(out)
 }
 
-/// Returns the notification with a warning for the log of the client. Fails if an allocation fails.
+/// Returns the notification that adds the warning `words` to the client's log.
 pub(crate) fn log_message(alloc: Global, words: &str) -> Result<Vec<u8>, AllocError> {
     let mut out = notification(alloc, "window/logMessage")?;
     out.begin_object()?;
@@ -113,7 +112,7 @@ pub(crate) fn log_message(alloc: Global, words: &str) -> Result<Vec<u8>, AllocEr
     finished(out)
 }
 
-/// Writes a position. Fails if an allocation fails.
+/// Writes a position.
 fn write_position(out: &mut Writer, position: Position) -> Result<(), AllocError> {
     out.begin_object()?;
     number(out, "line", position.line)?;
@@ -121,7 +120,7 @@ fn write_position(out: &mut Writer, position: Position) -> Result<(), AllocError
     out.end_object()
 }
 
-/// Writes a range. Fails if an allocation fails.
+/// Writes a range.
 pub(crate) fn write_range(out: &mut Writer, range: Range) -> Result<(), AllocError> {
     out.begin_object()?;
     out.key("start")?;
@@ -131,13 +130,13 @@ pub(crate) fn write_range(out: &mut Writer, range: Range) -> Result<(), AllocErr
     out.end_object()
 }
 
-/// Writes a member whose value is a range. Fails if an allocation fails.
+/// Writes a member whose value is a range.
 pub(crate) fn range(out: &mut Writer, name: &str, range: Range) -> Result<(), AllocError> {
     out.key(name)?;
     write_range(out, range)
 }
 
-/// Writes a location: a document and a range in it. Fails if an allocation fails.
+/// Writes a location: the document `uri` and a range in it.
 pub(crate) fn write_location(out: &mut Writer, uri: &str, place: Range) -> Result<(), AllocError> {
     out.begin_object()?;
     text(out, "uri", uri)?;
@@ -145,7 +144,7 @@ pub(crate) fn write_location(out: &mut Writer, uri: &str, place: Range) -> Resul
     out.end_object()
 }
 
-/// Writes a list of edits. Fails if an allocation fails.
+/// Writes a list of edits.
 pub(crate) fn write_edits(
     out: &mut Writer,
     table: &PositionTable<'_>,
@@ -161,7 +160,7 @@ pub(crate) fn write_edits(
     out.end_array()
 }
 
-/// Writes the edits of one document. Fails if an allocation fails.
+/// Writes the edits of the document `uri` as a workspace edit.
 pub(crate) fn write_workspace_edit(
     out: &mut Writer,
     uri: &str,

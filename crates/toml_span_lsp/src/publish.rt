@@ -25,7 +25,7 @@ fn severity_of(severity: Severity) -> usize {
     }
 }
 
-/// Writes the locations and messages that are related to a diagnostic. Fails if an allocation fails.
+/// Writes the locations that are related to a diagnostic, with their messages.
 fn write_related(out: &mut Writer, uri: &str, related: &[Related]) -> Result<(), AllocError> {
     out.key("relatedInformation")?;
     out.begin_array()?;
@@ -39,7 +39,7 @@ fn write_related(out: &mut Writer, uri: &str, related: &[Related]) -> Result<(),
     out.end_array()
 }
 
-/// Writes the tag for deprecated code (LSP 3.17, DiagnosticTag). Fails if an allocation fails.
+/// Writes the tag for deprecated code (LSP 3.17, DiagnosticTag).
 fn write_deprecated(out: &mut Writer) -> Result<(), AllocError> {
     out.key("tags")?;
     out.begin_array()?;
@@ -47,8 +47,8 @@ fn write_deprecated(out: &mut Writer) -> Result<(), AllocError> {
     out.end_array()
 }
 
-/// Returns the range to mark for a diagnostic. If a schema reports several lines, such as a table that lacks a key,
-/// this is only the first line.
+/// Returns the range to mark for a diagnostic. For a diagnostic of a schema on several lines, such as a missing key,
+/// returns only the first line.
 fn shown_range(diagnostic: &Diagnostic) -> Range {
     let Range { start, end } = diagnostic.range;
     if start.line < end.line && diagnostic.code.as_str().starts_with("schema") {
@@ -61,7 +61,7 @@ fn shown_range(diagnostic: &Diagnostic) -> Range {
     Range { start, end }
 }
 
-/// Writes a diagnostic. Fails if an allocation fails.
+/// Writes a diagnostic.
 fn write_diagnostic(
     out: &mut Writer,
     uri: &str,
@@ -82,7 +82,7 @@ fn write_diagnostic(
     out.end_object()
 }
 
-/// Writes diagnostics as a list. Fails if an allocation fails.
+/// Writes diagnostics as a list.
 fn write_list(out: &mut Writer, uri: &str, diagnostics: &[Diagnostic]) -> Result<(), AllocError> {
     out.begin_array()?;
     for diagnostic in diagnostics {
@@ -92,7 +92,7 @@ fn write_list(out: &mut Writer, uri: &str, diagnostics: &[Diagnostic]) -> Result
 }
 
 /// Returns the diagnostics of an open document, and the error lines that say why its schema can't be used. Reads no
-/// files. Fails if an allocation fails.
+/// files.
 fn diagnosed(
     alloc: Global,
     encoding: Encoding,
@@ -116,25 +116,57 @@ fn diagnosed(
     Ok(made)
 }
 
-/// Writes the answer to a request for the errors of an open document. Reads no files. Fails if an allocation fails.
+/// Adds `complaint`, error lines about the schema of a document, to `notices`, unless the complaint shown last for this
+/// document is the same.
+fn show_complaint(
+    document: &mut Open,
+    notices: &mut String,
+    complaint: String,
+) -> Result<(), AllocError> {
+    if complaint.is_empty() || complaint == document.complaint {
+        return Ok(());
+    }
+    notices.push_str(complaint.as_str())?;
+    document.complaint = complaint;
+    Ok(())
+}
+
+/// Returns the diagnostics and the version of the open document `uri`, or `None` if the document is not open. If its
+/// schema can't be used, adds error lines to `state.notices`, as `show_complaint` does. Reads no files.
+fn diagnosed_at(
+    alloc: Global,
+    state: &mut State,
+    uri: &str,
+) -> Result<Option<(Vec<Diagnostic>, Option<i64>)>, AllocError> {
+    let Some(open) = state.documents.get_mut(uri) else {
+        return Ok(None);
+    };
+    let (encoding, settings) = (state.encoding, state.settings);
+    let found = diagnosed(alloc, encoding, settings, open, &mut state.lookup)?;
+    show_complaint(open, &mut state.notices, found.complaint)?;
+    Ok(Some((found.diagnostics, open.version)))
+}
+
+/// Writes the diagnostics of the open document `uri` as the answer to a request, as `diagnosed_at` finds them. Returns
+/// whether the document is open. If it is not, writes nothing.
 pub(crate) fn write_report(
     alloc: Global,
+    state: &mut State,
     out: &mut Writer,
     uri: &str,
-    encoding: Encoding,
-    settings: Settings,
-    open: &Open,
-    lookup: &mut Lookup,
-) -> Result<(), AllocError> {
-    let found = diagnosed(alloc, encoding, settings, open, lookup)?;
+) -> Result<bool, AllocError> {
+    let Some((found, _version)) = diagnosed_at(alloc, state, uri)? else {
+        return Ok(false);
+    };
     out.begin_object()?;
     text(out, "kind", "full")?;
     out.key("items")?;
-    write_list(out, uri, found.diagnostics.as_slice())?;
-    out.end_object()
+    write_list(out, uri, found.as_slice())?;
+    out.end_object()?;
+    Ok(true)
 }
 
-/// Returns the notification with the errors of a document. Fails if an allocation fails.
+/// Returns the notification with the diagnostics of a document.
 pub(crate) fn published(
     alloc: Global,
     uri: &str,
@@ -154,23 +186,19 @@ pub(crate) fn published(
     finished(out)
 }
 
-/// Appends the notification with the errors of the open document `uri`, unless the client requests diagnostics itself.
-/// Returns the error lines that say why its schema can't be used. Does nothing if the document is not open. Reads no
-/// files. Fails if an allocation fails.
+/// Appends the notification with the diagnostics of the open document `uri`, as `diagnosed_at` finds them. Does nothing
+/// if the document is not open, or if the client requests diagnostics itself.
 pub(crate) fn publish(
     alloc: Global,
     state: &mut State,
     uri: &str,
     out: &mut Vec<Vec<u8>>,
-) -> Result<String, AllocError> {
-    let Some(open) = state.documents.get(uri) else {
-        return Ok(String::new(alloc));
-    };
+) -> Result<(), AllocError> {
     if state.client.asks_diagnostics {
-        return Ok(String::new(alloc));
+        return Ok(());
     }
-    let (encoding, settings) = (state.encoding, state.settings);
-    let found = diagnosed(alloc, encoding, settings, open, &mut state.lookup)?;
-    out.push(published(alloc, uri, open.version, found.diagnostics.as_slice())?)?;
-    Ok(found.complaint)
+    if let Some((found, version)) = diagnosed_at(alloc, state, uri)? {
+        out.push(published(alloc, uri, version, found.as_slice())?)?;
+    }
+    Ok(())
 }

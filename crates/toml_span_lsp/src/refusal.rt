@@ -5,7 +5,7 @@ use toml_span_lex::stop::Stop;
 /// The content of a message is not JSON.
 pub(crate) const PARSE_ERROR: i64 = -32700;
 
-/// A message is JSON, but neither a request nor a notification or a response.
+/// A message is JSON, but not a valid message, or a request comes in the wrong phase of the server.
 pub(crate) const INVALID_REQUEST: i64 = -32600;
 
 /// The method of a request is not known.
@@ -17,7 +17,7 @@ pub(crate) const INVALID_PARAMS: i64 = -32602;
 /// A request came before `initialize`.
 pub(crate) const NOT_INITIALIZED: i64 = -32002;
 
-/// A request was refused for a reason that its message states.
+/// A request was refused for the reason in the message.
 pub(crate) const REQUEST_FAILED: i64 = -32803;
 
 /// Why a request is answered with an error.
@@ -27,7 +27,7 @@ pub(crate) struct Refusal {
     pub message: String,
 }
 
-/// Returns a refusal with a copy of the message. Fails if an allocation fails.
+/// Returns a refusal with a copy of `message`.
 pub(crate) fn refusal_with(alloc: Global, code: i64, message: &str) -> Result<Refusal, AllocError> {
     Ok(Refusal {
         code,
@@ -35,7 +35,7 @@ pub(crate) fn refusal_with(alloc: Global, code: i64, message: &str) -> Result<Re
     })
 }
 
-/// Returns a refusal with a copy of the message as an error, or the error of a failed allocation.
+/// Returns the error of a refusal with a copy of `message`, or of a failed allocation.
 pub(crate) fn refused(alloc: Global, code: i64, message: &str) -> Stop<Refusal> {
     match refusal_with(alloc, code, message) {
         Ok(refusal) => Stop::Fault(refusal),

@@ -13,13 +13,15 @@ use crate::refusal::{INVALID_PARAMS, REQUEST_FAILED, Refusal, refused};
 use crate::state::State;
 use json::{Value, Writer};
 use std::alloc::Global;
+use toml_span_check::newer::Version;
 use toml_span_editor::document::{Document, read, readable};
 use toml_span_editor::positions::offset_at;
 use toml_span_editor::table::PositionTable;
 use toml_span_lex::stop::Stop;
+use toml_span_lookup::lookup::Lookup;
 use toml_span_schema::Guide;
 
-/// What the client supports and has set for its answers.
+/// The client's capabilities and settings that answers depend on.
 #[derive(Clone, Copy)]
 struct Wishes {
     /// Whether the client supports snippets.
@@ -28,8 +30,7 @@ struct Wishes {
     width: Option<usize>,
 }
 
-/// Returns the offset of the position in a request. Fails with `INVALID_PARAMS` if the request has no position, and
-/// with `Stop::Memory` if an allocation fails.
+/// Returns the offset of the position in a request. Fails with `INVALID_PARAMS` if the request has no position.
 fn offset_of(
     alloc: Global,
     table: &PositionTable<'_>,
@@ -49,7 +50,7 @@ fn offset_of(
 }
 
 /// Writes the ranges around each of the positions in a request. Fails with `INVALID_PARAMS` if the request has no list
-/// of positions or one of them is not valid, and with `Stop::Memory` if an allocation fails.
+/// of positions, or if a position is not valid.
 fn write_selections(
     alloc: Global,
     out: &mut Writer,
@@ -71,15 +72,15 @@ fn write_selections(
     Ok(out.end_array()?)
 }
 
-/// Returns whether the answer to a request for references must include the places where the key is defined. By default,
-/// it must.
+/// Returns whether the answer to a request for references must include the places where the key is defined. The default
+/// is true.
 fn with_definitions(params: &Value<'_>) -> bool {
     let asked = member(params, &["context", "includeDeclaration"]);
     asked.and_then(|asked| asked.as_bool()).unwrap_or(true)
 }
 
 /// Writes the answer to a request about a position in a document that can be read. Fails with a `Refusal` if the
-/// request is refused, and with `Stop::Memory` if an allocation fails.
+/// request is refused.
 fn write_at(
     alloc: Global,
     method: Method,
@@ -108,8 +109,7 @@ fn write_at(
     Ok(())
 }
 
-/// Writes the answer to a request about a document that can be read. Fails with a `Refusal` if the request is refused,
-/// and with `Stop::Memory` if an allocation fails.
+/// Writes the answer to a request about a document that can be read. Fails with a `Refusal` if the request is refused.
 fn write_of(
     alloc: Global,
     method: Method,
@@ -133,9 +133,8 @@ fn write_of(
     Ok(())
 }
 
-/// Writes the answer to a request about a document or, if it has errors, about as much of it as can be read (see
-/// `readable`). Writes null if too little can be read. Fails with a `Refusal` if the request is refused, and with
-/// `Stop::Memory` if an allocation fails.
+/// Writes the answer to a request about a document. If the document has errors, answers about the text that `readable`
+/// keeps, or writes null if there is none. Fails with a `Refusal` if the request is refused.
 fn write_readable(
     alloc: Global,
     method: Method,
@@ -162,17 +161,22 @@ fn write_readable(
     }
 }
 
-/// Writes the actions for the range in a request. Fails with `INVALID_PARAMS` if the request has no range, and with
-/// `Stop::Memory` if an allocation fails.
+/// Writes the actions for the range in a request. `name` is the path of the file. Reads no files. Fails with
+/// `INVALID_PARAMS` if the request has no range.
 fn write_actions_of(
     alloc: Global,
     out: &mut Writer,
     uri: &str,
     table: &PositionTable<'_>,
+    version: Version,
+    name: &str,
+    lookup: &mut Lookup,
     params: &Value<'_>,
 ) -> Result<(), Stop<Refusal>> {
     match span_of(table, params) {
-        Some(span) => Ok(write_actions(alloc, out, uri, table, span, params)?),
+        Some(span) => Ok(write_actions(
+            alloc, out, uri, table, version, name, lookup, span, params,
+        )?),
         None => Err(refused(
             alloc,
             INVALID_PARAMS,
@@ -181,8 +185,7 @@ fn write_actions_of(
     }
 }
 
-/// Writes the answer to a request about a document. Fails with a `Refusal` if the request is refused, and with
-/// `Stop::Memory` if an allocation fails.
+/// Writes the answer to a request about a document. Fails with a `Refusal` if the request is refused.
 fn write_answer(
     alloc: Global,
     method: Method,
@@ -197,7 +200,6 @@ fn write_answer(
         Method::Format | Method::FormatRange => {
             Ok(write_formatting(alloc, out, table, wishes.width, params)?)
         }
-        Method::Actions => write_actions_of(alloc, out, uri, table, params),
         Method::Rename => {
             let at = offset_of(alloc, table, params)?;
             write_rename(alloc, out, uri, table, at, params)
@@ -210,8 +212,8 @@ fn write_answer(
     }
 }
 
-/// Writes the answer to a request about an open document. Fails with a `Refusal` if the request is refused, and with
-/// `Stop::Memory` if an allocation fails.
+/// Writes the answer to a request about an open document. Fails with a `Refusal` if the request is refused, or if the
+/// document is not open.
 pub(crate) fn write_result(
     alloc: Global,
     state: &mut State,
@@ -222,18 +224,21 @@ pub(crate) fn write_result(
     let Some(uri) = text_in(params, &["textDocument", "uri"]) else {
         return Err(refused(alloc, INVALID_PARAMS, "`textDocument` must have a `uri`"));
     };
+    if method == Method::Diagnose && write_report(alloc, state, out, uri)? {
+        return Ok(());
+    }
     let Some(open) = state.documents.get(uri) else {
         return Err(refused(alloc, REQUEST_FAILED, "the document is not open"));
     };
     let (encoding, settings) = (state.encoding, state.settings);
-    if method == Method::Diagnose {
-        let lookup = &mut state.lookup;
-        return Ok(write_report(alloc, out, uri, encoding, settings, open, lookup)?);
-    }
     let table = PositionTable::new(alloc, encoding, open.text.as_str())?;
     let name = open.name.as_str();
     if method == Method::Links {
         return Ok(write_links(alloc, out, &table, &state.lookup, name)?);
+    }
+    if method == Method::Actions {
+        let (version, lookup) = (settings.version, &mut state.lookup);
+        return write_actions_of(alloc, out, uri, &table, version, name, lookup, params);
     }
     let guide = state.lookup.guide_of(alloc, name, open.text.as_str())?;
     let wishes = Wishes {

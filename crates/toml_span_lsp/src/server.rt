@@ -1,4 +1,4 @@
-//! The loop of the server: reads frames and writes the answers.
+//! The loop of the server, which reads frames and writes the answers.
 ghost use Rattle.std.specs.Prelude.{◌≡◌, ◌≤◌, IfNone, IfOk, IfSome, false};
 ghost use Rattle.std.specs.List.{flat_map};
 ghost use Rattle.toml_span_lsp.specs.Frames as spec;
@@ -17,7 +17,7 @@ use toml_span_lookup::disk::Disk;
 #[derive(Clone, Copy, Debug, PartialEq, Eq)]
 pub struct Ended {
     /// The exit status: 0 after `shutdown` and `exit`, 1 if the client has left without them, 2 if the input is not
-    /// made of frames, 3 if a read or a write failed, and 4 if an allocation failed.
+    /// made of frames, 3 if a read or a write failed, or 4 if an allocation failed.
     pub status: u8,
     /// What was wrong, or an empty text.
     pub reason: &'static str,
@@ -39,7 +39,7 @@ fn end_with(status: u8, reason: &'static str) -> Ended
     Ended { status, reason }
 }
 
-/// Returns the bytes of frames with these contents, in order. Fails if an allocation fails.
+/// Returns the bytes of frames with these contents, in order.
 fn frames_of(alloc: Global, contents: &[Vec<u8>]) -> Result<Vec<u8>, AllocError>
     ensures { IfOk result (λ out. out.items ≡ flat_map (λ content. spec.frame_of content.items) contents.now) }
 {
@@ -50,7 +50,7 @@ fn frames_of(alloc: Global, contents: &[Vec<u8>]) -> Result<Vec<u8>, AllocError>
     Ok(out)
 }
 
-/// Answers the message with this content. Returns the bytes to write. Fails if an allocation fails.
+/// Answers the message with this content. Returns the frames to write.
 fn answer<D: Disk>(
     alloc: Global,
     state: &mut State,
@@ -64,8 +64,8 @@ fn answer<D: Disk>(
     Ok(out)
 }
 
-/// Reads more bytes, and appends them to `bytes`. Returns how the server ends if the input has ended or a read or an
-/// allocation fails, otherwise `None`.
+/// Reads more bytes, and appends them to `bytes`. Returns how the server ends if the input has ended, or if a read or
+/// an allocation fails. Otherwise returns `None`.
 fn read_more<R: Source>(reader: &mut R, bytes: &mut Vec<u8>) -> Option<Ended>
     ensures { IfSome result (λ end. end.status ≤ 4) }
 {
@@ -82,7 +82,7 @@ fn read_more<R: Source>(reader: &mut R, bytes: &mut Vec<u8>) -> Option<Ended>
 }
 
 /// Answers the first frame in `bytes`, whose content is from `start` to `end`, and removes the frame from `bytes`.
-/// Returns how the server ends, or `None` if it continues.
+/// Returns how the server ends, or `None` if the server continues.
 fn take_frame<D: Disk, W: Sink>(
     alloc: Global,
     state: &mut State,
@@ -113,8 +113,8 @@ fn take_frame<D: Disk, W: Sink>(
     }
 }
 
-/// Answers the frame at the start of `bytes` or, if the frame is not complete, reads more of it. Returns how the server
-/// ends, or `None` if it continues.
+/// Answers the frame at the start of `bytes` or, if the frame is not complete, reads more bytes. Returns how the server
+/// ends, or `None` if the server continues.
 fn next<D: Disk, R: Source, W: Sink>(
     alloc: Global,
     state: &mut State,
@@ -137,8 +137,8 @@ fn next<D: Disk, R: Source, W: Sink>(
     }
 }
 
-/// Runs the server until the client ends it, or something is wrong. Reads schemas from `disk`. Returns the exit status
-/// and the reason. Writes only frames, one after the other; the last may be cut off if a write fails.
+/// Runs the server until the client ends it, or until an error occurs. Reads schemas from `disk`. Returns the exit
+/// status and the reason. Writes only frames, one after the other; the last frame may be cut off if a write fails.
 pub fn serve<D: Disk, R: Source, W: Sink>(
     alloc: Global,
     disk: &mut D,

@@ -22,18 +22,34 @@ impl Settings {
     };
 }
 
-/// The settings of a client, and what is wrong with them.
-#[derive(Drop)]
-pub(crate) struct Read {
+/// All settings of a client.
+#[derive(Clone, Drop)]
+pub(crate) struct Given {
     pub settings: Settings,
     /// The settings about schemas.
     pub options: Options,
-    /// A sentence about the settings that have a wrong value, or an empty text. These settings are not used.
+}
+
+impl Given {
+    /// Returns the settings of a client that has set none.
+    pub(crate) fn usual(alloc: Global) -> Given {
+        Given {
+            settings: Settings::USUAL,
+            options: Options::new(alloc, Place::Settings),
+        }
+    }
+}
+
+/// The settings of a client, and what is wrong with them.
+#[derive(Drop)]
+pub(crate) struct Read {
+    pub given: Given,
+    /// A sentence about the settings that have a wrong value, or an empty text. These settings are not used, except for
+    /// the copies that `read_copies` keeps.
     pub faults: String,
 }
 
-/// Appends `words`, which say what value a setting must have, to the sentence about wrong settings. Fails if an
-/// allocation fails.
+/// Appends `words`, which say what value a setting must have, to the sentence about wrong settings.
 fn push_fault(faults: &mut String, words: &str) -> Result<(), AllocError> {
     let front = if faults.is_empty() {
         "wrong settings are not used: "
@@ -44,7 +60,7 @@ fn push_fault(faults: &mut String, words: &str) -> Result<(), AllocError> {
     faults.push_str(words)
 }
 
-/// Returns the value of the setting `name`, or `None` if it is missing or null.
+/// Returns the value of the setting `name`, or `None` if the value is missing or null.
 fn set_in<'v, 'j>(value: &'v Value<'j>, name: &str) -> Option<&'v Value<'j>> {
     match value.get(name) {
         None | Some(Value::Null) => None,
@@ -52,14 +68,14 @@ fn set_in<'v, 'j>(value: &'v Value<'j>, name: &str) -> Option<&'v Value<'j>> {
     }
 }
 
-/// Reads the setting `width`, an integer from 0 to 65535, or adds a fault. Fails if an allocation fails.
+/// Reads the setting `width`, an integer from 0 to 65535. Adds a fault if the value is wrong.
 fn read_width(value: &Value<'_>, read: &mut Read) -> Result<(), AllocError> {
     let Some(width) = set_in(value, "width") else {
         return Ok(());
     };
     match width.as_u64() {
         Some(width) if width <= 65_535 => {
-            read.settings.width = Some(width as usize);
+            read.given.settings.width = Some(width as usize);
             Ok(())
         }
         _ => push_fault(
@@ -69,7 +85,7 @@ fn read_width(value: &Value<'_>, read: &mut Read) -> Result<(), AllocError> {
     }
 }
 
-/// Returns the version of TOML for a value of the setting `toml`, or `None` if the value is wrong.
+/// Returns the version of TOML that the setting `toml` calls `name`, or `None` if there is none.
 fn version_named(name: &str) -> Option<Version> {
     match name {
         "auto" => Some(Version::Auto),
@@ -79,14 +95,14 @@ fn version_named(name: &str) -> Option<Version> {
     }
 }
 
-/// Reads the setting `toml`, a version of TOML, or adds a fault. Fails if an allocation fails.
+/// Reads the setting `toml`, a version of TOML. Adds a fault if the value is wrong.
 fn read_version(value: &Value<'_>, read: &mut Read) -> Result<(), AllocError> {
     let Some(version) = set_in(value, "toml") else {
         return Ok(());
     };
     match version.as_str().and_then(|name| version_named(name)) {
         Some(version) => {
-            read.settings.version = version;
+            read.given.settings.version = version;
             Ok(())
         }
         None => push_fault(
@@ -96,20 +112,19 @@ fn read_version(value: &Value<'_>, read: &mut Read) -> Result<(), AllocError> {
     }
 }
 
-/// Reads the setting `formats`, whether the keyword `format` is checked, or adds a fault. Fails if an allocation fails.
+/// Reads the setting `formats`, whether the keyword `format` is checked. Adds a fault if the value is wrong.
 fn read_formats(value: &Value<'_>, read: &mut Read) -> Result<(), AllocError> {
     match set_in(value, "formats") {
         None => Ok(()),
         Some(Value::Bool(has_formats)) => {
-            read.options.has_formats = *has_formats;
+            read.given.options.has_formats = *has_formats;
             Ok(())
         }
         Some(_) => push_fault(&mut read.faults, "`formats` must be true or false"),
     }
 }
 
-/// Returns an address unchanged if it is empty or a URL. Otherwise, returns the path as `rooted` does. Fails if an
-/// allocation fails.
+/// Returns an address that is empty or a URL unchanged. Returns any other address as a path, as `rooted` does.
 fn address_in(alloc: Global, root: &str, address: &str) -> Result<String, AllocError> {
     if address.is_empty() || address.contains("://") {
         String::from_str(alloc, address)
@@ -118,8 +133,8 @@ fn address_in(alloc: Global, root: &str, address: &str) -> Result<String, AllocE
     }
 }
 
-/// Reads the settings `schema`, the path or the URL of the schema of all files, and `catalog`, the path of a catalog,
-/// or adds a fault. Paths are relative to `root`. Fails if an allocation fails.
+/// Reads the settings `schema`, the path or the URL of the schema of all files, and `catalog`, the path of a catalog.
+/// Paths are relative to `root`. Adds a fault for each wrong value.
 fn read_paths(
     alloc: Global,
     root: &str,
@@ -128,23 +143,24 @@ fn read_paths(
 ) -> Result<(), AllocError> {
     match set_in(value, "schema") {
         None => {}
-        Some(Value::String(schema)) => read.options.schema = address_in(alloc, root, *schema)?,
+        Some(Value::String(schema)) => {
+            read.given.options.schema = address_in(alloc, root, *schema)?;
+        }
         Some(_) => push_fault(&mut read.faults, "`schema` must be a path or a URL")?,
     }
     match set_in(value, "catalog") {
         None => Ok(()),
         Some(Value::String("")) => Ok(()),
         Some(Value::String(catalog)) => {
-            read.options.catalog = rooted(alloc, root, *catalog)?;
+            read.given.options.catalog = rooted(alloc, root, *catalog)?;
             Ok(())
         }
         Some(_) => push_fault(&mut read.faults, "`catalog` must be a path"),
     }
 }
 
-/// Reads the setting `schemaMap`, the local copies of schemas, whose paths are relative to `root`. Adds a fault if it
-/// is not an object, or at the first path that is not a string; the copies before that path are used. Fails if an
-/// allocation fails.
+/// Reads the setting `schemaMap`, the local copies of schemas, whose paths are relative to `root`. Adds a fault if the
+/// value is not an object, or at the first path that is not a string. Uses the copies before that path.
 fn read_copies(
     alloc: Global,
     root: &str,
@@ -161,7 +177,7 @@ fn read_copies(
         let Some(path) = member.1.as_str() else {
             return push_fault(&mut read.faults, fault);
         };
-        read.options.copies.push(LocalCopy {
+        read.given.options.copies.push(LocalCopy {
             address: String::from_str(alloc, member.0)?,
             path: rooted(alloc, root, path)?,
         })?;
@@ -169,16 +185,15 @@ fn read_copies(
     Ok(())
 }
 
-/// Reads the settings in a value. A setting that is missing, null or wrong has its default value. Ignores settings with
-/// other names. Paths are relative to `root`. Fails if an allocation fails.
+/// Reads the settings in a value. A setting that is missing, null or wrong has its default value, but a wrong
+/// `schemaMap` may be used in part (see `read_copies`). Ignores unknown settings. Paths are relative to `root`.
 pub(crate) fn read_settings(
     alloc: Global,
     root: &str,
     value: &Value<'_>,
 ) -> Result<Read, AllocError> {
     let mut read = Read {
-        settings: Settings::USUAL,
-        options: Options::new(alloc, Place::Settings),
+        given: Given::usual(alloc),
         faults: String::new(alloc),
     };
     match value {

@@ -1,12 +1,11 @@
 //! The state of the server between messages.
 ghost use Rattle.std.specs.Prelude.{◌≤◌, IfSome};
 
-use crate::settings::Settings;
+use crate::settings::{Given, Settings};
 use std::alloc::Global;
 use std::collections::BTreeMap;
 use toml_span_editor::positions::Encoding;
 use toml_span_lookup::lookup::Lookup;
-use toml_span_lookup::options::{Options, Place};
 
 /// The phases of a server, from start to end.
 #[derive(Clone, Copy, Debug, PartialEq, Eq)]
@@ -17,20 +16,20 @@ pub(crate) enum Phase {
     Running,
     /// After `shutdown`.
     Shut,
-    /// After `exit`. `is_right` says whether `shutdown` came before it, as it must.
+    /// After `exit`. `is_right` says whether `shutdown` came before `exit`.
     Ended { is_right: bool },
 }
 
 /// The capabilities of the client.
 #[derive(Clone, Copy, Debug, PartialEq, Eq)]
 pub(crate) struct Client {
-    /// Whether the client requests diagnostics itself, so that the server does not send them.
+    /// Whether the client requests diagnostics itself. The server then sends none on its own.
     pub asks_diagnostics: bool,
-    /// Whether the client requests diagnostics again if the server asks for that.
+    /// Whether the client requests diagnostics again when the server asks it to.
     pub refreshes_diagnostics: bool,
     /// Whether the client answers `workspace/configuration`.
     pub has_settings: bool,
-    /// Whether the client notifies the server of changes of the settings if the server asks for that.
+    /// Whether the client reports changes of the settings when the server asks it to.
     pub registers_settings: bool,
     /// Whether the client supports snippets: texts with places to fill in.
     pub has_snippets: bool,
@@ -54,6 +53,8 @@ pub(crate) struct Open {
     pub version: Option<i64>,
     /// The path of the file, as `name_of` returns it.
     pub name: String,
+    /// The error lines that were last shown because the schema of the document can't be used, or an empty text.
+    pub complaint: String,
 }
 
 /// The state of the server: its phase, the capabilities of the client, the settings, the schemas and the open
@@ -67,6 +68,10 @@ pub struct State {
     pub(crate) root: String,
     pub(crate) settings: Settings,
     pub(crate) lookup: Lookup,
+    /// The settings of `initializationOptions`.
+    pub(crate) initial: Given,
+    /// Whether the current settings are not those of `initializationOptions`, but came later.
+    pub(crate) has_later_settings: bool,
     /// Lines to show to the user, each with a line end.
     pub(crate) notices: String,
     /// The documents by their URIs.
@@ -82,13 +87,15 @@ impl State {
             client: Client::PLAIN,
             root: String::new(alloc),
             settings: Settings::USUAL,
-            lookup: Lookup::new(alloc, Options::new(alloc, Place::Settings)),
+            lookup: Lookup::new(alloc, Given::usual(alloc).options),
+            initial: Given::usual(alloc),
+            has_later_settings: false,
             notices: String::new(alloc),
             documents: BTreeMap::new(alloc),
         }
     }
 
-    /// Returns the exit status, or `None` before `exit`: 0 if `shutdown` came before `exit`, otherwise 1.
+    /// Returns the exit status: 0 if `shutdown` came before `exit`, otherwise 1. Returns `None` before `exit`.
     pub fn exit_status(&self) -> Option<u8>
         ensures { IfSome result (λ status. status ≤ 1) }
     {

@@ -1,4 +1,4 @@
-//! One step of the server: it takes one message, and returns the messages to send.
+//! One step of the server: takes a message, and returns the messages to send.
 use crate::capabilities::{learn, write_capabilities};
 use crate::configuration::{initialized, settings_came, settings_changed};
 use crate::incoming::{Call, Id, Message, message_of};
@@ -17,7 +17,7 @@ use toml_span_lex::stop::Stop;
 use toml_span_lookup::disk::Disk;
 
 /// Writes the result of a request between `initialize` and `shutdown`. Fails with a `Refusal` if the request is
-/// refused, and with `Stop::Memory` if an allocation fails.
+/// refused.
 fn write_request(
     alloc: Global,
     state: &mut State,
@@ -34,8 +34,7 @@ fn write_request(
     }
 }
 
-/// Writes the result of a request. Fails with a `Refusal` if the request is refused, for instance in the wrong phase of
-/// the server, and with `Stop::Memory` if an allocation fails.
+/// Writes the result of a request. Fails with a `Refusal` if the request is refused, for example in the wrong phase.
 fn write_phased(
     alloc: Global,
     state: &mut State,
@@ -60,7 +59,7 @@ fn write_phased(
     }
 }
 
-/// Returns the response to a request. Fails if an allocation fails.
+/// Returns the response to a request.
 fn answered(
     alloc: Global,
     state: &mut State,
@@ -77,8 +76,8 @@ fn answered(
     }
 }
 
-/// Carries out a notification, and appends the messages to send. Ignores a notification that is not known, or that
-/// comes in the wrong phase. Fails if an allocation fails.
+/// Carries out a notification, and appends the messages to send. Ignores an unknown notification, and a notification in
+/// the wrong phase.
 fn note<D: Disk>(
     alloc: Global,
     state: &mut State,
@@ -107,7 +106,7 @@ fn note<D: Disk>(
     }
 }
 
-/// Carries out a message, and appends the messages to send. Fails if an allocation fails.
+/// Carries out a message, and appends the messages to send.
 fn take<D: Disk>(
     alloc: Global,
     state: &mut State,
@@ -137,8 +136,7 @@ fn take<D: Disk>(
     }
 }
 
-/// Appends a notification for each line in `state.notices`, which shows the line to the user, and empties
-/// `state.notices`. Fails if an allocation fails.
+/// Moves the lines of `state.notices` to `out`, each as a notification that shows the line to the user.
 fn push_notices(
     alloc: Global,
     state: &mut State,
@@ -158,7 +156,7 @@ fn push_notices(
 }
 
 /// Answers the message in a frame with this content. Returns the contents of the frames to send, in order. Reads
-/// schemas from `disk` when a document is opened or saved, or when settings change. Fails if an allocation fails; the
+/// schemas from `disk` when a document is opened or saved, or when settings change. Fails if an allocation fails. The
 /// message may then be carried out in part.
 pub fn step<D: Disk>(
     alloc: Global,

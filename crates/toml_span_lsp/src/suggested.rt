@@ -14,7 +14,7 @@ fn kind_of(nature: Nature) -> usize {
     }
 }
 
-/// Returns the first character of the text by which a suggestion is sorted: required keys come first, deprecated ones
+/// Returns the first character of the text by which a suggestion is sorted. Required keys come first, deprecated keys
 /// last.
 fn rank_of(suggestion: &Suggestion) -> &'static str {
     if suggestion.is_required {
@@ -26,7 +26,7 @@ fn rank_of(suggestion: &Suggestion) -> &'static str {
     }
 }
 
-/// Writes the description of a suggestion, which is Markdown. Fails if an allocation fails.
+/// Writes the description of a suggestion as Markdown.
 fn write_documentation(out: &mut Writer, documentation: &str) -> Result<(), AllocError> {
     out.key("documentation")?;
     out.begin_object()?;
@@ -36,7 +36,7 @@ fn write_documentation(out: &mut Writer, documentation: &str) -> Result<(), Allo
 }
 
 /// Writes the range that a suggestion replaces, and the new text: the snippet if there is one and `has_snippets` is
-/// true, otherwise the text without places to fill in. Fails if an allocation fails.
+/// set, otherwise the text without places to fill in.
 fn write_edit(
     out: &mut Writer,
     table: &PositionTable<'_>,
@@ -57,8 +57,7 @@ fn write_edit(
     out.end_object()
 }
 
-/// Writes a suggestion. `position` is its position in the list, and `has_snippets` is as for `write_edit`. Fails if an
-/// allocation fails.
+/// Writes a suggestion, which is at `position` in the list. `has_snippets` says whether the client supports snippets.
 fn write_suggestion(
     alloc: Global,
     out: &mut Writer,
@@ -86,8 +85,8 @@ fn write_suggestion(
     out.end_object()
 }
 
-/// Writes suggestions as a complete list, which the client need not request again while the user types. `has_snippets`
-/// says whether the client supports snippets. Fails if an allocation fails.
+/// Writes suggestions as a complete list: the client need not request them again while the user types. `has_snippets`
+/// says whether the client supports snippets.
 pub(crate) fn write_suggestions(
     alloc: Global,
     out: &mut Writer,

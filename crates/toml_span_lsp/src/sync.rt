@@ -10,12 +10,12 @@ use toml_span_editor::changes::changed;
 use toml_span_editor::positions::{Encoding, Range};
 use toml_span_lookup::disk::Disk;
 
-/// Returns the version of the document in a notification, or `None` if the document has none.
+/// Returns the version of the document in a notification, or `None` if the notification has none.
 fn version_of(params: &Value<'_>) -> Option<i64> {
     member(params, &["textDocument", "version"])?.as_i64()
 }
 
-/// Stores the text and the version of an open document under its URI. Fails if an allocation fails.
+/// Stores the text and the version of an open document under its URI in `state.documents`.
 fn store(
     alloc: Global,
     state: &mut State,
@@ -29,13 +29,14 @@ fn store(
         text,
         version,
         name,
+        complaint: String::new(alloc),
     };
     state.documents.insert(uri, open)?;
     Ok(())
 }
 
-/// Reads and compiles the schema of the open document `uri`, unless it has been read and has not changed since. Stores
-/// errors in `state.notices`. Fails if an allocation fails.
+/// Reads and compiles the schema of the open document `uri`, unless it has been read and has not changed since. Appends
+/// errors to `state.notices`.
 fn read_schema<D: Disk>(
     alloc: Global,
     state: &mut State,
@@ -51,8 +52,8 @@ fn read_schema<D: Disk>(
     state.notices.push_str(complaint.as_str())
 }
 
-/// Reads the schema of an open document as `read_schema` does, and appends the notification with the errors of the
-/// document, unless the client requests diagnostics itself. Fails if an allocation fails.
+/// Reads the schema of the open document `uri`, as `read_schema` does. Then appends the notification with the
+/// document's diagnostics, as `publish` does.
 fn judge<D: Disk>(
     alloc: Global,
     state: &mut State,
@@ -61,12 +62,11 @@ fn judge<D: Disk>(
     out: &mut Vec<Vec<u8>>,
 ) -> Result<(), AllocError> {
     read_schema(alloc, state, disk, uri)?;
-    let complaint = publish(alloc, state, uri, out)?;
-    state.notices.push_str(complaint.as_str())
+    publish(alloc, state, uri, out)
 }
 
-/// Opens a document, and appends the notification with its errors, unless the client requests diagnostics itself. If
-/// the parameters are wrong, only appends a warning. Fails if an allocation fails.
+/// Opens a document, reads its schema, and appends the notification with its diagnostics, as `publish` does. Only
+/// appends a warning if the parameters are wrong.
 pub(crate) fn open<D: Disk>(
     alloc: Global,
     state: &mut State,
@@ -93,7 +93,7 @@ pub(crate) fn open<D: Disk>(
     judge(alloc, state, disk, uri, out)
 }
 
-/// Returns the range of a change: `None` if the change replaces the whole text, or an error if the range is not valid.
+/// Returns the range of a change, or `None` if the change replaces the whole text. Fails if the range is not valid.
 fn range_in(change: &Value<'_>) -> Result<Option<Range>, ()> {
     match change.get("range") {
         None | Some(Value::Null) => Ok(None),
@@ -104,7 +104,7 @@ fn range_in(change: &Value<'_>) -> Result<Option<Range>, ()> {
     }
 }
 
-/// Returns a text after changes, or `None` if a change is not valid. Fails if an allocation fails.
+/// Returns a text after changes, or `None` if a change is not valid.
 fn text_after(
     alloc: Global,
     encoding: Encoding,
@@ -121,8 +121,8 @@ fn text_after(
     Ok(Some(made))
 }
 
-/// Returns the text of the document in a notification after its changes. Returns `None` if the document is not open, or
-/// if the changes are missing or not valid. Fails if an allocation fails.
+/// Returns the text of the open document `uri` after the changes in a notification. Returns `None` if the document is
+/// not open, or if the changes are missing or not valid.
 fn new_text(
     alloc: Global,
     state: &State,
@@ -142,8 +142,8 @@ fn new_text(
     }
 }
 
-/// Changes a document, and appends the notification with its errors, unless the client requests diagnostics itself. If
-/// a change is not valid, the document stays as it is, and a warning is appended. Fails if an allocation fails.
+/// Changes a document, and appends the notification with its diagnostics, as `publish` does. If the document is not
+/// open or a change is not valid, changes nothing and appends a warning.
 pub(crate) fn change(
     alloc: Global,
     state: &mut State,
@@ -154,22 +154,19 @@ pub(crate) fn change(
         out.push(log_message(alloc, "didChange: `textDocument` must have a `uri`")?)?;
         return Ok(());
     };
-    match new_text(alloc, state, uri, params)? {
-        Some(text) => {
-            store(alloc, state, uri, text, version_of(params))?;
-            let _complaint = publish(alloc, state, uri, out)?;
-            Ok(())
-        }
-        None => {
-            let words = "didChange: the document is not open, or a change is not valid";
-            out.push(log_message(alloc, words)?)?;
-            Ok(())
-        }
-    }
+    let new = new_text(alloc, state, uri, params)?;
+    let (Some(open), Some(text)) = (state.documents.get_mut(uri), new) else {
+        let words = "didChange: the document is not open, or a change is not valid";
+        out.push(log_message(alloc, words)?)?;
+        return Ok(());
+    };
+    open.text = text;
+    open.version = version_of(params);
+    publish(alloc, state, uri, out)
 }
 
-/// Appends the notification with the errors of a document that was saved, unless the document is not open or the client
-/// requests diagnostics itself. Fails if an allocation fails.
+/// Carries out the notification that a document was saved: reads its schema again if the schema has changed, and
+/// appends the notification with the document's diagnostics, as `publish` does.
 pub(crate) fn save<D: Disk>(
     alloc: Global,
     state: &mut State,
@@ -183,8 +180,8 @@ pub(crate) fn save<D: Disk>(
     }
 }
 
-/// Closes a document, and appends the notification that it has no errors, unless it was not open or the client requests
-/// diagnostics itself. Fails if an allocation fails.
+/// Closes a document. If the document was open and the client does not request diagnostics itself, appends the
+/// notification that there are no diagnostics.
 pub(crate) fn close(
     alloc: Global,
     state: &mut State,

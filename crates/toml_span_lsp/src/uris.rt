@@ -15,7 +15,7 @@ const ESCAPED: AsciiSet = ascii_set!(
 );
 
 /// Returns the absolute path in a URI `file:///PATH`, with its percent escapes decoded. Returns `None` if the URI has
-/// another form, or if the path is not UTF-8. Fails if an allocation fails.
+/// another form, or if the path is not UTF-8.
 pub(crate) fn path_of_uri(alloc: Global, uri: &str) -> Result<Option<String>, AllocError> {
     let Some(path) = uri.strip_prefix("file://") else {
         return Ok(None);
@@ -30,7 +30,7 @@ pub(crate) fn path_of_uri(alloc: Global, uri: &str) -> Result<Option<String>, Al
     }
 }
 
-/// Returns the URI `file://PATH` of an absolute path. Fails if an allocation fails.
+/// Returns the URI of an absolute path: `file://` and the path, with the characters in `ESCAPED` escaped.
 pub(crate) fn uri_of_path(alloc: Global, path: &str) -> Result<String, AllocError> {
     let mut out = String::from_str(alloc, "file://")?;
     utf8_percent_encode(path, ESCAPED).append_to(&mut out)?;
@@ -42,8 +42,8 @@ fn last_part(uri: &str) -> &str {
     uri.rsplit('/').next().unwrap_or(uri)
 }
 
-/// Returns a path that is relative to the folder `root` as a path in that folder, or in the current directory, `./`, if
-/// `root` is empty. `root` ends with a slash. An absolute path stays as it is. Fails if an allocation fails.
+/// Returns a path relative to the folder `root` as a path in that folder, or after `./` if `root` is empty. `root` must
+/// end with a slash or be empty. Returns an absolute path unchanged.
 pub(crate) fn rooted(alloc: Global, root: &str, path: &str) -> Result<String, AllocError> {
     let mut out = String::new(alloc);
     if !path.starts_with('/') {
@@ -53,8 +53,8 @@ pub(crate) fn rooted(alloc: Global, root: &str, path: &str) -> Result<String, Al
     Ok(out)
 }
 
-/// Returns the path of the document with a URI. If the document is not a file, this is the last part of the URI, in the
-/// folder `root`. Fails if an allocation fails.
+/// Returns the path of the document at `uri`. If `uri` does not name a file, returns its last part in the folder
+/// `root`.
 pub(crate) fn name_of(alloc: Global, root: &str, uri: &str) -> Result<String, AllocError> {
     match path_of_uri(alloc, uri)? {
         Some(path) => Ok(path),

@@ -1,0 +1,38 @@
+//! Removes an assignment whose key the table already has.
+use crate::diagnostics::Repair;
+use crate::edits::{Edit, edited};
+use std::alloc::{AllocError, Global};
+use toml_span_check::every::check;
+use toml_span_check::statements::assignment_lines;
+
+/// Returns the repair that removes the lines of the assignment whose key, at the offset `at`, is a duplicate. `report`
+/// is the position of the report on this error in the list of the `count` reports. Returns `None` if `assignment_lines`
+/// does, or if there would not be fewer reports without the lines.
+pub(crate) fn without_duplicate(
+    alloc: Global,
+    text: &str,
+    at: usize,
+    report: usize,
+    count: usize,
+) -> Result<Option<Repair>, AllocError> {
+    let Some(span) = assignment_lines(text, at) else {
+        return Ok(None);
+    };
+    let mut edits = Vec::new(alloc);
+    edits.push(Edit {
+        span,
+        text: String::new(alloc),
+    })?;
+    let Some(new) = edited(alloc, text, edits.as_slice())? else {
+        return Ok(None);
+    };
+    if check(alloc, new.as_str())?.len() >= count {
+        return Ok(None);
+    }
+    Ok(Some(Repair {
+        title: String::from_str(alloc, "remove this duplicate key")?,
+        report,
+        edits,
+        is_safe: false,
+    }))
+}
