@@ -267,12 +267,18 @@ TEXTS = [
     "a." * 140 + "b = 1",
 ]
 
+SETTINGS = [{}, {"schema": "schema.json"}, {"schema": "none"}, {"width": 1}]
+
 
 # a schema for the texts, in which each way to a subschema occurs
 SCHEMA = {
-    "$defs": {"any": {"anyOf": [{"type": "string", "enum": ["n", "m"]}, {"$ref": "#/$defs/table"}, {"items": {"$ref": "#"}}]},
-              "table": {"properties": {"name": {"type": "string", "default": "\U0001f600"}, "kind": {"const": 1}},
-                        "additionalProperties": {"$ref": "#/$defs/any"}}},
+    "$defs": {
+        "any": {"anyOf": [{"type": "string", "enum": ["n", "m"]}, {"$ref": "#/$defs/table"}, {"items": {"$ref": "#"}}]},
+        "table": {
+            "properties": {"name": {"type": "string", "default": "\U0001f600"}, "kind": {"const": 1}},
+            "additionalProperties": {"$ref": "#/$defs/any"},
+        },
+    },
     "properties": {"a": {"$ref": "#/$defs/any"}, "b": {"type": ["boolean", "object"], "deprecated": True, "title": "b"},
                    "x": {"prefixItems": [{"$ref": "#/$defs/table"}], "items": {"$ref": "#/$defs/any"}}},
     "patternProperties": {"^t": {"type": "array", "items": {"enum": [1, "y", None, [2]]}}},
@@ -291,7 +297,8 @@ class Fuzz:
         return self.random.choice(choices)
 
     def number(self):
-        return self.one(0, 0, 1, 1, 2, 3, 4, 5, 6, 8, 11, 40, 2**31 - 1, 2**31, 2**63, 2**64, 10**30, -1, 0.5, None, "1")
+        large = [2**31 - 1, 2**31, 2**63, 2**64, 10**30]
+        return self.one(0, 0, 1, 1, 2, 3, 4, 5, 6, 8, 11, 40, *large, -1, 0.5, None, "1")
 
     def position(self):
         if self.random.random() < 0.05:
@@ -307,7 +314,8 @@ class Fuzz:
         text = self.one(*TEXTS)
         if text and self.random.random() < 0.5:
             at = self.random.randrange(len(text))
-            text = text[:at] + self.one("", "=", "\n", "\r", '"', "[", "]", "{", "'", "#", "\U0001f600", ".") + text[at + 1 :]
+            new = self.one("", "=", "\n", "\r", '"', "[", "]", "{", "'", "#", "\U0001f600", ".")
+            text = text[:at] + new + text[at + 1 :]
         return text
 
     def junk(self, depth):
@@ -327,9 +335,12 @@ class Fuzz:
             "range": self.range(),
             "newName": self.one("n", "", "a b", "\U0001f600", "x.y"),
             "contentChanges": [change] * self.random.randrange(3),
-            "context": {"includeDeclaration": self.one(True, False), "only": self.one(["quickfix"], ["source"], [""], None)},
+            "context": {
+                "includeDeclaration": self.one(True, False),
+                "only": self.one(["quickfix"], ["source"], [""], None),
+            },
             "options": {"tabSize": self.number()},
-            "settings": {"toml-span": self.one({}, {"schema": "schema.json"}, {"schema": "none"}, {"width": 1}, self.junk(2))},
+            "settings": {"toml-span": self.one(*SETTINGS, self.junk(2))},
         }
         while self.random.random() < 0.2:
             params[self.one(*params)] = self.junk(3)
@@ -406,11 +417,14 @@ def speed(program, name):
         times.append(time.perf_counter() - start)
         sizes[number + 1] = memory(server.process) if number in (9, 9_999) else 0
     times.sort()
-    print(f"{len(text.encode())} bytes: a keystroke {times[len(times) // 2] * 1000:.2f} ms, 99 % {times[len(times) * 99 // 100] * 1000:.2f} ms")
+    middle, late = times[len(times) // 2] * 1000, times[len(times) * 99 // 100] * 1000
+    print(f"{len(text.encode())} bytes: a keystroke {middle:.2f} ms, 99 % {late:.2f} ms")
     print(f"memory after 10 changes {sizes.get(10)} KB, after 10,000 {sizes.get(10_000)} KB")
-    for method in METHODS[:1] + ["textDocument/semanticTokens/full", "textDocument/formatting", "textDocument/diagnostic"]:
+    names = ["semanticTokens/full", "formatting", "diagnostic", "codeAction"]
+    for method in METHODS[:1] + ["textDocument/" + name for name in names]:
         start = time.perf_counter()
-        server.send({"id": method, "method": method, "params": {"textDocument": {"uri": "u"}}})
+        params = {"textDocument": {"uri": "u"}, "range": {"start": place, "end": place}, "context": {}}
+        server.send({"id": method, "method": method, "params": params})
         server.answer(method)
         print(f"{method}: {(time.perf_counter() - start) * 1000:.2f} ms")
     server.process.kill()

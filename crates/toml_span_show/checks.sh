@@ -1,7 +1,7 @@
 # Further checks of toml_span_show (scripts/runs.sh): refused requests for memory, and limits of input and output
 input=$work/document
 
-# held SPARED TEXT: the run with this input, with each of its requests refused, of which so many have no effect
+# held SPARED TEXT: the run with this input, with each of its requests refused. `SPARED` of them have no effect.
 held() {
     printf '%b' "$2" >"$input"
     refused 4 4 "$1"

@@ -12,7 +12,7 @@ use std::{env, fs, io};
 use toml_span::parse;
 use toml_span::tokens::Tokenizer;
 
-/// How long to measure, in nanoseconds, if no number of passes is given.
+/// How long to measure, in nanoseconds, if the number of passes is 0.
 const SECOND: u128 = 1_000_000_000;
 
 /// The usage message.
@@ -21,7 +21,7 @@ const USAGE: &str = "usage: toml_span_bench FILE N
 Parses FILE N times, or for about a second where N is 0, and prints the best and the mean
 time of a pass in nanoseconds. The second form goes through the tokens alone.";
 
-/// Parses a text once or, with `in_tokens`, splits it into tokens. Returns whether that succeeded.
+/// Parses a text or, if `in_tokens`, splits it into tokens. Returns whether this succeeded.
 fn is_read(alloc: Global, text: &str, in_tokens: bool) -> bool {
     if !in_tokens {
         return parse(alloc, text).is_ok();
@@ -37,7 +37,7 @@ fn is_read(alloc: Global, text: &str, in_tokens: bool) -> bool {
     false
 }
 
-/// Parses a text `passes` times, or for about a second if that is 0, and prints the line for the file. With
+/// Parses a text `passes` times, or for about a second if `passes` is 0, and prints the line for the file. If
 /// `in_tokens`, splits the text into tokens instead. Fails if the clock or the output fails.
 fn measure(
     rt: &HostRuntime,

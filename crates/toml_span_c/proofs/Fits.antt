@@ -10,7 +10,7 @@ use Rattle.toml_span_read.proofs.InsideLemmas.{tail_inside}
 use Rattle.toml_span_read.proofs.SpanLaws.{value_lies}
 use Rattle.toml_span.specs.declared.claims.HeaderInfo.{HeaderInfo}
 use Rattle.toml_span.specs.declared.claims.ClaimKind.TheVariants.{Passed, TableElement}
-use Rattle.toml_span.specs.Claims.{Claim, Claims, no_claims, claimed, scope, followed, value_shape, parsed_inner, key_claims, value_claims, inner_claims, item_claims, pair_claims, assignments_claims, element, assigned, dotted, header_claim, array_claims, end_claims, header_claims, section_claims, claims_after, claims}
+use Rattle.toml_span.specs.Claims.{Claim, Claims, no_claims, claimed, scope, followed, value_shape, key_claims, value_claims, inner_claims, item_claims, pair_claims, assignments_claims, element, assigned, dotted, header_claim, array_claims, end_claims, header_claims, section_claims, claims_after, claims}
 use Rattle.toml_span.specs.Flat.{all_claims}
 use Rattle.toml_span.specs.Paths.{with_key, with_position, enter, elements_added, opened_by}
 use Rattle.toml_span_c.proofs.Paths.{total}
@@ -55,7 +55,7 @@ module _ (f : Fair) where
   spent cs = claims_cost f.cost cs
 
   abbrev value_cost : ParsedValue → ℕ
-  value_cost v = f.cost.shape (value_shape (parsed_inner v))
+  value_cost v = f.cost.shape (value_shape v)
 
   -- the cost of the parts of a key, with a byte for each
   abbrev key_cost : List SimpleKey → ℕ

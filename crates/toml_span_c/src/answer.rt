@@ -9,7 +9,7 @@ use toml_span::{Error, Stop};
 /// The maximum length of a document, in bytes.
 pub const BOUND: usize = 16_777_216;
 
-/// The result for the bytes of a document: its text with its tree or its error.
+/// The result for the bytes of a document: the text with the tree or the error.
 #[derive(Drop)]
 pub(crate) enum Answer<'de> {
     Tree(&'de str, Value<'de>),
@@ -19,7 +19,7 @@ pub(crate) enum Answer<'de> {
     Memory,
 }
 
-/// Parses a document. Returns `Unread` if its bytes are more than `BOUND` or not valid UTF-8, and `Memory` if an
+/// Parses a document. Returns `Unread` if the bytes are more than `BOUND` or not valid UTF-8, and `Memory` if an
 /// allocation fails.
 pub(crate) fn answer_to<'de>(alloc: Global, bytes: &'de [u8]) -> Answer<'de>
     ensures { IsAnswer bytes.now result }

@@ -11,7 +11,7 @@ use std::alloc::{AllocError, Global};
 use toml_span::Stop;
 use toml_span_edit::{Change, Edit, Edits, Reason};
 
-/// A segment of a path: the name of a key in a table, or the position of an element, counted from 0, in an array.
+/// A segment of a path: the name of a key, or the position of an element in decimal digits, counted from 0.
 #[repr(C)]
 #[derive(Clone, Copy)]
 pub struct Segment<'a> {
@@ -25,11 +25,11 @@ pub struct ChangeRecord<'a> {
     /// The kind of change: 1 set, 2 replace, 3 set or add, 4 rename, 5 remove, 6 add, 7 add a table, 8 append, 9
     /// insert, 10 move. 0 means that the path could not be split into segments.
     pub change: u32,
-    /// The path, from the root.
+    /// The path from the root.
     pub path: &'a [Segment<'a>],
-    /// The new path, if `change` is 10.
+    /// The new path if `change` is 10.
     pub target: &'a [Segment<'a>],
-    /// The new value, as TOML. If `change` is 4, the new name.
+    /// The new value as TOML or, if `change` is 4, the new name.
     pub value: &'a [u8],
 }
 
@@ -42,14 +42,14 @@ enum Refusal {
     NoChange,
 }
 
-/// Which change was refused, and why.
+/// The index of the refused change, and why it was refused.
 #[derive(Drop)]
 struct Refused {
     index: usize,
     refusal: Refusal,
 }
 
-/// Returns the names in the segments, or `None` if a segment is not valid UTF-8. Fails if an allocation fails.
+/// Returns the names in the segments, or `None` if a segment is not valid UTF-8.
 fn names<'a>(alloc: Global, segments: &[Segment<'a>]) -> Result<Option<Vec<&'a str>>, AllocError>
     ensures { IfOk result (λ read. IfSome read (λ found. map (λ s. s.now) found.items ≡ names_of segments.now)) }
 {
@@ -63,8 +63,8 @@ fn names<'a>(alloc: Global, segments: &[Segment<'a>]) -> Result<Option<Vec<&'a s
     Ok(Some(found))
 }
 
-/// Returns the change that a record describes, or `None` if the record's number is not that of a change. `value` and
-/// `target` are the record's value and target as texts.
+/// Returns the change that a record describes, or `None` if no kind of change has the record's number. `value` and
+/// `target` are those of the record as texts.
 fn change_of<'e>(
     asked: ChangeRecord<'_>,
     value: &'e str,
@@ -88,8 +88,7 @@ fn change_of<'e>(
     }
 }
 
-/// Applies one edit to a text. Fails with the reason if the edit is refused, and with `Stop::Memory` if an allocation
-/// fails.
+/// Applies one edit to a text. Fails with the reason if the edit is refused.
 fn edit_made(alloc: Global, text: &str, edit: Edit<'_>) -> Result<String, Stop<Refusal>>
     ensures { IfOk result (λ new. EditMade edit.entry text.now (string_bytes new)) }
 {
@@ -102,8 +101,7 @@ fn edit_made(alloc: Global, text: &str, edit: Edit<'_>) -> Result<String, Stop<R
     }
 }
 
-/// Applies one change to a text. Fails with the reason if the change is refused, and with `Stop::Memory` if an
-/// allocation fails.
+/// Applies one change to a text. Fails with the reason if the change is refused.
 fn change_made(alloc: Global, text: &str, asked: ChangeRecord<'_>) -> Result<String, Stop<Refusal>>
     ensures { IfOk result (λ new. ChangeMade asked.entry text.now (string_bytes new)) }
 {
@@ -125,8 +123,7 @@ fn change_made(alloc: Global, text: &str, asked: ChangeRecord<'_>) -> Result<Str
     edit_made(alloc, text, Edit { path, change })
 }
 
-/// Applies one change to a text. Fails with `index`, the position of the change in the list, and the reason if the
-/// change is refused, and with `Stop::Memory` if an allocation fails.
+/// Applies one change to a text. Fails with `index` and the reason if the change is refused.
 fn indexed_change_made(
     alloc: Global,
     text: &str,
@@ -143,7 +140,7 @@ fn indexed_change_made(
 }
 
 /// Applies the changes to a text, one after the other. Fails with the index of the first change that is refused and the
-/// reason, and with `Stop::Memory` if an allocation fails.
+/// reason.
 fn changes_made(
     alloc: Global,
     text: &str,
@@ -159,7 +156,7 @@ fn changes_made(
     Ok(new)
 }
 
-/// Returns the message for a refused change. Fails if an allocation fails.
+/// Returns the message for a refused change.
 fn message_of(alloc: Global, refusal: &Refusal) -> Result<String, AllocError> {
     match refusal {
         Refusal::Reason(reason) => {
@@ -177,9 +174,10 @@ fn message_of(alloc: Global, refusal: &Refusal) -> Result<String, AllocError> {
 }
 
 /// Applies the changes to a valid document. Writes the new text to `out` if it fits, and sets `needed` to its length.
-/// If a change is refused, writes as much of the message as fits to `out`, and sets `needed` to the length of the
-/// message and `refused` to the index of the change. Returns 0, or 3 if a change is refused, or 4 if an allocation
-/// fails.
+/// Returns 0. Returns 4 if an allocation fails; `out`, `needed` and `refused` are then unchanged.
+///
+/// If a change is refused, returns 3, and sets `refused` to the index of the change. Then `out` has as much of the
+/// message as fits, and `needed` is the length of the message.
 fn put_changed(
     alloc: Global,
     document: &str,
@@ -212,7 +210,7 @@ fn put_changed(
     }
 }
 
-/// Applies the changes to a document, one after the other, and writes the new text to `out` if it fits.
+/// Applies the changes to a document, one after the other.
 ///
 /// Returns one of these statuses. Outputs that the status does not mention stay as they are.
 ///

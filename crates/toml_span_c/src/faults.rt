@@ -7,7 +7,7 @@ use crate::records::Range;
 use toml_span_lex::span::Span;
 use toml_span_tree::{Error, ErrorKind};
 
-/// Why a document is not valid, and where. Spans are byte offsets, end exclusive.
+/// The error of a document. Spans are byte offsets, end exclusive.
 #[repr(C)]
 #[derive(Clone, Copy)]
 pub struct FaultRecord {
@@ -15,17 +15,17 @@ pub struct FaultRecord {
     pub code: u32,
     /// 1 if `first` is set, otherwise 0.
     pub has_first: u32,
-    /// The bytes that the error is about.
+    /// The span of the error.
     pub span: Range,
-    /// The span of the earlier table, key or value, if the error has one, otherwise 0..0.
+    /// The span of the earlier table, key or value, if the error names one, otherwise `0..0`.
     pub first: Range,
     /// The line where `span` starts, counted from 0.
     pub line: usize,
-    /// The number of bytes before `span` in that line.
+    /// The number of bytes before the start of `span` on this line.
     pub column: usize,
 }
 
-/// Returns the number of a kind of error, or 0 for kinds that `parse` does not return.
+/// Returns the number of a kind of error, or 0 for a kind that `parse` does not return.
 fn code_number(kind: &ErrorKind<'_>) -> u32
     ensures { result ≡ spec.code_number (kind_of kind.now) }
 {
@@ -51,7 +51,7 @@ fn code_number(kind: &ErrorKind<'_>) -> u32
     }
 }
 
-/// Returns the span of the earlier table, key or value, if the error has one.
+/// Returns the span of the earlier table, key or value, or `None` if the error names none.
 fn first_of(kind: &ErrorKind<'_>) -> Option<Span>
     ensures { result ≡ spec.first_of (kind_of kind.now) }
 {
@@ -63,7 +63,7 @@ fn first_of(kind: &ErrorKind<'_>) -> Option<Span>
     }
 }
 
-/// Converts an error into a record.
+/// Converts an error to a record.
 pub(crate) fn fault_of(error: &Error<'_>) -> FaultRecord
     ensures { result ≡ spec.fault_of (content_of error.now) }
 {
@@ -86,7 +86,7 @@ pub(crate) fn fault_of(error: &Error<'_>) -> FaultRecord
     }
 }
 
-/// Returns the name of the kind of error with this number, or an empty string if no kind has this number.
+/// Returns the name of the kind of error with the number `code`, or an empty text for any other number.
 pub(crate) fn code_name(code: u32) -> &'static str
     ensures { result.now ≡ spec.code_name code }
 {

@@ -13,7 +13,7 @@ use crate::records::{
 use toml_span_lex::span::Span;
 use toml_span_tree::{Table, Value};
 
-/// Where a value is: its name and the span of its key, if it has one, the index of its parent's record, and its
+/// The place of a value: the name and span of its key, if it has one, the index of its parent's record, and its
 /// position in the parent.
 #[derive(Clone, Copy)]
 pub(crate) struct Site<'a> {
@@ -23,7 +23,7 @@ pub(crate) struct Site<'a> {
     position: usize,
 }
 
-/// Returns whether the document has this text at the span.
+/// Returns whether the document has exactly this text at the span.
 fn is_written_at(document: &str, span: Span, text: &str) -> bool
     ensures { result ≡ spec.is_written_at document.now span text.now }
 {
@@ -40,8 +40,8 @@ fn room_of<T>(array: &[T]) -> usize
     array.len()
 }
 
-/// Writes as many of the bytes into the string array as fit, at the index `count`, and adds the number of all bytes,
-/// even those that don't fit, to `count`.
+/// Writes the bytes to `strings` from the index `count` on, as far as they fit. Adds the number of all bytes to
+/// `count`.
 fn put_bytes(strings: &mut [u8], count: &mut usize, bytes: &[u8])
     ensures { (m : ℕ) → count.old ≡ m → m + length bytes.now ≤ NONE
         → PutsBytes m bytes.now strings.old strings.new count.new }
@@ -55,9 +55,8 @@ fn put_bytes(strings: &mut [u8], count: &mut usize, bytes: &[u8])
     *count = at.saturating_add(bytes.len());
 }
 
-/// Returns the place at which C finds a text: in the document, if the document has exactly this text at `span`,
-/// otherwise in the string array. In the latter case, writes the text into the array (see `put_bytes`). Returns an
-/// empty place for `None`.
+/// Returns where C finds a text: in the document, if the document has exactly this text at `span`, otherwise in
+/// `strings`. Writes a text that is not at `span` with `put_bytes`. Returns an empty place for `None`.
 #[inline(always)]
 fn put_text(
     document: &str,
@@ -96,7 +95,7 @@ fn put_text(
     }
 }
 
-/// Writes a record at the index `at`. Does nothing if the array is too short.
+/// Writes a record at the index `at`, or nothing if the array is too short.
 fn put_record(nodes: &mut [Record], at: usize, added: Record)
     ensures { nodes.new ≡ laid at (added ∷ []) nodes.old }
 {
@@ -106,8 +105,7 @@ fn put_record(nodes: &mut [Record], at: usize, added: Record)
     }
 }
 
-/// Returns the record of a value, without its `next`, and writes its texts into the string array. The function is not
-/// inlined, so that its temporary values do not take stack at every level of the recursion.
+/// Returns the record of a value without the index `next`, and writes the texts of the record (see `put_text`).
 #[inline(never)]
 fn begin_record(
     document: &str,
@@ -125,6 +123,7 @@ fn begin_record(
         → PutsBytes m (spec.entry_strings document.now (begun site.entry value.now))
         strings.old strings.new count.new }
 {
+    // Not inlined, so that temporary values do not take stack at every level of the recursion.
     let inner = value.as_ref();
     let key = put_text(document, site.key_span, site.name, strings, count);
     let text = put_text(document, value.span, text_of(inner), strings, count);
@@ -150,8 +149,8 @@ fn begin_record(
     }
 }
 
-/// Writes the record of a value, followed by the records of the values inside it, as far as they fit. Does nothing for
-/// a taken value.
+/// Writes the record of a value, and then those of the values inside, as far as they fit. Does nothing for a taken
+/// value.
 #[cycle(put_value)]
 fn put_value(
     document: &str,
@@ -176,7 +175,7 @@ fn put_value(
     put_record(nodes, at, record);
 }
 
-/// Writes the records of the values inside a value, whose own record has the index `at`.
+/// Writes the records of the values inside a value. `at` is the index of the record of the value itself.
 #[cycle(put_value)]
 fn put_held(
     document: &str,
@@ -198,7 +197,7 @@ fn put_held(
     }
 }
 
-/// Writes the records of the elements of an array, whose own record has the index `parent`.
+/// Writes the records of the elements of an array. `parent` is the index of the array's record.
 #[cycle(put_value)]
 fn put_elements(
     document: &str,
@@ -226,8 +225,8 @@ fn put_elements(
     }
 }
 
-/// Writes the records of the entries of a table, in the order of their names. The table's own record has the index
-/// `parent`.
+/// Writes the records of the entries of a table, in the order of their names. `parent` is the index of the table's
+/// record.
 #[cycle(put_value)]
 fn put_entries(
     document: &str,
@@ -255,8 +254,8 @@ fn put_entries(
     }
 }
 
-/// Writes the records and strings of a document, as far as they fit. Returns the number of all records and the number
-/// of all bytes of strings, even of those that don't fit.
+/// Writes the records and strings of a document, as far as they fit. Returns the numbers of all records and of all
+/// bytes of strings, even if they don't fit.
 pub(crate) fn put_tree(
     document: &str,
     root: &Value<'_>,

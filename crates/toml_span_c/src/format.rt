@@ -13,8 +13,9 @@ use toml_span_format::{Options, format};
 /// The maximum number of spaces per level of indentation.
 pub const MOST_SPACES: usize = 64;
 
-/// Writes the formatted text of a valid document to `out` if it fits, and sets `needed` to its length. Returns 0, or 3
-/// if the result would differ from the document in more than its layout, or 4 if an allocation fails.
+/// Writes the formatted text of a valid document to `out` if it fits, and sets `needed` to its length. Returns 0.
+/// Returns 3 if the text would differ from the document in more than its layout, or 4 if an allocation fails; `out` and
+/// `needed` are then unchanged.
 fn put_formatted(
     alloc: Global,
     document: &str,
@@ -37,8 +38,8 @@ fn put_formatted(
     }
 }
 
-/// Formats a document, and writes the result to `out` if it fits. `width` is the width of a line in characters,
-/// `indent` the number of spaces per level of indentation, where more than 64 count as 64.
+/// Formats a document. `width` is the width of a line in characters. `indent` is the number of spaces per level of
+/// indentation; a larger number than 64 counts as 64.
 ///
 /// Returns one of these statuses. Outputs that the status does not mention stay as they are.
 ///

@@ -10,13 +10,13 @@ ghost use Rattle.toml_span_tree.specs.Value.{view};
 ghost use Rattle.toml_span_tree.specs.declared.error.Error.{Error};
 ghost use Rattle.toml_span_tree.specs.declared.value.Value.{Value};
 
-/// Every error that `parse` returns has a number.
+/// Every error that `parse` returns has a number other than 0.
 pub fn errors_are_numbered()
     ensures { (bytes : List ℕ) (limit : ℕ) (error : Error) → IsRefusal bytes limit (stops.Fault error)
         → code_number (content_of error).kind ≢ 0 }
 {}
 
-/// For a kind of error that has a number, the name for this number is the code of the kind.
+/// If a kind of error has a number other than 0, the name for this number is the code of the kind.
 pub fn numbers_are_named()
     ensures { (kind : Kind) → code_number kind ≢ 0 → code_name (code_number kind) ≡ code_of kind }
 {}

@@ -1,4 +1,5 @@
-//! The parser for C: it writes the values of a document as records into the caller's arrays.
+//! The calls for C, which parse, edit and format documents. Parsing writes the values of a document as records into the
+//! caller's arrays.
 //!
 //! A call keeps no state, and returns nothing that it has allocated. include/toml_span.h describes the calls for C
 //! programmers.

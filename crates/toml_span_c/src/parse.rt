@@ -8,12 +8,11 @@ use crate::fill::put_tree;
 use crate::records::{Counts, Record};
 use std::alloc::Global;
 
-/// Parses a document. Writes as many of its records as fit into `nodes`, and as many bytes of their strings as fit into
-/// `strings`.
+/// Parses a document.
 ///
 /// Returns one of these statuses. Outputs that the status does not mention stay as they are.
 ///
-/// - 0: `nodes` and `strings` have what fits, and `counts` are the numbers of all records and of all bytes of strings.
+/// - 0: `nodes` and `strings` have as many records and bytes as fit, and `counts` has the numbers of all of them.
 /// - 1: the document is not valid TOML; `fault` is its error.
 /// - 2: the document is longer than 16 MiB, or not valid UTF-8.
 /// - 4: an allocation failed.

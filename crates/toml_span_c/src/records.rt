@@ -19,18 +19,19 @@ pub struct Range {
     pub end: usize,
 }
 
-/// Where the bytes of a text are: in the document, or in the array of strings.
+/// The bytes of a text: where they start, and how many they are.
 #[repr(C)]
 #[derive(Clone, Copy)]
 pub struct Text {
-    /// 0 in the document, 1 in the strings.
+    /// 0 if the bytes are in the document, 1 if they are in the array of strings.
     pub source: usize,
     /// The offset of the first byte.
     pub at: usize,
     pub length: usize,
 }
 
-/// A value of a document. Fields that do not apply to the kind of the value are 0 or empty.
+/// A value of a document. Fields that do not apply to the value are 0 or empty, except that the root's `parent` is
+/// `NONE`.
 #[repr(C)]
 #[derive(Clone, Copy)]
 pub struct Record {
@@ -40,27 +41,27 @@ pub struct Record {
     pub truth: u32,
     /// The span of the value.
     pub span: Range,
-    /// The span of the value's key, or 0..0 if it has no key.
+    /// The span of the value's key, or `0..0` if it has none.
     pub key_span: Range,
-    /// The name of the value's key, or an empty text if it has no key.
+    /// The name of the value's key, or an empty text if it has none.
     pub key: Text,
-    /// The text of a string, float or date.
+    /// The text of a string, float, date or time.
     pub text: Text,
     /// The index of the parent's record, or `NONE` for the root.
     pub parent: usize,
-    /// The position of the value among its parent's children, counted from 0.
+    /// The position of the value in its parent, counted from 0.
     pub position: usize,
     /// The number of elements of an array, or of entries of a table.
     pub children: usize,
-    /// The index of the first record after this record and the records of all values inside the value.
+    /// The index of the first record after those of this value and all values inside.
     pub next: usize,
-    /// The integer.
+    /// The value of an integer.
     pub integer: i64,
-    /// The number nearest to the text of a float.
+    /// The value of a float: the number nearest to its text.
     pub number: f64,
 }
 
-/// The number of records, and the number of bytes in the strings.
+/// The number of records, and the number of bytes of strings.
 #[repr(C)]
 #[derive(Clone, Copy)]
 pub struct Counts {
@@ -84,7 +85,7 @@ pub(crate) fn kind_of(inner: &ValueInner<'_>) -> u32
     }
 }
 
-/// Returns 1 for `true`, and 0 for any other value.
+/// Returns 1 for `true`, otherwise 0.
 pub(crate) fn truth_of(inner: &ValueInner<'_>) -> u32
     ensures { result ≡ spec.truth_of (inner_view inner.now) }
 {
@@ -94,7 +95,7 @@ pub(crate) fn truth_of(inner: &ValueInner<'_>) -> u32
     }
 }
 
-/// Returns an integer, and 0 for any other value.
+/// Returns the value of an integer, otherwise 0.
 pub(crate) fn integer_of(inner: &ValueInner<'_>) -> i64
     ensures { result ≡ spec.integer_of (inner_view inner.now) }
 {
@@ -104,7 +105,7 @@ pub(crate) fn integer_of(inner: &ValueInner<'_>) -> i64
     }
 }
 
-/// Returns the number nearest to the text of a float, and 0.0 for any other value.
+/// Returns the number nearest to the text of a float, otherwise 0.0.
 pub(crate) fn number_of(inner: &ValueInner<'_>) -> f64
     ensures { result ≡ spec.number_of (inner_view inner.now) }
 {
@@ -117,7 +118,7 @@ pub(crate) fn number_of(inner: &ValueInner<'_>) -> f64
     }
 }
 
-/// Returns the number of elements of an array or of entries of a table, and 0 for any other value.
+/// Returns the number of elements of an array or entries of a table, otherwise 0.
 pub(crate) fn children_of(inner: &ValueInner<'_>) -> usize
     ensures { result ≡ spec.children_of (inner_view inner.now) }
 {
@@ -128,7 +129,7 @@ pub(crate) fn children_of(inner: &ValueInner<'_>) -> usize
     }
 }
 
-/// Returns the text of a string, float or date, and `None` for any other value.
+/// Returns the text of a string, float, date or time, otherwise `None`.
 pub(crate) fn text_of<'a>(inner: &'a ValueInner<'_>) -> Option<&'a str>
     ensures { option_map (λ text. text.now) result ≡ spec.text_of (inner_view inner.now) }
 {

@@ -21,7 +21,7 @@ pub(crate) fn put_front(out: &mut [u8], length: &mut usize, text: &str)
     *length = bytes.len();
 }
 
-/// Writes the text to `out` if all of it fits, and sets `length` to the length of the text.
+/// Writes the text to `out` if the whole text fits, and sets `length` to the length of the text.
 pub(crate) fn put_whole(out: &mut [u8], length: &mut usize, text: &str)
     ensures { Holds out.old out.new length.new text.now }
 {
@@ -32,8 +32,8 @@ pub(crate) fn put_whole(out: &mut [u8], length: &mut usize, text: &str)
     }
 }
 
-/// Writes the name of the kind of error with this number, such as `duplicate-key`, to `out`, as much of it as fits, and
-/// sets `length` to the length of the whole name. The name is empty if there is no such kind.
+/// Writes as much of the name of a kind of error, such as `duplicate-key`, to `out` as fits. Sets `length` to the
+/// length of the whole name. `code` is the number of the kind; the name is empty for an unknown number.
 #[unsafe(no_mangle)]
 pub extern "C" fn toml_span_code(code: u32, out: &mut [u8], length: &mut usize)
     ensures { Fills out.old out.new length.new (spec.code_name code) }
@@ -41,9 +41,8 @@ pub extern "C" fn toml_span_code(code: u32, out: &mut [u8], length: &mut usize)
     put_front(out, length, code_name(code));
 }
 
-/// Writes the message of a document's error to `out`, as much of it as fits, and sets `length` to the length of the
-/// whole message. Returns a status as `toml_span_parse` does: 1 if there is an error. With any other status, `out` and
-/// `length` are unchanged.
+/// Writes as much of the message of a document's error to `out` as fits, and sets `length` to the length of the whole
+/// message. Returns a status as `toml_span_parse` does. If the status is not 1, `out` and `length` are unchanged.
 #[unsafe(no_mangle)]
 pub extern "C" fn toml_span_message(
     alloc: Global,
@@ -71,10 +70,11 @@ pub extern "C" fn toml_span_message(
     }
 }
 
-/// Writes the report of the error in `text`, with source lines and marks, to `out`, as much of it as fits, and sets
-/// `length` to the length of the whole report. `name` is the name of the file. Returns a status as `toml_span_parse`
-/// does: 1 if there is an error, and 2 also if the name is not valid UTF-8. With any other status than 1, `out` and
-/// `length` are unchanged.
+/// Writes as much of the report on a document's error to `out` as fits, and sets `length` to the length of the whole
+/// report. The report has source lines and marks. `name` is the name of the file.
+///
+/// Returns a status as `toml_span_parse` does, and 2 also if `name` is not valid UTF-8. If the status is not 1, `out`
+/// and `length` are unchanged.
 #[unsafe(no_mangle)]
 pub extern "C" fn toml_span_report(
     alloc: Global,

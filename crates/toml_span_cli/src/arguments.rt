@@ -5,35 +5,35 @@ use std::alloc::{AllocError, Global};
 use toml_span::Stop;
 use toml_span_files::Options;
 
-/// The maximum number of seconds to wait: a day.
+/// The maximum value of `--wait`: a day, in seconds.
 const MOST_WAIT: u64 = 86_400;
 
-/// What to do with the result of the edits.
+/// The use of the result of the edits.
 #[derive(Clone, Copy, PartialEq, Eq)]
 pub(crate) enum Show {
     /// Replace the file with the result.
     No,
     /// Print the result.
     Text,
-    /// Print how the result differs from the file.
+    /// Print the differences between the file and the result.
     Diff,
 }
 
 /// The parsed arguments of a command that edits a file.
 #[derive(Drop)]
 pub(crate) struct Arguments<'w> {
-    /// The arguments that are not options.
+    /// The arguments that are neither options nor values of options.
     pub(crate) words: Vec<&'w str>,
-    /// The edits of `-e`.
+    /// The values of `-e`.
     pub(crate) edits: Vec<&'w str>,
     pub(crate) options: Options,
     pub(crate) show: Show,
-    /// Whether values are texts rather than TOML.
+    /// Whether values are the content of strings rather than TOML.
     pub(crate) is_string: bool,
     pub(crate) is_help: bool,
 }
 
-/// The option whose value is the next argument.
+/// Which option's value the next argument is.
 #[derive(Clone, Copy)]
 enum Waiting {
     /// The next argument is not the value of an option.
@@ -42,7 +42,7 @@ enum Waiting {
     Wait,
     /// `-e`
     Edit,
-    /// `--` has occurred, so no later argument is an option or the value of one.
+    /// `--` has been read. No later argument is an option or the value of one.
     Never,
 }
 
@@ -55,8 +55,7 @@ struct Reading<'w> {
     waiting: Waiting,
 }
 
-/// Parses a number of seconds. Fails with a message if `word` is not a number from 0 to `MOST_WAIT`, and with
-/// `Stop::Memory` if an allocation fails.
+/// Parses a number of seconds. Fails with a message if `word` is not a number from 0 to `MOST_WAIT`.
 fn seconds(alloc: Global, word: &str) -> Result<u64, Stop<String>> {
     match word.parse::<u64>() {
         Ok(number) if number <= MOST_WAIT => Ok(number),
@@ -67,8 +66,7 @@ fn seconds(alloc: Global, word: &str) -> Result<u64, Stop<String>> {
 }
 
 impl<'w> Reading<'w> {
-    /// Fails with the message that the argument `word` is unexpected, or with `Stop::Memory` if an allocation fails.
-    /// Never returns `Ok`.
+    /// Fails with a message that the argument `word` is unexpected. Never returns `Ok`.
     fn unexpected(&self, word: &str) -> Result<(), Stop<String>> {
         let word = quoted_word(self.alloc, word)?;
         Err(Stop::Fault(format!(in self.alloc;
@@ -76,8 +74,8 @@ impl<'w> Reading<'w> {
         )?))
     }
 
-    /// Parses an argument that begins with a dash. An unknown argument with only one dash, such as `-1`, is taken as a
-    /// value. Fails with a message if the argument is wrong, and with `Stop::Memory` if an allocation fails.
+    /// Stores an argument that begins with a dash. An unknown argument with only one dash, such as `-1`, is not an
+    /// option. Fails with a message if the argument is wrong.
     fn option(&mut self, word: &'w str) -> Result<(), Stop<String>> {
         match word {
             "-h" | "--help" => self.asked.is_help = true,
@@ -98,8 +96,8 @@ impl<'w> Reading<'w> {
         Ok(())
     }
 
-    /// Parses the next argument. Fails with a message if the argument is wrong, and with `Stop::Memory` if an
-    /// allocation fails.
+    /// Stores the next argument: an option, the value of the option before, or neither. Fails with a message if the
+    /// argument is wrong.
     fn take(&mut self, word: &'w str) -> Result<(), Stop<String>> {
         match self.waiting {
             Waiting::Wait => self.asked.options.wait = seconds(self.alloc, word)?,
@@ -119,8 +117,8 @@ impl<'w> Reading<'w> {
     }
 }
 
-/// Parses the arguments of a command. Fails with a message if an argument is wrong or missing, and with `Stop::Memory`
-/// if an allocation fails.
+/// Parses `words`, the arguments after the name of the command. Fails with a message if an argument is wrong, or if the
+/// value of the last option is missing.
 pub(crate) fn arguments_asked<'w>(
     alloc: Global,
     command: Command,

@@ -11,26 +11,26 @@ pub(crate) struct Change<'w> {
     pub(crate) task: Task<'w>,
 }
 
-/// What an edit does at its path.
+/// The action of an edit.
 #[derive(Clone, Copy)]
 pub(crate) enum Task<'w> {
-    /// Replaces the value, or adds it.
+    /// Replaces the value at the path with this value, or adds the value.
     Set(&'w str),
-    /// Renames the key.
+    /// Renames the key to this name.
     Rename(&'w str),
-    /// Removes the value with its key, or the element.
+    /// Removes a value with its key, or an element.
     Remove,
-    /// Adds a key with a value to the table.
+    /// Adds this key with this value to the table.
     Add(&'w str, &'w str),
-    /// Adds an element at the end of the array.
+    /// Adds this value at the end of the array.
     Append(&'w str),
-    /// Adds an element before the element at the path.
+    /// Inserts this value before the element at the path.
     Insert(&'w str),
     /// Moves the value to this path.
     Move(&'w str),
 }
 
-/// Returns how many arguments a command takes after the name of the file.
+/// Returns the number of arguments of a command after the name of the file.
 pub(crate) fn count_of(command: Command) -> usize {
     match command {
         Command::Edit => 0,
@@ -40,8 +40,8 @@ pub(crate) fn count_of(command: Command) -> usize {
     }
 }
 
-/// Returns the edit that a command makes. `words` are the command's arguments after the name of the file. Returns
-/// `None` if their number is wrong, or if the command does not make a single edit.
+/// Returns the edit that a command makes. `words` are the arguments after the name of the file. Returns `None` if their
+/// number is wrong, or if the command does not make a single edit.
 pub(crate) fn change_of<'w>(command: Command, words: &[&'w str]) -> Option<Change<'w>> {
     let [path, rest @ ..] = words else {
         return None;
@@ -60,8 +60,7 @@ pub(crate) fn change_of<'w>(command: Command, words: &[&'w str]) -> Option<Chang
 }
 
 impl<'w> Change<'w> {
-    /// Returns the message about the first path of the edit that can't be read, or `None` if all its paths can be read.
-    /// Fails if an allocation fails.
+    /// Returns the message about the first path of the edit that can't be read, or `None` if all paths can be read.
     pub(crate) fn wrong_path(&self, alloc: Global) -> Result<Option<String>, AllocError> {
         match (wrong_path(alloc, self.path)?, self.task) {
             (None, Task::Move(to)) => wrong_path(alloc, to),
@@ -70,7 +69,7 @@ impl<'w> Change<'w> {
     }
 }
 
-/// Returns the command with this name, or `None` if an edit in a script can't begin with it.
+/// Returns the command with this name, or `None` if no edit in a script begins with this name.
 fn scripted(name: &str) -> Option<Command> {
     match name {
         "set" => Some(Command::Set),
@@ -84,10 +83,13 @@ fn scripted(name: &str) -> Option<Command> {
     }
 }
 
-/// Splits a line after its first word, which may be in quotes. Returns the word without quotes, and the rest of the
-/// line. Returns `None` if a quote is not closed. Quotes have no escapes.
+/// Splits a line after the first word, which may be in quotes. Returns the word without quotes, and the rest of the
+/// line. Returns `None` if the line is blank, or if a quote is not closed. Quotes have no escapes.
 fn first_word(line: &str) -> Option<(&str, &str)> {
     let line = line.trim_start();
+    if line.is_empty() {
+        return None;
+    }
     let (word, rest) = match (line.strip_prefix('\''), line.strip_prefix('"')) {
         (Some(quoted), _) => quoted.split_once('\'')?,
         (_, Some(quoted)) => quoted.split_once('"')?,
@@ -119,8 +121,8 @@ fn line_change(line: &str) -> Option<Change<'_>> {
     }
 }
 
-/// Parses an edit in a script or in `-e`. `front` and the number `at` name the edit in messages, as in `line 2`. Fails
-/// with a message if the edit is wrong, and with `Stop::Memory` if an allocation fails.
+/// Parses an edit in a script or in `-e`. Fails with a message if the edit is wrong. The message begins with `front`
+/// and the number `at`, as in `line 2`.
 fn checked<'w>(
     alloc: Global,
     front: &str,
@@ -137,8 +139,7 @@ fn checked<'w>(
     Err(Stop::Fault(format!(in alloc; "{front} {at}: {reason}")?))
 }
 
-/// Parses the edits of the options `-e`. Fails with a message if an edit is wrong, and with `Stop::Memory` if an
-/// allocation fails.
+/// Parses the values of the options `-e`. Fails with a message if an edit is wrong.
 pub(crate) fn option_changes<'w>(
     alloc: Global,
     edits: &[&'w str],
@@ -151,7 +152,7 @@ pub(crate) fn option_changes<'w>(
 }
 
 /// Parses a script with one edit per line. Ignores blank lines, and lines that begin with `#`. Fails with a message if
-/// an edit is wrong, and with `Stop::Memory` if an allocation fails.
+/// an edit is wrong.
 pub(crate) fn script_changes(alloc: Global, script: &str) -> Result<Vec<Change<'_>>, Stop<String>> {
     let mut changes = Vec::new(alloc);
     for (at, line) in script.lines().enumerate() {

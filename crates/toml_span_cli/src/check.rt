@@ -16,7 +16,7 @@ use toml_span_check::newer::with_older_forms;
 use toml_span_lines::run::BOUND;
 use toml_span_lines::sink::Sink;
 
-/// The number of errors that were fixed, and the number of files with such errors.
+/// The number of errors that were fixed, and the number of files with fixes.
 #[derive(Clone, Copy, Drop)]
 struct Count {
     errors: usize,
@@ -24,7 +24,7 @@ struct Count {
 }
 
 /// Fixes the errors of a source, and then replaces syntax that the version of TOML in `task` lacks. Returns the new
-/// text with the number of fixes. `name` is the name of the file. Fails if an allocation fails.
+/// text with the number of fixes and replacements. `name` is the name of the file.
 fn fixed(alloc: Global, text: &str, task: Task, name: &str) -> Result<Fixed, AllocError> {
     let made = with_fixes(alloc, text)?;
     let Task::Check(version, _) = task else {
@@ -37,9 +37,11 @@ fn fixed(alloc: Global, text: &str, task: Task, name: &str) -> Result<Fixed, All
     })
 }
 
-/// Fixes the errors of a file, and replaces the file if errors were fixed. Returns the number of fixes, or the answer
-/// for a file that could not be written. Returns 0 for standard input, and for a file that can't be read, is larger
-/// than 16 MiB or is not valid UTF-8; the check reports these. Fails if an allocation fails.
+/// Fixes the errors of a file, and writes the file if there were fixes. Returns the number of fixes, or the answer for
+/// a failed write.
+///
+/// Returns 0 for standard input, and for a file that can't be read, is larger than 16 MiB or is not valid UTF-8. The
+/// check that follows reports such a file.
 fn fix_file(
     alloc: Global,
     host: &mut Host,
@@ -68,15 +70,15 @@ fn fix_file(
     }
 }
 
-/// What to print on standard error after fixing, and whether all fixes were written.
+/// The text for standard error after fixing, and whether all fixes were written.
 #[derive(Drop)]
 struct Outcome {
     line: String,
     is_written: bool,
 }
 
-/// Returns the outcome of fixes that were all written, with a line that counts them. The line is empty without fixes,
-/// or if `is_quiet`. Fails if an allocation fails.
+/// Returns the outcome of fixes that were all written. The line counts the fixes. It is empty without fixes, or if
+/// `is_quiet`.
 fn counted(alloc: Global, count: Count, is_quiet: bool) -> Result<Outcome, AllocError> {
     let (errors, files) = (count.errors, count.files);
     let mut line = String::new(alloc);
@@ -91,8 +93,8 @@ fn counted(alloc: Global, count: Count, is_quiet: bool) -> Result<Outcome, Alloc
     })
 }
 
-/// Fixes the errors of the files that the arguments name, also of those in directories, except for standard input.
-/// Stops at the first file that can't be written. Fails if an allocation fails.
+/// Fixes the errors of the files that the arguments name, and of files in directories, but not of standard input. Stops
+/// at the first file that can't be written.
 fn fix_files(alloc: Global, options: &Options<'_>, host: &mut Host) -> Result<Outcome, AllocError> {
     let mut count = Count {
         errors: 0,
@@ -120,8 +122,7 @@ fn fix_files(alloc: Global, options: &Options<'_>, host: &mut Host) -> Result<Ou
     counted(alloc, count, options.is_quiet)
 }
 
-/// Returns the schemas that arguments and files name. If the arguments are wrong, the result is not used. Fails if an
-/// allocation fails.
+/// Returns the schemas that arguments and files name. If the arguments are wrong, only files name schemas.
 fn file_schemas(alloc: Global, words: &[String], host: &Host) -> Result<FileSchemas, AllocError> {
     match options_of(alloc, Reader::Check, words, false) {
         Ok(options) => FileSchemas::new(alloc, host.rt, &options.schemas),
@@ -130,8 +131,8 @@ fn file_schemas(alloc: Global, words: &[String], host: &Host) -> Result<FileSche
     }
 }
 
-/// Carries out `--fix`. Returns `None` if the arguments don't have that option, or are wrong. `words` are the name of
-/// the command and its arguments. Fails if an allocation fails.
+/// Carries out `--fix`. Returns `None` if the arguments don't have this option, or are wrong. `words` are the name of
+/// the command and its arguments.
 fn fix(
     alloc: Global,
     words: &[String],
@@ -187,7 +188,7 @@ fn check_fixed<O: Sink, E: Sink>(
     }
 }
 
-/// Does what `check` does, with these schemas. Fails if an allocation fails.
+/// Carries out `check` with these schemas, and returns the exit status. The other arguments are those of `check`.
 fn check_with<O: Sink, E: Sink>(
     alloc: Global,
     words: &[String],
@@ -230,9 +231,10 @@ fn check_with<O: Sink, E: Sink>(
     }
 }
 
-/// Checks files and, with `--fix`, first fixes their errors. `words` are the name of the command and its arguments.
-/// `is_coloured` says whether `--color auto` means colors, and `is_watched` whether standard error is a terminal.
-/// Returns the exit status. Fails if an allocation fails.
+/// Checks files. With `--fix`, first fixes their errors. Returns the exit status.
+///
+/// `words` are the name of the command and its arguments. `is_coloured` says whether `--color auto` means colors, and
+/// `is_watched` whether standard error is a terminal.
 pub(crate) fn check<O: Sink, E: Sink>(
     alloc: Global,
     words: &[String],

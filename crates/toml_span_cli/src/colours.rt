@@ -7,8 +7,10 @@ use std::env;
 use std::env::VarError;
 
 /// Returns whether reports have colors. They have none if `no_color` is not empty. Otherwise they have colors if
-/// `force` is neither empty nor `0`, or on a terminal unless `term` is `dumb`. The three texts are the values of the
-/// variables `NO_COLOR`, `CLICOLOR_FORCE` and `TERM`, each empty if the variable is not set.
+/// `force` is neither empty nor `0`, or on a terminal unless `term` is `dumb`.
+///
+/// `no_color`, `force` and `term` are the values of the variables `NO_COLOR`, `CLICOLOR_FORCE` and `TERM`, empty if not
+/// set.
 fn has_colours(is_terminal: bool, no_color: &str, force: &str, term: &str) -> bool
     ensures { result ≡ spec.has_colours is_terminal no_color.now force.now term.now }
 {
@@ -22,8 +24,8 @@ fn has_colours(is_terminal: bool, no_color: &str, force: &str, term: &str) -> bo
     }
 }
 
-/// Returns the value of an environment variable: empty if it is not set, `?` if it is not valid UTF-8. Fails if an
-/// allocation fails.
+/// Returns the value of an environment variable. Returns an empty text if the variable is not set, and `?` if its value
+/// is not valid UTF-8.
 fn variable(rt: &HostRuntime, name: &str) -> Result<String, AllocError> {
     match env::var(rt, name) {
         Ok(value) => Ok(value),
@@ -33,7 +35,7 @@ fn variable(rt: &HostRuntime, name: &str) -> Result<String, AllocError> {
     }
 }
 
-/// Returns whether reports on standard output have colors. Fails if an allocation fails.
+/// Returns whether reports on standard output have colors. `is_terminal` says whether standard output is a terminal.
 pub(crate) fn wants_colours(rt: &HostRuntime, is_terminal: bool) -> Result<bool, AllocError> {
     let no_color = variable(rt, "NO_COLOR")?;
     let force = variable(rt, "CLICOLOR_FORCE")?;

@@ -32,7 +32,7 @@ pub(crate) const NAMES: [&str; 15] = [
     "edit", "lsp", "explain", "help",
 ];
 
-/// Returns the command with this name, if there is one.
+/// Returns the command with this name, or `None` for any other name.
 pub(crate) fn command_named(name: &str) -> Option<Command>
     ensures { result ≡ spec.command_named name.now }
 {
@@ -56,7 +56,7 @@ pub(crate) fn command_named(name: &str) -> Option<Command>
     }
 }
 
-/// Returns the usage of a command: its name and its arguments.
+/// Returns the usage of a command: the name and the arguments.
 pub(crate) fn arguments_of(command: Command) -> &'static str {
     match command {
         Command::Check => "check [OPTION].. [FILE|DIRECTORY|-]..",

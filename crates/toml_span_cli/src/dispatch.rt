@@ -1,4 +1,4 @@
-//! Carries out the command that the arguments ask for.
+//! Carries out the command that the arguments name.
 ghost use Rattle.std.specs.Prelude.{◌≡◌, ◌≤◌, IfOk, false, map, string_bytes};
 ghost use Rattle.toml_span_cli.specs.Dispatch.{Dispatches, Performs};
 ghost use Rattle.toml_span_cli.specs.Dispatch as spec;
@@ -23,22 +23,23 @@ use toml_span_check::schemas::NoSchemas;
 use toml_span_lines::sink::Sink;
 use toml_span_report::nearest;
 
-/// What the first argument is.
+/// The request of the first argument.
 #[derive(Clone, Copy, PartialEq, Eq)]
 enum Request {
     /// A command.
     Command(Command),
-    /// An option or the name of a file: the request is to check files.
+    /// A check of files: the argument is an option or the name of a file.
     Files,
-    /// A request for the help of the program.
+    /// The help of the program.
     Help,
-    /// A request for the version.
+    /// The version of the program.
     Version,
-    /// Neither a command nor a file.
+    /// An unknown request: the argument is neither a command nor a file.
     Unknown,
 }
 
-/// Returns what the first argument asks for. `exists` says whether there is a file or directory with this name.
+/// Returns the request of the first argument, `word`. `exists` says whether there is a file or directory with this
+/// name.
 #[tactic(auto, unfolding(crate::specs::Dispatch::request_of))]
 fn request_of(word: &str, exists: bool) -> Request
     ensures { result ≡ spec.request_of word.now exists }
@@ -56,8 +57,8 @@ fn request_of(word: &str, exists: bool) -> Request
     }
 }
 
-/// Prints to `errors` that an argument is neither a command nor a file, and the command with the most similar name, if
-/// one is similar. Returns status 2, or 3 if the write fails. Fails if an allocation fails.
+/// Prints to `errors` that an argument is neither a command nor a file, and the most similar command, if one is
+/// similar. Returns status 2, or 3 if the write fails.
 fn say_unknown<E: Sink>(alloc: Global, word: &str, errors: &mut E) -> Result<u8, AllocError>
     requires { E.failed errors.old ≡ false }
     ensures { IfOk result (λ status.
@@ -74,8 +75,8 @@ fn say_unknown<E: Sink>(alloc: Global, word: &str, errors: &mut E) -> Result<u8,
     Ok(say(errors, text.as_str(), 2))
 }
 
-/// Prints the help of the program or of a command. `words` are the name of the command and its arguments. Returns the
-/// exit status. Fails if an allocation fails.
+/// Prints the help of the program or of a command, or that the arguments are wrong. `words` are the name of the command
+/// and its arguments. Returns the exit status.
 fn help<O: Sink, E: Sink>(
     alloc: Global,
     words: &[String],
@@ -96,7 +97,7 @@ fn help<O: Sink, E: Sink>(
     }
 }
 
-/// Prints the help of a command. Returns the exit status. Fails if an allocation fails.
+/// Prints the help of a command. Returns the exit status.
 fn say_help<O: Sink>(alloc: Global, command: Command, out: &mut O) -> Result<u8, AllocError>
     requires { O.failed out.old ≡ false }
     ensures { IfOk result (λ status. status ≤ 4) }
@@ -114,9 +115,10 @@ fn say_help<O: Sink>(alloc: Global, command: Command, out: &mut O) -> Result<u8,
     }
 }
 
-/// Carries out a command. `words` are the name of the command, or of the program, and the command's arguments.
+/// Carries out a command, and returns the exit status. `words` are the name of the command, or of the program, and the
+/// arguments.
+///
 /// `is_coloured` says whether `--color auto` means colors, and `is_watched` whether standard error is a terminal.
-/// Returns the exit status. Fails if an allocation fails.
 fn perform<O: Sink, E: Sink>(
     alloc: Global,
     command: Command,
@@ -162,12 +164,14 @@ fn perform<O: Sink, E: Sink>(
     }
 }
 
-/// Carries out what the arguments ask for. `words` are the name of the program and its arguments. `is_coloured` says
-/// whether `--color auto` means colors, and `is_watched` whether standard error is a terminal.
+/// Carries out the command that the arguments name. Without arguments, prints the help of the program to `errors`.
+/// `words` are the name of the program and its arguments. `is_coloured` says whether `--color auto` means colors, and
+/// `is_watched` whether standard error is a terminal.
 ///
-/// Returns the exit status: 0 for success, 1 for an error in a file or a refused edit, 2 if a file can't be read or the
-/// arguments are wrong, 3 if a write fails, 4 if an allocation fails. Some failed allocations are returned as an
-/// `AllocError` instead; the exit status is 4 for these too.
+/// Returns the exit status: 0 for success, 1 for an error in a file, a refused edit, or a file that `fmt` would change
+/// with `--check` or `--diff`, 2 if a file can't be read, its schema can't be used, or the arguments are wrong or
+/// missing, 3 if a write fails. For `lsp`, see `toml_span_lsp::Ended`. If an allocation fails, returns the status 4 or
+/// an `AllocError`.
 pub(crate) fn dispatch<O: Sink, E: Sink>(
     alloc: Global,
     words: &[String],

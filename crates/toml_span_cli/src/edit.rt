@@ -18,8 +18,8 @@ use toml_span_files::{Failed, Failure, LIMIT, edit_file, unified};
 use toml_span_lines::sink::Sink;
 use toml_span_report::visible::{push_char, visible};
 
-/// Returns a text as it is printed: unchanged or, for a terminal, with escapes for the characters that terminals act
-/// on, except tabs and line ends. Fails if an allocation fails.
+/// Returns a text as it is printed. For a terminal, characters that terminals act on are escaped, except tabs and line
+/// ends.
 pub(crate) fn shown(alloc: Global, text: String, is_terminal: bool) -> Result<String, AllocError> {
     if !is_terminal {
         return Ok(text);
@@ -34,15 +34,14 @@ pub(crate) fn shown(alloc: Global, text: String, is_terminal: bool) -> Result<St
     Ok(out)
 }
 
-/// Returns the answer for edits that were refused with the message in `stop`. Fails if `stop` is a failed allocation,
-/// or if an allocation fails.
+/// Returns the answer for edits that were refused with the message in `stop`. Fails if `stop` is `Stop::Memory`.
 fn refused(alloc: Global, file: &str, stop: Stop<String>) -> Result<Answer, AllocError> {
     let reason = stop.fault()?;
     failed(alloc, "error: cannot edit ", file, reason.as_str(), 1)
 }
 
-/// Makes edits of a file without replacing the file. Returns the answer, which has the result or how the result differs
-/// from the file. Fails if an allocation fails.
+/// Makes edits without replacing the file. Returns the answer, which prints the result, or how the result differs from
+/// the file.
 fn show(
     alloc: Global,
     file: &str,
@@ -73,7 +72,7 @@ fn show(
     Ok(printed(alloc, shown(alloc, diff, host.rt.stdout().is_terminal())?))
 }
 
-/// Makes edits, and replaces the file. Returns the answer. Fails if an allocation fails.
+/// Makes edits, and replaces the file. Returns the answer.
 fn write(
     alloc: Global,
     file: &str,
@@ -92,7 +91,7 @@ fn write(
     }
 }
 
-/// Makes edits, and replaces the file or prints the result. Returns the answer. Fails if an allocation fails.
+/// Makes edits, and replaces the file or prints the result. Returns the answer.
 fn perform(
     alloc: Global,
     file: &str,
@@ -107,8 +106,7 @@ fn perform(
     }
 }
 
-/// Makes the edits of a script on standard input. Returns the answer. `file` is the file to edit. Fails if an
-/// allocation fails.
+/// Makes the edits of the script on standard input in the file `file`. Returns the answer.
 fn perform_script(
     alloc: Global,
     file: &str,
@@ -137,14 +135,14 @@ fn perform_script(
     }
 }
 
-/// Returns the help text of a command that edits. Fails if an allocation fails.
+/// Returns the help text of a command that edits.
 pub(crate) fn edit_help(alloc: Global, command: Command) -> Result<String, AllocError> {
     let mut text = String::from_str(alloc, help_of(command))?;
     text.push_str(EDITING)?;
     Ok(text)
 }
 
-/// Returns the answer for wrong arguments. `message` says what is wrong. Fails if an allocation fails.
+/// Returns the answer for wrong arguments. `message` says what is wrong.
 fn misuse(alloc: Global, command: Command, message: &str) -> Result<Answer, AllocError> {
     Ok(Answer {
         out: String::new(alloc),
@@ -153,7 +151,7 @@ fn misuse(alloc: Global, command: Command, message: &str) -> Result<Answer, Allo
     })
 }
 
-/// Returns the answer for `given` arguments, which are too few or too many. Fails if an allocation fails.
+/// Returns the answer for a wrong number of arguments. `given` is their number.
 fn miscounted(alloc: Global, command: Command, given: usize) -> Result<Answer, AllocError> {
     let wanted = count_of(command).saturating_add(1);
     let arguments = if wanted == 1 { "argument" } else { "arguments" };
@@ -161,8 +159,7 @@ fn miscounted(alloc: Global, command: Command, given: usize) -> Result<Answer, A
     misuse(alloc, command, message.as_str())
 }
 
-/// Makes the edits of the options `-e` or, without `-e`, of a script on standard input. Returns the answer. Fails if an
-/// allocation fails.
+/// Makes the edits of the options `-e` or, without `-e`, of the script on standard input. Returns the answer.
 fn edit_by_script(
     alloc: Global,
     asked: &Arguments<'_>,
@@ -187,7 +184,7 @@ fn edit_by_script(
     }
 }
 
-/// Makes the edit that the arguments describe. Returns the answer. Fails if an allocation fails.
+/// Makes the edit that the arguments describe. Returns the answer.
 fn edit_once(
     alloc: Global,
     command: Command,
@@ -207,8 +204,7 @@ fn edit_once(
     }
 }
 
-/// Parses the arguments of a command that edits, and carries out the command. Returns the answer. Fails if an
-/// allocation fails.
+/// Parses the arguments of a command that edits, and carries out the command. Returns the answer.
 fn answer_of(
     alloc: Global,
     command: Command,
@@ -236,7 +232,6 @@ fn answer_of(
 }
 
 /// Carries out a command that edits. `words` are the name of the command and its arguments. Returns the exit status.
-/// Fails if an allocation fails.
 pub(crate) fn edit<O: Sink, E: Sink>(
     alloc: Global,
     command: Command,

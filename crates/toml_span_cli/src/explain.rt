@@ -11,7 +11,7 @@ use std::alloc::{AllocError, Global};
 use toml_span_lines::sink::Sink;
 use toml_span_report::{CODES, explain as page_of_error, nearest};
 
-/// The error codes of `check` and `get` that `toml_span_report::explain` does not know.
+/// The codes of `check` and `get` that are neither in `CODES` nor in `SCHEMA_CODES`.
 const OWN_CODES: [&str; 4] = ["too-many-errors", "not-utf-8", "too-long", "nothing-there"];
 
 /// The explanation of `too-many-errors`.
@@ -46,7 +46,7 @@ The file is valid, but has no value at the path of `toml-span get`.
     toml-span get Cargo.toml /package/keywords/0
     toml-span get Cargo.toml ''                     # the whole document";
 
-/// Returns the explanation of a code, if there is one.
+/// Returns the explanation of a code, or `None` for an unknown code.
 #[tactic(auto, unfolding(crate::specs::Explain::page_of))]
 fn page_of(code: &str) -> Option<&'static str>
     ensures { option_map (λ page. page.now) result ≡ spec.page_of code.now }
@@ -71,7 +71,7 @@ fn title_of(page: &str) -> &str {
     }
 }
 
-/// Appends a line for each code in the list, with the title of its explanation. Fails if an allocation fails.
+/// Appends a line for each code in the list, with the first line of the explanation.
 fn push_titles(out: &mut String, list: &[&str]) -> Result<(), AllocError> {
     for code in list {
         out.push_str(*code)?;
@@ -84,7 +84,7 @@ fn push_titles(out: &mut String, list: &[&str]) -> Result<(), AllocError> {
     Ok(())
 }
 
-/// Prints all codes with their titles. Returns the exit status. Fails if an allocation fails.
+/// Prints all codes with the first lines of their explanations. Returns the exit status.
 fn say_all<O: Sink>(alloc: Global, out: &mut O) -> Result<u8, AllocError>
     requires { O.failed out.old ≡ false }
     ensures { IfOk result (λ status. status ≤ 4) }
@@ -97,7 +97,7 @@ fn say_all<O: Sink>(alloc: Global, out: &mut O) -> Result<u8, AllocError>
 }
 
 /// Prints to `errors` that a code is not known, and the most similar code, if one is similar. Returns status 2, or 3 if
-/// the write fails. Fails if an allocation fails.
+/// the write fails.
 fn say_unknown<E: Sink>(alloc: Global, code: &str, errors: &mut E) -> Result<u8, AllocError>
     requires { E.failed errors.old ≡ false }
     ensures { IfOk result (λ status. status ≤ 4) }
@@ -116,8 +116,7 @@ fn say_unknown<E: Sink>(alloc: Global, code: &str, errors: &mut E) -> Result<u8,
     Ok(say(errors, text.as_str(), 2))
 }
 
-/// Prints the explanation of a code, or reports that the code is not known. Returns the exit status. Fails if an
-/// allocation fails.
+/// Prints the explanation of a code, or that the code is not known. Returns the exit status.
 fn say_page<O: Sink, E: Sink>(
     alloc: Global,
     code: &str,
@@ -137,8 +136,8 @@ fn say_page<O: Sink, E: Sink>(
     }
 }
 
-/// Prints the explanation of a code or, if none is given, all codes. `words` are the name of the command and its
-/// arguments. Returns the exit status. Fails if an allocation fails.
+/// Carries out `explain`: prints the explanation of a code, the list of codes, the help, or that the arguments are
+/// wrong. `words` are the name of the command and its arguments. Returns the exit status.
 pub(crate) fn explain<O: Sink, E: Sink>(
     alloc: Global,
     words: &[String],

@@ -8,8 +8,8 @@ use toml_span_check::input::Host;
 use toml_span_files::{Failure, Options, put_file};
 use toml_span_lookup::disk::Disk;
 
-/// Returns the bytes of a file, or of standard input for `-`, or else a message that says why they can't be read. A
-/// directory can't be read. Fails if an allocation fails.
+/// Returns the bytes of a file, or of standard input for `-`, but at most `BOUND + 1`. Returns a message if they can't
+/// be read, or if `name` is a directory.
 pub(crate) fn read_file(
     alloc: Global,
     host: &mut Host,
@@ -18,7 +18,7 @@ pub(crate) fn read_file(
     host.read_file(alloc, name)
 }
 
-/// Returns the first words of the message about a file that was not edited, and the exit status.
+/// Returns the start of the message about a file that was not edited, and the exit status.
 fn beginning(failure: &Failure) -> (&'static str, u8)
     ensures { result.1 ≤ 3 }
 {
@@ -29,7 +29,7 @@ fn beginning(failure: &Failure) -> (&'static str, u8)
     }
 }
 
-/// Returns the reason why a file was not edited, as text. Fails if an allocation fails.
+/// Returns the reason why a file was not edited.
 fn words_of(alloc: Global, failure: &Failure) -> Result<String, AllocError> {
     match failure {
         Failure::Unread(error) => match error.kind() {
@@ -41,7 +41,7 @@ fn words_of(alloc: Global, failure: &Failure) -> Result<String, AllocError> {
     }
 }
 
-/// Returns a help line that names the option to use after a failure, or an empty text if no option helps.
+/// Returns a line of help with the option to use after a failure, or an empty text if no option helps.
 fn hint(failure: &Failure) -> &'static str {
     match failure {
         Failure::ReadOnly => "help: `--force` edits it all the same\n",
@@ -59,8 +59,8 @@ fn hint(failure: &Failure) -> &'static str {
     }
 }
 
-/// Returns the answer for a file that was not edited. If `has_options`, the answer names the options that help. Fails
-/// if `failure` is `Memory`, or if an allocation fails.
+/// Returns the answer for a file that was not edited. If `has_options`, the answer names the option that helps. Fails
+/// if `failure` is `Memory`.
 pub(crate) fn unedited(
     alloc: Global,
     file: &str,
@@ -79,8 +79,8 @@ pub(crate) fn unedited(
     Ok(answer)
 }
 
-/// Writes `text` to a file if its content is still `bytes`. Returns `None`, or the answer for a file that was not
-/// written. Fails if an allocation fails.
+/// Writes `text` to the file `name`, if the content of the file is still `bytes`. Returns `None`, or the answer for a
+/// file that was not written.
 pub(crate) fn replace(
     alloc: Global,
     rt: &HostRuntime,

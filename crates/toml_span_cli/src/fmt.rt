@@ -42,14 +42,13 @@ struct Asked<'w> {
     is_diff: bool,
     is_sorted: bool,
     names: Vec<&'w str>,
-    /// The option whose value is the next argument.
+    /// The option whose value is the next argument, if any.
     waiting: Option<Number>,
     /// Whether all later arguments are names of files.
     is_over: bool,
 }
 
-/// Parses `word`, the value of `option`, as a number from 0 to `most`. Fails with a message if `word` is not such a
-/// number, and with `Stop::Memory` if an allocation fails.
+/// Parses `word`, the value of `option`, as a number from 0 to `most`. Fails with a message for any other `word`.
 fn number_of(alloc: Global, option: &str, word: &str, most: usize) -> Result<usize, Stop<String>> {
     match word.parse::<usize>() {
         Ok(number) if number <= most => Ok(number),
@@ -60,8 +59,7 @@ fn number_of(alloc: Global, option: &str, word: &str, most: usize) -> Result<usi
 }
 
 impl<'w> Asked<'w> {
-    /// Parses `word` as the value of an option, and stores it. Fails with a message if the value is wrong, and with
-    /// `Stop::Memory` if an allocation fails.
+    /// Parses `word` as the value of an option, and stores it. Fails with a message if the value is wrong.
     fn set(&mut self, alloc: Global, option: Number, word: &str) -> Result<(), Stop<String>> {
         match option {
             Number::Width => {
@@ -74,8 +72,7 @@ impl<'w> Asked<'w> {
         Ok(())
     }
 
-    /// Parses an option without `=VALUE`. Fails with a message if the option is unknown, and with `Stop::Memory` if an
-    /// allocation fails.
+    /// Stores the option `word`, which has no `=VALUE`. Fails with a message if the option is unknown.
     fn option(&mut self, alloc: Global, word: &str) -> Result<(), Stop<String>> {
         match word {
             "--check" => self.is_check = true,
@@ -93,8 +90,8 @@ impl<'w> Asked<'w> {
         Ok(())
     }
 
-    /// Parses the next argument. Fails with a message if the argument is wrong, and with `Stop::Memory` if an
-    /// allocation fails.
+    /// Stores the next argument: an option, the value of the option before, or the name of a file. Fails with a message
+    /// if the argument is wrong.
     fn take(&mut self, alloc: Global, word: &'w str) -> Result<(), Stop<String>> {
         if let Some(option) = self.waiting.take() {
             return self.set(alloc, option, word);
@@ -111,8 +108,8 @@ impl<'w> Asked<'w> {
     }
 }
 
-/// Parses all arguments. Without names of files, the current directory is taken. Fails with a message if an argument is
-/// wrong or missing, and with `Stop::Memory` if an allocation fails.
+/// Parses all arguments. If no file is named, the current directory is formatted. Fails with a message if an argument
+/// is wrong or missing.
 fn asked_of<'w>(alloc: Global, arguments: &'w [String]) -> Result<Asked<'w>, Stop<String>> {
     let mut asked = Asked {
         options: Options::new(),
@@ -136,7 +133,7 @@ fn asked_of<'w>(alloc: Global, arguments: &'w [String]) -> Result<Asked<'w>, Sto
     Ok(asked)
 }
 
-/// Returns the answer for a file that can't be formatted. Fails if an allocation fails.
+/// Returns the answer for a file that can't be formatted.
 fn refused(
     alloc: Global,
     name: &str,
@@ -159,8 +156,8 @@ fn refused(
     }
 }
 
-/// Returns the answer for a file that is valid UTF-8 only up to the offset `at`: the report that `check` makes. Fails
-/// if an allocation fails.
+/// Returns the answer for a file that is not valid UTF-8: the report that `check` makes. `at` is the byte offset of the
+/// first invalid byte.
 fn not_text(alloc: Global, name: &str, bytes: &[u8], at: usize) -> Result<Answer, AllocError>
     requires { IsValidUpTo bytes.now at }
 {
@@ -172,8 +169,7 @@ fn not_text(alloc: Global, name: &str, bytes: &[u8], at: usize) -> Result<Answer
     })
 }
 
-/// Returns the answer for a file whose text `text` would change to `new`, but which must not be written. Fails if an
-/// allocation fails.
+/// Returns the answer for a file that must not be written, but whose `text` would change to `new`.
 fn would_change(
     alloc: Global,
     asked: &Asked<'_>,
@@ -199,8 +195,8 @@ fn would_change(
     })
 }
 
-/// Returns the answer for a file whose text `text` was formatted to `new`. Replaces the file, unless it is standard
-/// input, or `--check` or `--diff` is given. Fails if an allocation fails.
+/// Returns the answer for a file whose `text` was formatted to `new`. Writes the file if `new` is another text, unless
+/// the file is standard input, or `--check` or `--diff` is given.
 fn put(
     alloc: Global,
     asked: &Asked<'_>,
@@ -225,8 +221,7 @@ fn put(
     }
 }
 
-/// Formats a file. Returns the answer, with the reason if the file can't be read or formatted. Fails if an allocation
-/// fails.
+/// Formats a file. Returns the answer, which says why if the file can't be read or formatted.
 fn format_file(
     alloc: Global,
     asked: &Asked<'_>,
@@ -263,8 +258,7 @@ fn format_file(
     }
 }
 
-/// Appends `one`, the answer for a file, to `all`, the answer for the files before. The higher status counts. Fails if
-/// an allocation fails.
+/// Adds the answer for one file to the answer for all. The higher status counts.
 fn add(all: &mut Answer, one: &Answer) -> Result<(), AllocError> {
     all.out.push_str(one.out.as_str())?;
     all.errors.push_str(one.errors.as_str())?;
@@ -272,8 +266,7 @@ fn add(all: &mut Answer, one: &Answer) -> Result<(), AllocError> {
     Ok(())
 }
 
-/// Formats the files that the arguments name, also those in directories. Returns one answer for all of them. Fails if
-/// an allocation fails.
+/// Formats the files that the arguments name, and those in directories. Returns one answer for all files.
 fn format_each(alloc: Global, asked: &Asked<'_>, host: &mut Host) -> Result<Answer, AllocError> {
     let mut all = printed(alloc, String::new(alloc));
     for name in &asked.names {
@@ -286,8 +279,7 @@ fn format_each(alloc: Global, asked: &Asked<'_>, host: &mut Host) -> Result<Answ
     Ok(all)
 }
 
-/// Formats the files that the arguments name, also those in directories. Returns one answer for all of them.
-/// Differences are escaped if standard output is a terminal. Fails if an allocation fails.
+/// Formats files as `format_each` does. With `--diff`, the output is escaped if standard output is a terminal.
 fn format_all(alloc: Global, asked: &Asked<'_>, host: &mut Host) -> Result<Answer, AllocError> {
     let answer = format_each(alloc, asked, host)?;
     if !asked.is_diff {
@@ -306,9 +298,10 @@ fn format_all(alloc: Global, asked: &Asked<'_>, host: &mut Host) -> Result<Answe
     })
 }
 
-/// Formats files. `words` are the name of the command and its arguments. Returns the exit status: 0 for success, 1 if a
-/// file can't be formatted, or would change with `--check` or `--diff`, 2 if a file can't be read or the arguments are
-/// wrong, 3 if a write fails. Fails if an allocation fails.
+/// Formats files. `words` are the name of the command and its arguments.
+///
+/// Returns the exit status: 0 for success, 1 if a file can't be formatted, or would change with `--check` or `--diff`,
+/// 2 if a file can't be read or the arguments are wrong, 3 if a write fails.
 pub(crate) fn fmt<O: Sink, E: Sink>(
     alloc: Global,
     words: &[String],

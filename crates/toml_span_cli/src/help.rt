@@ -326,5 +326,6 @@ Exit status:
   4  out of memory
 ";
 
-/// The output of `--version`: the version of the Rust crate that the libraries port, and that of TOML.
+/// The output of `--version`: the version of the Rust crate toml-span that this program follows, and the version of
+/// TOML.
 pub(crate) const VERSION: &str = "toml-span 0.7.2, for TOML 1.1\n";

@@ -11,7 +11,7 @@ use toml_span_lines::sink::Sink;
 use toml_span_lines::tracked::Tracked;
 use toml_span_lsp::serve;
 
-/// Runs the language server on standard input. Returns the exit status. Fails if an allocation fails.
+/// Runs the language server on standard input, and returns the exit status.
 fn run<O: Sink, E: Sink>(
     alloc: Global,
     host: &mut Host,
@@ -32,8 +32,8 @@ fn run<O: Sink, E: Sink>(
     Ok(say(errors, line.as_str(), end.status))
 }
 
-/// Carries out `lsp`: runs the language server, or prints the help. `words` are the name of the command and its
-/// arguments. Returns the exit status. Fails if an allocation fails.
+/// Carries out `lsp`: runs the language server, prints the help, or prints that the arguments are wrong. `words` are
+/// the name of the command and its arguments. Returns the exit status.
 pub(crate) fn lsp<O: Sink, E: Sink>(
     alloc: Global,
     words: &[String],

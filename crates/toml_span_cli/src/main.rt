@@ -35,7 +35,7 @@ use std::process::ExitCode;
 use toml_span_check::input::Host;
 use toml_span_lines::tracked::Tracked;
 
-/// Runs the program, and returns its exit status. Fails if an allocation fails.
+/// Runs the program, and returns the exit status.
 fn status_of(rt: HostRuntime) -> Result<u8, AllocError>
     ensures { IfOk result (λ status. status ≤ 4) }
 {

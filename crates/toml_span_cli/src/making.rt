@@ -1,4 +1,4 @@
-//! Makes edits of the text of a file.
+//! Makes edits in the text of a file.
 ghost use Rattle.std.specs.Str.{IsValidUpTo};
 
 use crate::changes::{Change, Task};
@@ -14,7 +14,7 @@ use toml_span_report::line_column;
 #[derive(Clone, Copy)]
 enum Kind {
     Set,
-    /// Sets the value, even over tables that headers or dotted keys define.
+    /// Sets the value, and replaces tables that headers or dotted keys define.
     SetForced,
     Rename,
     Remove,
@@ -29,23 +29,23 @@ enum Kind {
 struct Located<'w> {
     change: Change<'w>,
     path: Vec<CowStr<'w>>,
-    /// The segments of the path to which a value is moved. Empty for any other change.
+    /// The segments of the path to which a value is moved. Empty for other changes.
     target: Vec<CowStr<'w>>,
 }
 
-/// An edit in the form that the library takes.
+/// An edit in the form for `toml_span_edit`.
 #[derive(Drop)]
 struct Prepared<'w> {
     kind: Kind,
     path: Vec<&'w str>,
-    /// The segments of the path to which a value is moved. Empty for any other edit.
+    /// The segments of the path to which a value is moved. Empty for other edits.
     target: Vec<&'w str>,
-    /// The value, or the new name.
+    /// The value or the new name. Empty for other edits.
     value: String,
 }
 
-/// Returns the segments of a path. The list is empty if the path can't be read, which the caller must have ruled out
-/// with `Change::wrong_path`. Fails if an allocation fails.
+/// Returns the segments of a path, or none if the path can't be read. The caller checks paths with
+/// `Change::wrong_path`.
 fn segments_of<'w>(alloc: Global, path: &'w str) -> Result<Vec<CowStr<'w>>, AllocError> {
     match path_segments(alloc, path) {
         Ok(segments) => Ok(segments),
@@ -56,8 +56,7 @@ fn segments_of<'w>(alloc: Global, path: &'w str) -> Result<Vec<CowStr<'w>>, Allo
     }
 }
 
-/// Returns the value of an argument as TOML. If `is_string`, the argument is the content of a string. Fails if an
-/// allocation fails.
+/// Returns an argument as TOML. If `is_string`, the argument is the content of a string.
 fn value_of(alloc: Global, value: &str, is_string: bool) -> Result<String, AllocError> {
     if is_string {
         string_text(alloc, value)
@@ -66,7 +65,7 @@ fn value_of(alloc: Global, value: &str, is_string: bool) -> Result<String, Alloc
     }
 }
 
-/// Returns the kind of edit for a task.
+/// Returns the kind of the edit for a task.
 fn kind_of(task: Task<'_>) -> Kind {
     match task {
         Task::Set(_) => Kind::Set,
@@ -79,7 +78,7 @@ fn kind_of(task: Task<'_>) -> Kind {
     }
 }
 
-/// Returns a change with the segments of its paths. Fails if an allocation fails.
+/// Splits the paths of a change into segments.
 fn locate<'w>(alloc: Global, change: &Change<'w>) -> Result<Located<'w>, AllocError> {
     let target = match change.task {
         Task::Move(to) => segments_of(alloc, to)?,
@@ -92,7 +91,7 @@ fn locate<'w>(alloc: Global, change: &Change<'w>) -> Result<Located<'w>, AllocEr
     })
 }
 
-/// Returns changes with the segments of their paths. Fails if an allocation fails.
+/// Splits the paths of changes into segments.
 fn locate_all<'w>(alloc: Global, changes: &[Change<'w>]) -> Result<Vec<Located<'w>>, AllocError> {
     let mut list = Vec::new(alloc);
     for change in changes {
@@ -101,8 +100,7 @@ fn locate_all<'w>(alloc: Global, changes: &[Change<'w>]) -> Result<Vec<Located<'
     Ok(list)
 }
 
-/// Prepares an edit for the library. If `is_string`, the value in the edit is a text rather than TOML. Fails if an
-/// allocation fails.
+/// Prepares an edit for `toml_span_edit`. If `is_string`, the value is the content of a string rather than TOML.
 fn prepare<'w>(
     alloc: Global,
     located: &'w Located<'_>,
@@ -128,8 +126,7 @@ fn prepare<'w>(
     Ok(prepared)
 }
 
-/// Prepares edits for the library. If `is_string`, the values in the edits are texts rather than TOML. Fails if an
-/// allocation fails.
+/// Prepares edits for `toml_span_edit`. If `is_string`, values are the content of strings rather than TOML.
 fn prepare_all<'w>(
     alloc: Global,
     changes: &'w [Located<'_>],
@@ -142,7 +139,7 @@ fn prepare_all<'w>(
     Ok(list)
 }
 
-/// Returns a prepared edit as an `Edit` of `toml_span_edit`.
+/// Converts a prepared edit to an `Edit` of `toml_span_edit`.
 fn edit_of<'w>(prepared: &'w Prepared<'w>) -> Edit<'w> {
     let value = prepared.value.as_str();
     let change = match prepared.kind {
@@ -161,8 +158,7 @@ fn edit_of<'w>(prepared: &'w Prepared<'w>) -> Edit<'w> {
     }
 }
 
-/// Makes prepared edits, and returns the new text. Fails with the position of the edit that is refused and the reason,
-/// and with `Stop::Memory` if an allocation fails.
+/// Makes prepared edits, and returns the new text. Fails with the position of the first refused edit and the reason.
 fn finished<'w>(
     alloc: Global,
     text: &'w str,
@@ -175,8 +171,8 @@ fn finished<'w>(
     edits.finish()
 }
 
-/// Returns the message for a refused edit. If there are several edits (`count`), the message begins with the edit's
-/// number. Fails if an allocation fails.
+/// Returns the message for a refused edit. If `count`, the number of edits, is above 1, the message begins with the
+/// number of the edit.
 fn words_of(alloc: Global, error: &EditError, count: usize) -> Result<String, AllocError> {
     let mut words = String::new(alloc);
     if count > 1 {
@@ -187,8 +183,8 @@ fn words_of(alloc: Global, error: &EditError, count: usize) -> Result<String, Al
     Ok(words)
 }
 
-/// Changes the edit that was refused with `error` so that it replaces tables too. Returns whether that was possible:
-/// the edit must set a value that headers or dotted keys define.
+/// Changes the edit that was refused with `error` so that it replaces tables too. Returns whether the edit was changed.
+/// It is changed only if it sets a value, and the reason for the refusal is `NotSpelled`.
 fn force(list: &mut [Prepared<'_>], error: &EditError) -> bool {
     let Reason::NotSpelled = error.reason else {
         return false;
@@ -206,7 +202,7 @@ fn force(list: &mut [Prepared<'_>], error: &EditError) -> bool {
 }
 
 /// Makes prepared edits, and returns the new text. If `is_forced`, values may replace tables. Fails with a message if
-/// an edit is refused, and with `Stop::Memory` if an allocation fails.
+/// an edit is refused.
 fn forced(
     alloc: Global,
     text: &str,
@@ -214,7 +210,7 @@ fn forced(
     is_forced: bool,
 ) -> Result<String, Stop<String>> {
     let count = list.len();
-    // (each edit is changed at most once)
+    // Each edit is changed at most once.
     for _ in 0..=count {
         let error = match finished(alloc, text, list.as_slice()) {
             Ok(new) => return Ok(new),
@@ -227,8 +223,8 @@ fn forced(
     Err(Stop::Fault(String::from_str(alloc, "the tables in the way are not replaced")?))
 }
 
-/// Returns the message that a file is not valid UTF-8, with the line and the column, both counted from 1, of its first
-/// invalid byte, which is at the offset `at`. Fails if an allocation fails.
+/// Returns the message that a file is not valid UTF-8. The message has the line and column, counted from 1, of the byte
+/// offset `at`, where the first invalid byte is.
 fn not_text(alloc: Global, bytes: &[u8], at: usize) -> Result<String, AllocError>
     requires { IsValidUpTo bytes.now at }
 {
@@ -238,9 +234,9 @@ fn not_text(alloc: Global, bytes: &[u8], at: usize) -> Result<String, AllocError
     format!(in alloc; "{words} (line {line}, column {column})")
 }
 
-/// Makes edits of the bytes of a file, and returns the new text. If `is_string`, values are texts rather than TOML. If
-/// `is_forced`, values may replace tables. Fails with a message if the file is not valid UTF-8 or an edit is refused,
-/// and with `Stop::Memory` if an allocation fails.
+/// Makes edits in the bytes of a file, and returns the new text. If `is_string`, values are the content of strings
+/// rather than TOML. If `is_forced`, values may replace tables. Fails with a message if the file is not valid UTF-8 or
+/// an edit is refused.
 pub(crate) fn new_text(
     alloc: Global,
     bytes: &[u8],

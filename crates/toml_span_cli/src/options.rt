@@ -31,38 +31,38 @@ pub(crate) enum Reader {
 pub(crate) struct Options<'w> {
     pub(crate) format: Format,
     pub(crate) task: Task,
-    /// The path of the value to print. Empty for the whole document.
+    /// The path of the value to print. An empty path is that of the whole document.
     pub(crate) pointer: &'w str,
     /// The patterns of files and directories to leave out of a search.
     pub(crate) excludes: Vec<&'w str>,
     pub(crate) names: Vec<&'w str>,
     /// Whether to print nothing.
     pub(crate) is_quiet: bool,
-    /// Whether to make the safe replacements first.
+    /// Whether to fix errors first.
     pub(crate) is_fixing: bool,
     pub(crate) schemas: SchemaOptions<'w>,
 }
 
-/// A mistake in arguments that clap accepts.
+/// A mistake in arguments that clap does not find.
 #[derive(Clone, Copy, PartialEq, Eq)]
 enum Mistake {
-    /// There is no such format.
+    /// The value of `--format` is unknown.
     Format,
-    /// There is no such value of `--color`.
+    /// The value of `--color` is unknown.
     Color,
-    /// There is no such version of TOML.
+    /// The value of `--toml` is unknown.
     Version,
-    /// Two options choose the form of the value.
+    /// Several options choose the form of the value.
     Forms,
     /// The path is not valid UTF-8.
     Path,
-    /// `get` is asked for SARIF, which only `check` can print.
+    /// The format is SARIF, which `get` does not support.
     Sarif,
     /// A value of `--schema-map` has no `=`.
     Map,
 }
 
-/// Returns a flag, that is, an option without a value.
+/// Returns a flag, which is an option without a value.
 fn flag<'w>(alloc: Global, name: &'w str) -> Arg<'w>
     ensures rule { rule_of result ≡ spec.flag name.entry.now }
     ensures own { result.global ≡ false }
@@ -110,8 +110,8 @@ fn required<'w>(alloc: Global, name: &'w str) -> Arg<'w>
     Arg::new(alloc, name).required(true)
 }
 
-/// Returns a command with the options that `check` and `get` have in common. `name` is the command's name in messages,
-/// and `help` its help text. Fails if an allocation fails.
+/// Returns a command with the options that `check` and `get` share. `name` is the name of the command in messages, and
+/// `help` its help text.
 fn common<'w>(alloc: Global, name: &'w str, help: &'w str) -> Result<Command<'w>, AllocError>
     ensures { IfOk result (λ c. app_of c ≡ spec.common) }
 {
@@ -123,8 +123,7 @@ fn common<'w>(alloc: Global, name: &'w str, help: &'w str) -> Result<Command<'w>
         .arg(choice(alloc, "color", "auto"))
 }
 
-/// Returns the command `check` with the options about schemas and those that `get` has too, without its other
-/// arguments. Fails if an allocation fails.
+/// Returns the command `check` with the options that `get` shares, and the options about schemas.
 fn schema_command<'w>(alloc: Global) -> Result<Command<'w>, AllocError>
     ensures { IfOk result (λ c. app_of c ≡ spec.schemas) }
 {
@@ -135,7 +134,7 @@ fn schema_command<'w>(alloc: Global) -> Result<Command<'w>, AllocError>
         .arg(flag(alloc, "no-formats"))
 }
 
-/// Returns the command `check` with its arguments, for clap. Fails if an allocation fails.
+/// Returns the command `check` with all its arguments.
 fn check_command<'w>(alloc: Global) -> Result<Command<'w>, AllocError>
     ensures { IfOk result (λ c. app_of c ≡ spec.check) }
 {
@@ -147,7 +146,7 @@ fn check_command<'w>(alloc: Global) -> Result<Command<'w>, AllocError>
         .arg(files(alloc))
 }
 
-/// Returns the command `get` with its options, without its other arguments. Fails if an allocation fails.
+/// Returns the command `get` with its options, but without the file and the path.
 fn forms_command<'w>(alloc: Global) -> Result<Command<'w>, AllocError>
     ensures { IfOk result (λ c. app_of c ≡ spec.forms) }
 {
@@ -159,7 +158,7 @@ fn forms_command<'w>(alloc: Global) -> Result<Command<'w>, AllocError>
         .arg(flag(alloc, "items"))
 }
 
-/// Returns the command `get` with its arguments, for clap. Fails if an allocation fails.
+/// Returns the command `get` with all its arguments.
 fn get_command<'w>(alloc: Global) -> Result<Command<'w>, AllocError>
     ensures { IfOk result (λ c. app_of c ≡ spec.get) }
 {
@@ -168,7 +167,7 @@ fn get_command<'w>(alloc: Global) -> Result<Command<'w>, AllocError>
         .arg(required(alloc, "PATH"))
 }
 
-/// Returns a command with its arguments, for clap. Fails if an allocation fails.
+/// Returns the command with all its arguments.
 fn command<'w>(alloc: Global, reader: Reader) -> Result<Command<'w>, AllocError>
     ensures { IfOk result (λ c. app_of c ≡ spec.program reader) }
 {
@@ -178,8 +177,7 @@ fn command<'w>(alloc: Global, reader: Reader) -> Result<Command<'w>, AllocError>
     }
 }
 
-/// Returns the output format with this name, or `None` for any other name. `style` is the style of the source lines in
-/// the format `text`.
+/// Returns the output format with this name, or `None` for any other name. `style` is the style of the format `text`.
 fn format_named(name: &str, style: Style) -> Option<Format>
     ensures { result ≡ spec.format_named name.now style }
 {
@@ -193,7 +191,7 @@ fn format_named(name: &str, style: Style) -> Option<Format>
     }
 }
 
-/// Returns the style for this value of `--color`, or `None` for any other value. `is_terminal` decides for `auto`.
+/// Returns the style for a value of `--color`, or `None` if the value is unknown. `is_terminal` decides for `auto`.
 fn style_named(name: &str, is_terminal: bool) -> Option<Style>
     ensures { result ≡ spec.style_named name.now is_terminal }
 {
@@ -213,7 +211,7 @@ fn value_of<'w>(matches: &ArgMatches<'w>, name: &str) -> &'w str
     matches.get_str(name).unwrap_or("")
 }
 
-/// Returns whether each of these values contains an `=`.
+/// Returns whether each of the texts contains an `=`.
 #[tactic(auto, unfolding(crate::specs::Options::are_maps))]
 fn are_maps(maps: &[&str]) -> bool
     ensures { result ≡ spec.are_maps (map (λ m. m.now) maps.now) }
@@ -240,8 +238,8 @@ fn is_given(matches: &ArgMatches<'_>, name: &str) -> bool
     value_of(matches, name) == "true"
 }
 
-/// Returns the form `chosen` so far or, if `is_given`, `form`. `is_given` says whether the arguments have the flag of
-/// `form`. Fails with `Mistake::Forms` if they have it and a form is chosen already, or with the mistake in `chosen`.
+/// Returns `form` if the flag for this form `is_given`, otherwise `chosen`, the choice of the flags before. Fails with
+/// `Mistake::Forms` if both choose a form. A mistake in `chosen` is passed on.
 fn with_form(
     chosen: Result<Option<Form>, Mistake>,
     is_given: bool,
@@ -256,7 +254,8 @@ fn with_form(
     }
 }
 
-/// Returns the form of the value, if a flag chooses one. Fails with `Mistake::Forms` if several flags do.
+/// Returns the form that a flag chooses, or `None` without such a flag. Fails with `Mistake::Forms` if several flags
+/// choose a form.
 fn form_of(matches: &ArgMatches<'_>) -> Result<Option<Form>, Mistake>
     ensures { result ≡ spec.form_of (rows_of (found_of matches.now)) }
 {
@@ -279,7 +278,8 @@ fn version_named(name: &str) -> Option<Version>
     }
 }
 
-/// Returns who chooses the schemas of files: the arguments, if `--schema` or `--catalog` is given, otherwise the files.
+/// Returns who chooses the schemas of files: the arguments, if `--schema` or `--catalog` has a value that is not empty,
+/// otherwise the files.
 fn chooser_of(matches: &ArgMatches<'_>) -> Chooser
     ensures { result ≡ spec.chooser_of (rows_of (found_of matches.now)) }
 {
@@ -308,8 +308,7 @@ fn task_of(reader: Reader, matches: &ArgMatches<'_>) -> Result<Task, Mistake>
     }
 }
 
-/// Returns the format and the task. Fails with `Mistake::Sarif` if the format is SARIF and the task is to print a
-/// value.
+/// Returns the format and the task. Fails with `Mistake::Sarif` if the format is SARIF and the task prints a value.
 fn with_task(format: Format, task: Task) -> Result<(Format, Task), Mistake>
     ensures { result ≡ spec.with_task format task }
 {
@@ -319,7 +318,7 @@ fn with_task(format: Format, task: Task) -> Result<(Format, Task), Mistake>
     }
 }
 
-/// Returns how to report errors, and what to do with the files. Fails with a `Mistake` if the arguments are wrong.
+/// Returns the format of reports, and what to do with the files. Fails with a `Mistake` if the arguments are wrong.
 fn asked(
     reader: Reader,
     matches: &ArgMatches<'_>,
@@ -339,7 +338,7 @@ fn asked(
     }
 }
 
-/// Returns the kind of error that clap has for a mistake.
+/// Returns clap's kind of error for a mistake.
 fn kind_of(mistake: Mistake) -> ErrorKind
     ensures { result ≡ spec.kind_of mistake }
 {
@@ -364,9 +363,9 @@ fn message_of(mistake: Mistake) -> &'static str {
     }
 }
 
-/// Parses the arguments of a command. The first of `words` is the name of the command or the program. Fails with clap's
-/// error, which may also be a request for the help or the version, or have the kind `OutOfMemory` if an allocation
-/// fails.
+/// Parses the arguments of a command. `words` are the name of the command, or of the program, and the arguments. Fails
+/// with clap's error, which may also be a request for the help or the version. If an allocation fails, the error has
+/// the kind `OutOfMemory`.
 pub(crate) fn options_of<'w>(
     alloc: Global,
     reader: Reader,

@@ -1,4 +1,4 @@
-//! Paths that are given as arguments: pointers, and dotted keys with positions.
+//! Paths given as arguments: pointers, and dotted keys with positions.
 ghost use Rattle.std.specs.Prelude.{IfOk};
 ghost use Rattle.toml_span_cli.specs.Paths.{IsWrong};
 
@@ -6,18 +6,20 @@ use crate::say::quoted_word;
 use std::alloc::{AllocError, Global};
 use toml_span_edit::{PathError, PathFault, path_error_text, path_segments};
 
-/// Returns the text to add to the error of a path: a hint if the error is at a character that is not part of a bare
-/// key, otherwise an empty text.
+/// Returns a hint about the error of a path, or an empty text. There is a hint if `.` or `[` is expected at the error.
 fn hint(path: &str, error: &PathError) -> &'static str {
+    let before = path.as_bytes().get(error.at.saturating_sub(1));
     match (error.fault, path.as_bytes().get(error.at)) {
         (PathFault::Step, Some(b'/')) => "; a pointer begins with `/`",
+        (PathFault::Step, _) if matches!(before, Some(b']' | b'"' | b'\'')) => {
+            "; write a dot before the next key"
+        }
         (PathFault::Step, _) => "; keys with other characters need quotes",
         _ => "",
     }
 }
 
-/// Returns the message about a path that can't be read, which says where and why, or `None` if the path can be read.
-/// Fails if an allocation fails.
+/// Returns a message that says where and why a path can't be read, or `None` if the path can be read.
 pub(crate) fn wrong_path(alloc: Global, path: &str) -> Result<Option<String>, AllocError>
     ensures { IfOk result (IsWrong path.now) }
 {

@@ -22,7 +22,7 @@ pub(crate) fn say<W: Sink>(writer: &mut W, text: &str, status: u8) -> u8
     }
 }
 
-/// Returns an argument in backticks, escaped for a terminal. Fails if an allocation fails.
+/// Returns an argument in backticks, escaped for a terminal.
 pub(crate) fn quoted_word(alloc: Global, word: &str) -> Result<String, AllocError> {
     let word = shown_word(alloc, word)?;
     let mut out = String::from_str(alloc, "`")?;
@@ -31,8 +31,7 @@ pub(crate) fn quoted_word(alloc: Global, word: &str) -> Result<String, AllocErro
     Ok(out)
 }
 
-/// Returns the message that the arguments of a command are wrong, and its usage, as lines that are escaped for a
-/// terminal. Fails if an allocation fails.
+/// Returns the message about wrong arguments and the usage of the command, escaped for a terminal.
 pub(crate) fn misuse_text(
     alloc: Global,
     command: Command,
@@ -47,8 +46,8 @@ pub(crate) fn misuse_text(
     visible_lines(alloc, text.as_str())
 }
 
-/// Prints to `errors` that the arguments of a command are wrong, with its usage. `message` says what is wrong. Returns
-/// status 2, or 3 if the write fails. Fails if an allocation fails.
+/// Prints the message about wrong arguments, and the usage of the command, to `errors`. Returns status 2, or 3 if the
+/// write fails.
 pub(crate) fn say_misuse<E: Sink>(
     alloc: Global,
     command: Command,

@@ -166,7 +166,7 @@ const SCHEMA_PAGES: [(&str, &str); 31] = [
     ),
 ];
 
-/// Returns the text that a table of pairs has for a key, or `None` if it does not have the key.
+/// Returns the text for a key in a table of pairs, or `None` if the table lacks the key.
 #[tactic(auto, unfolding(toml_span_report::specs::Tables::text_in))]
 fn text_in<'p>(table: &[(&'p str, &'p str)], key: &str) -> Option<&'p str>
     ensures { option_map (λ text. text.now) result
@@ -180,7 +180,7 @@ fn text_in<'p>(table: &[(&'p str, &'p str)], key: &str) -> Option<&'p str>
     None
 }
 
-/// Returns the explanation of a code, or `None` if it is not a code of reports about schemas.
+/// Returns the explanation of a code of reports about schemas, or `None` for any other code.
 pub(crate) fn schema_page(code: &str) -> Option<&'static str>
     ensures { option_map (λ page. page.now) result ≡ spec.schema_page code.now }
 {

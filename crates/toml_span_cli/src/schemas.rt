@@ -11,18 +11,18 @@ use toml_span_lookup::options::{LocalCopy, Options, Place};
 /// The arguments about schemas.
 #[derive(Drop)]
 pub(crate) struct SchemaOptions<'w> {
-    /// The path or the URL of the schema of all files, or an empty text.
+    /// The path or URL of the schema for all files, or an empty text.
     pub(crate) schema: &'w str,
     /// The path of a catalog, or an empty text.
     pub(crate) catalog: &'w str,
-    /// `URL=FILE`: the local copies of schemas.
+    /// The local copies of schemas, each as `URL=FILE`.
     pub(crate) maps: Vec<&'w str>,
-    /// Whether the keyword `format` is checked.
+    /// Whether to check the keyword `format`.
     pub(crate) has_formats: bool,
 }
 
 impl SchemaOptions<'_> {
-    /// Returns copies of the options. Leaves out a value of `maps` without `=`. Fails if an allocation fails.
+    /// Converts the options for `Lookup`. Leaves out values of `maps` without `=`.
     fn options(&self, alloc: Global) -> Result<Options, AllocError> {
         let mut options = Options::new(alloc, Place::Arguments);
         options.schema = String::from_str(alloc, self.schema)?;
@@ -40,7 +40,7 @@ impl SchemaOptions<'_> {
     }
 }
 
-/// The schemas that files, arguments and a catalog name, which are read from files.
+/// Finds the schemas that files, arguments and a catalog name, and reads them from files.
 #[derive(Drop)]
 pub(crate) struct FileSchemas {
     host: Host,
@@ -48,7 +48,7 @@ pub(crate) struct FileSchemas {
 }
 
 impl FileSchemas {
-    /// Returns the schemas that files and these arguments name. Nothing is read yet. Fails if an allocation fails.
+    /// Returns a source of the schemas that files and these arguments name. Nothing is read yet.
     pub(crate) fn new(
         alloc: Global,
         rt: HostRuntime,
@@ -58,12 +58,12 @@ impl FileSchemas {
         Ok(FileSchemas::with(alloc, rt, options))
     }
 
-    /// Returns the schemas that files name. Nothing is read yet.
+    /// Returns a source of the schemas that files name. Nothing is read yet.
     pub(crate) fn without_options(alloc: Global, rt: HostRuntime) -> FileSchemas {
         FileSchemas::with(alloc, rt, Options::new(alloc, Place::Arguments))
     }
 
-    /// Returns the schemas that files and these options name. Nothing is read yet.
+    /// Returns a source of the schemas that files and these options name. Nothing is read yet.
     fn with(alloc: Global, rt: HostRuntime, options: Options) -> FileSchemas {
         FileSchemas {
             host: Host { rt },

@@ -15,8 +15,7 @@ use toml_span_lines::run::run;
 use toml_span_lines::sink::Sink;
 use toml_span_lines::tracked::Tracked;
 
-/// Prints to `errors` that a file can't be read, and why. Returns status 2, or 3 if the write fails. Fails if an
-/// allocation fails.
+/// Prints to `errors` that the file `name` can't be read, and why. Returns status 2, or 3 if the write fails.
 pub(crate) fn say_unread<E: Sink>(
     alloc: Global,
     name: &str,
@@ -33,8 +32,7 @@ pub(crate) fn say_unread<E: Sink>(
     Ok(say(errors, line.as_str(), 2))
 }
 
-/// Prints the lines of a file's tree or the line of its error, or reports that the file can't be read. Returns the exit
-/// status. Fails if an allocation fails.
+/// Prints the lines of a file's tree or of its error, or that the file can't be read. Returns the exit status.
 fn show_file<O: Sink, E: Sink>(
     alloc: Global,
     name: &str,
@@ -57,8 +55,8 @@ fn show_file<O: Sink, E: Sink>(
     }
 }
 
-/// Carries out `show`: prints a file, or the help. `words` are the name of the command and its arguments. Returns the
-/// exit status. Fails if an allocation fails.
+/// Carries out `show`: prints a file, the help, or that the arguments are wrong. `words` are the name of the command
+/// and its arguments. Returns the exit status.
 pub(crate) fn show<O: Sink, E: Sink>(
     alloc: Global,
     words: &[String],

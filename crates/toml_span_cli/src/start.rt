@@ -30,8 +30,8 @@ fn help_of(reader: Reader) -> &'static str
     }
 }
 
-/// Returns clap's message for arguments that it refuses. `words` are the arguments in their displayed form. If clap
-/// accepts them in this form, the path is not valid UTF-8, and the message says so. Fails if an allocation fails.
+/// Returns clap's message for arguments that it refuses. `words` are the arguments as they are displayed. If clap
+/// accepts these, the path is not valid UTF-8, and the message says so.
 fn message_of(alloc: Global, reader: Reader, words: &[String]) -> Result<String, AllocError> {
     match options_of(alloc, reader, words, false) {
         Ok(options) => {
@@ -47,7 +47,7 @@ fn message_of(alloc: Global, reader: Reader, words: &[String]) -> Result<String,
     }
 }
 
-/// Returns the message about wrong arguments, as lines that are escaped for a terminal. Fails if an allocation fails.
+/// Returns the message about wrong arguments, escaped for a terminal.
 fn mistake(alloc: Global, reader: Reader, words: &[String]) -> Result<String, AllocError>
     ensures { IfOk result (λ out. (message : List ℕ) × (string_bytes out ≡ visible_lines message)) }
 {
@@ -60,8 +60,8 @@ fn mistake(alloc: Global, reader: Reader, words: &[String]) -> Result<String, Al
     visible_lines(alloc, message.as_str())
 }
 
-/// Returns the message about a path of `get` that can't be read, as lines that are escaped for a terminal, or `None` if
-/// the path can be read. Fails if an allocation fails.
+/// Returns the message about a path of `get` that can't be read, escaped for a terminal. Returns `None` if the path can
+/// be read.
 fn path_mistake(alloc: Global, path: &str) -> Result<Option<String>, AllocError>
     ensures { IfOk result (spec.SaysOfPath path.now) }
 {
@@ -71,9 +71,9 @@ fn path_mistake(alloc: Global, path: &str) -> Result<Option<String>, AllocError>
     }
 }
 
-/// Prints the help or the version, if the arguments ask for it, otherwise what is wrong with the arguments. `error` is
-/// clap's error for `words`. Returns the exit status: 0 for the help or the version, 2 for wrong arguments, 3 if a
-/// write fails, 4 if an allocation fails.
+/// Prints the help or the version if the arguments ask for it, otherwise the message about wrong arguments. `error` is
+/// clap's error for `words`. Returns the exit status: 0 for the help or version, 2 for wrong arguments, 3 if a write
+/// fails, 4 if an allocation fails.
 fn refuse<O: Sink, E: Sink>(
     alloc: Global,
     reader: Reader,
@@ -98,10 +98,12 @@ fn refuse<O: Sink, E: Sink>(
     }
 }
 
-/// Carries out `check` or `get`: runs on files (see `run`), prints the help or the version with status 0, or prints
-/// what is wrong with the arguments or the path with status 2. `words` are the name of the command or program and its
-/// arguments. `is_terminal` says whether `--color auto` means colors, and `is_watched` whether standard error is a
-/// terminal. Returns the exit status: 3 if a write fails, 4 if an allocation fails.
+/// Carries out `check` or `get`. If the arguments are right, returns the exit status of `toml_span_check::run::run`.
+/// Otherwise prints the help or version with status 0, or the message about wrong arguments with status 2. The status
+/// is 3 if a write fails, and 4 if an allocation fails.
+///
+/// `words` are the name of the command, or of the program, and the arguments. `is_terminal` says whether `--color auto`
+/// means colors, and `is_watched` whether standard error is a terminal.
 pub(crate) fn start<I: Inputs, S: Schemas, O: Sink, E: Sink>(
     alloc: Global,
     reader: Reader,

@@ -7,7 +7,7 @@ use std::env::FillError;
 use std::rt::Env;
 use toml_span_check::words::word_text;
 
-/// Returns the argument at the position `at`, or `None` after the last one. Fails if an allocation fails.
+/// Returns the argument at the position `at`, or `None` after the last argument.
 fn word(rt: &HostRuntime, at: usize) -> Result<Option<Vec<u8>>, AllocError> {
     let mut size = 256usize;
     for _ in 0..usize::BITS {
@@ -24,8 +24,7 @@ fn word(rt: &HostRuntime, at: usize) -> Result<Option<Vec<u8>>, AllocError> {
     Err(AllocError)
 }
 
-/// Returns all arguments as texts, also those that are not valid UTF-8 (see `word_text`). The first is the name of the
-/// program. Fails if an allocation fails.
+/// Returns all arguments as texts, as `word_text` converts them. The first argument is the name of the program.
 pub(crate) fn given_words(rt: &HostRuntime) -> Result<Vec<String>, AllocError> {
     let mut words = Vec::new(rt.alloc());
     for at in 0..usize::MAX {
@@ -68,8 +67,8 @@ pub(crate) fn has(word: &str, byte: u8) -> bool
     word.as_bytes().contains(&byte)
 }
 
-/// Returns whether an argument is an option or `-`, or looks like the name of a file rather than a misspelled command:
-/// it contains `.` or `/`, or is not valid UTF-8.
+/// Returns whether an argument is an option, or the name of a file rather than a misspelled command. Such a name
+/// contains `.` or `/`, or is `-`, or is not valid UTF-8.
 pub(crate) fn is_file(word: &str) -> bool
     ensures { result ≡ spec.is_file word.now }
 {

@@ -20,19 +20,20 @@ use toml_span_read::{Assignment, Section, Val, ValKind};
 enum InsertionPoint<'s, 'de> {
     /// At the offset that `top_of` returns, in a document that has no assignment before its first header.
     Top,
-    /// On its own line, after the lines of the table's section.
+    /// On a new line, after the lines of this section, which is the table's own.
     Body(&'s Section<'de>),
-    /// After the line or pair of a dotted key. The part with this index names the table.
+    /// After this assignment, on the next line or in the same braces. The part of its dotted key with this index names
+    /// the table.
     Dotted(&'s Assignment<'de>, usize, Home<'s, 'de>),
-    /// Inside the braces of an inline table.
+    /// Inside the braces of this inline table.
     Braces(&'s Val<'de>),
-    /// Under a new header of the table, before this section of a table inside it. The part of that section's header
-    /// with this index names the table.
+    /// Under a new header of the table, before this section. The part of this section's header with this index names
+    /// the table.
     Header(&'s Section<'de>, usize),
 }
 
-/// Returns whether these mentions name an array of tables, that is, whether the first mention is a section that opens
-/// an element of the array.
+/// Returns whether `mentions` name an array of tables: whether the first is a section that opens an element of the
+/// array. They must not be the mentions of the root.
 pub(crate) fn names_array(mentions: &[Mention<'_, '_>]) -> bool {
     match mentions.first() {
         Some(Mention::Below(section, index)) => opens_element(*section, *index),
@@ -40,7 +41,8 @@ pub(crate) fn names_array(mentions: &[Mention<'_, '_>]) -> bool {
     }
 }
 
-/// Returns where an entry can be written in the table that these mentions name, or `None` if they don't name a table.
+/// Returns where an entry can be written in the table that `mentions` name. Returns `None` if `mentions` is empty, or
+/// if they name anything but a table.
 fn insertion_point<'s, 'de>(mentions: &[Mention<'s, 'de>]) -> Option<InsertionPoint<'s, 'de>> {
     let mut target = None;
     if names_array(mentions) {
@@ -66,9 +68,9 @@ fn insertion_point<'s, 'de>(mentions: &[Mention<'s, 'de>]) -> Option<InsertionPo
     }
 }
 
-/// Returns the offset at which to write the first entry of a document that has no assignment before its first header:
-/// the start of the text, after the byte order mark if there is one. If the text starts with comment lines, and a blank
-/// line or the end of the text follows them, returns the offset after these lines and the blank line.
+/// Returns the byte offset for an entry at the top of `text`, after a byte order mark if there is one. If comment lines
+/// begin there, and a blank line or the end of `text` follows them, the offset is after the comment lines and the blank
+/// line.
 fn top_of(text: &str) -> usize {
     let start = if text.starts_with('\u{feff}') { 3 } else { 0 };
     let mut at = start;
@@ -86,8 +88,8 @@ fn top_of(text: &str) -> usize {
     }
 }
 
-/// Adds to `plan` the insertion of `lines` at the offset `at`, which is the start of a line or the end of the text. If
-/// the text ends at `at` without a line end, a line end is inserted first. Fails if an allocation fails.
+/// Adds to `plan` the insertion of `lines` at the byte offset `at`. Unless `at` is 0 or directly after a line feed, a
+/// line end is inserted first.
 fn put_lines(
     document: Document<'_, '_>,
     at: usize,
@@ -102,8 +104,8 @@ fn put_lines(
     plan.put(point(at), new)
 }
 
-/// Adds to `plan` the insertion of the line `entry`, such as `a = 1`, at the offset that `top_of` returns. If comments
-/// precede the entry and the next line is not blank, a blank line follows the entry. Fails if an allocation fails.
+/// Adds to `plan` the insertion of the line `entry`, such as `a = 1`, at the offset that `top_of` returns. If this
+/// offset is above 3, as after most comments, and the next line is not blank, a blank line follows the entry.
 fn put_at_top(document: Document<'_, '_>, entry: &str, plan: &mut Plan) -> Result<(), AllocError> {
     let (text, end) = (document.text, line_end(document.text));
     let at = top_of(text);
@@ -127,7 +129,7 @@ fn body_indent<'s>(text: &'s str, section: &Section<'_>) -> &'s str {
     }
 }
 
-/// Adds to `plan` the insertion of `entry`, such as `a = 1`, at `target`. Fails if an allocation fails.
+/// Adds to `plan` the insertion of `entry`, such as `a = 1`, at `target`.
 fn put_entry(
     document: Document<'_, '_>,
     target: InsertionPoint<'_, '_>,
@@ -168,9 +170,8 @@ fn put_entry(
     }
 }
 
-/// Adds to `plan` the insertion of `entry` after `assignment`, into the same table. The first parts of the assignment's
-/// dotted key name that table; `table` is the text of these parts, and `home` says where the assignment is. Fails if an
-/// allocation fails.
+/// Adds to `plan` the insertion of `entry` after `assignment`, with `table` and a dot before its key. `home` says where
+/// `assignment` is written.
 fn put_sibling(
     document: Document<'_, '_>,
     assignment: &Assignment<'_>,
@@ -195,8 +196,8 @@ fn put_sibling(
     }
 }
 
-/// Returns how many of the first segments of a path name an existing value: as many as possible, but not all segments
-/// of the path. 0 means the root. Fails if an allocation fails.
+/// Returns how many of the first segments of `path` name an existing value: as many as possible, but not all of `path`.
+/// Returns 0, for the root, if no other number is possible.
 pub(crate) fn known(document: Document<'_, '_>, path: &[&str]) -> Result<usize, AllocError> {
     for depth in (1..path.len()).rev() {
         if !document.mentions(front_of(path, depth))?.is_empty() {
@@ -206,7 +207,7 @@ pub(crate) fn known(document: Document<'_, '_>, path: &[&str]) -> Result<usize, 
     Ok(0)
 }
 
-/// Returns a dotted key with these parts, each in quotes if necessary. Fails if an allocation fails.
+/// Returns the dotted key whose parts have the names `parts`, each in quotes if necessary.
 pub(crate) fn dotted(document: Document<'_, '_>, parts: &[&str]) -> Result<String, AllocError> {
     let mut key = String::new(document.alloc);
     for name in parts {
@@ -232,8 +233,8 @@ fn root_insertion_point<'s, 'de>(mentions: &[Mention<'s, 'de>]) -> InsertionPoin
     }
 }
 
-/// Returns where an entry of the table at a path can be written. Fails with `Nothing` if there is nothing at the path,
-/// with `NoTable` if the value there is not a table, and with `Stop::Memory` if an allocation fails.
+/// Returns where an entry of the table at `path` can be written. Fails with `Nothing` if `path` names nothing, and with
+/// `NoTable` if the value there is not a table.
 fn table_insertion_point<'s, 'de>(
     document: Document<'s, 'de>,
     path: &[&str],
@@ -249,8 +250,8 @@ fn table_insertion_point<'s, 'de>(
     }
 }
 
-/// Adds to `plan` the changes that put the TOML value `value` into an existing table. The last segment of the path is
-/// the new key. Fails with the reason if that is not possible, and with `Stop::Memory` if an allocation fails.
+/// Adds to `plan` the insertion of an entry with the TOML value `value` into an existing table. The last segment of
+/// `path` is the new key. Fails with a reason if this is not possible.
 pub(crate) fn add(
     document: Document<'_, '_>,
     path: &[&str],
@@ -271,9 +272,9 @@ pub(crate) fn add(
     Ok(())
 }
 
-/// Returns the end of the last section whose header names the table at a path or a table in that table, and the text of
-/// the header up to the name of the table at the path. For the root, returns the end of the text and an empty string.
-/// Returns `None` unless headers alone define the table. Fails if an allocation fails.
+/// Returns the byte offset after the last section whose header names the table at `path`, and this header up to the
+/// part that names the table, without brackets. Returns the end of the text and an empty string for the root. Returns
+/// `None` if anything but headers names the table, or if nothing does.
 pub(crate) fn section_place<'s>(
     document: Document<'s, '_>,
     path: &[&str],
@@ -303,8 +304,8 @@ pub(crate) fn section_place<'s>(
     Ok(place)
 }
 
-/// Adds to `plan` the insertion of the lines `section` at the offset `at`. Blank lines separate them from the text
-/// above and below. Fails if an allocation fails.
+/// Adds to `plan` the insertion of the lines `section` at the byte offset `at`, with blank lines between them and the
+/// text above and below.
 pub(crate) fn put_section(
     document: Document<'_, '_>,
     at: usize,
@@ -324,8 +325,8 @@ pub(crate) fn put_section(
     put_lines(document, at, lines.as_str(), plan)
 }
 
-/// Returns the text of an entry for the value `moved`: the comment lines above the value, the indent `front`, the key,
-/// the value, and the comment after the value, without a line end. Fails if an allocation fails.
+/// Returns an entry with the key `key` and the value `moved`, without a line end. The comment lines come first, then
+/// the indent `front`, the key, the value, and the comment after the value.
 fn entry_text(
     document: Document<'_, '_>,
     key: &str,
@@ -337,8 +338,7 @@ fn entry_text(
     format!(in document.alloc; "{above}{front}{key} = {value}{note}")
 }
 
-/// Returns the indent of a line that is inserted at `target`: the indent of the section's lines, or an empty string if
-/// `target` is not in a section.
+/// Returns the indent of a new line at `target`: that of the section's lines for `Body`, otherwise an empty string.
 fn indent_there<'s>(text: &'s str, target: InsertionPoint<'_, '_>) -> &'s str {
     match target {
         InsertionPoint::Body(section) => body_indent(text, section),
@@ -346,7 +346,7 @@ fn indent_there<'s>(text: &'s str, target: InsertionPoint<'_, '_>) -> &'s str {
     }
 }
 
-/// Returns whether an entry that is written at `target` can have comments.
+/// Returns whether an entry at `target` keeps the comments of a moved value.
 fn takes_comments(target: InsertionPoint<'_, '_>) -> bool {
     match target {
         InsertionPoint::Top | InsertionPoint::Body(_) | InsertionPoint::Header(_, _) => true,
@@ -354,10 +354,9 @@ fn takes_comments(target: InsertionPoint<'_, '_>) -> bool {
     }
 }
 
-/// Adds to `plan` the changes that put the value `moved` at a path that names nothing. Missing tables on the way are
-/// written as a new header or, in a table that braces or dotted keys define, as a dotted key. The comments of the value
-/// are left out in braces and next to a dotted key. Fails with the reason if that is not possible, and with
-/// `Stop::Memory` if an allocation fails.
+/// Adds to `plan` the insertion of the value `moved` at `path`, which must name nothing. Tables missing on the way get
+/// a new header or, if braces or dotted keys define the table around them, a dotted key. The value's comments are left
+/// out in braces and after an assignment with a dotted key. Fails with a reason if the insertion is not possible.
 pub(crate) fn add_lines(
     document: Document<'_, '_>,
     path: &[&str],
@@ -392,8 +391,8 @@ pub(crate) fn add_lines(
     Ok(())
 }
 
-/// Adds to `plan` the changes that put the TOML value `value`, and the missing tables on the way, at a path that names
-/// nothing. Fails with the reason if that is not possible, and with `Stop::Memory` if an allocation fails.
+/// Adds to `plan` the insertion of the TOML value `value`, and of the tables missing on the way, at `path`, which must
+/// name nothing. Fails with a reason if this is not possible.
 pub(crate) fn add_deep(
     document: Document<'_, '_>,
     path: &[&str],
@@ -409,15 +408,15 @@ pub(crate) fn add_deep(
     add_lines(document, path, moved, plan)
 }
 
-/// Returns the dot to write between `header`, the text of a header without brackets, and one more part. Returns an
-/// empty string if `header` is empty.
+/// Returns the text between `header`, a header without brackets, and a part after it: a dot, or nothing if `header` is
+/// empty.
 pub(crate) fn dot_after(header: &str) -> &'static str {
     if header.is_empty() { "" } else { "." }
 }
 
-/// Adds to `plan` the changes that put an empty table at a path that names nothing: a header or, in a table that braces
-/// or dotted keys define, an entry with `{}`. Fails with the reason if that is not possible, and with `Stop::Memory` if
-/// an allocation fails.
+/// Adds to `plan` the insertion of an empty table at `path`: a header or, in a table that braces or dotted keys define,
+/// an entry with `{}`. Fails with `There` if `path` is empty or names a value, and with another reason if the insertion
+/// is not possible.
 pub(crate) fn add_table(
     document: Document<'_, '_>,
     path: &[&str],

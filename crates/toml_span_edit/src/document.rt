@@ -20,8 +20,7 @@ pub(crate) struct Document<'s, 'de> {
     pub sections: &'s [Section<'de>],
 }
 
-/// Returns the sections of a text. Fails with `WouldDiffer` if the text can't be split into sections, and with
-/// `Stop::Memory` if an allocation fails.
+/// Returns the sections of `text`. Fails with `WouldDiffer` if `text` can't be split into sections.
 pub(crate) fn sections_of<'t>(
     alloc: Global,
     text: &'t str,
@@ -37,8 +36,8 @@ pub(crate) fn sections_of<'t>(
     }
 }
 
-/// Returns the value at a path if it is written as a literal. Returns `None` if headers or dotted keys define it, or if
-/// there is no value. `mentions` are the mentions of the path.
+/// Returns the value that `mentions` name if it is written as a literal, such as `1` or `[1, 2]`. Returns `None` if
+/// `mentions` is empty, or if headers or dotted keys define the value.
 pub(crate) fn written<'s, 'de>(mentions: &[Mention<'s, 'de>]) -> Option<&'s Val<'de>> {
     for mention in mentions {
         match *mention {
@@ -50,7 +49,8 @@ pub(crate) fn written<'s, 'de>(mentions: &[Mention<'s, 'de>]) -> Option<&'s Val<
     None
 }
 
-/// Returns the element of an array at `index`. Returns `None` if `list` is not an array, or is too short.
+/// Returns the element at `index` of the array `list`. Returns `None` if `list` is not an array, or has no such
+/// element.
 fn element_of<'s, 'de>(list: &'s Val<'de>, index: usize) -> Option<&'s Val<'de>> {
     match &list.kind {
         ValKind::Array(items) => items.get(index),
@@ -58,24 +58,25 @@ fn element_of<'s, 'de>(list: &'s Val<'de>, index: usize) -> Option<&'s Val<'de>>
     }
 }
 
-/// Returns the part of a section's header at `index`, or `None` if the header is too short.
+/// Returns the part at `index` of a section's header, or `None` if the header has no such part.
 fn header_key<'s, 'de>(section: &'s Section<'de>, index: usize) -> Option<&'s Key<'de>> {
     section.header.as_slice().get(index)
 }
 
 impl<'s, 'de> Document<'s, 'de> {
-    /// Returns the places that name the value at a path, in the order of the text. Fails if an allocation fails.
+    /// Returns the places that name the value at `path`, in the order of the text. Returns an empty list if nothing
+    /// names the value.
     pub(crate) fn mentions(&self, path: &[&str]) -> Result<Vec<Mention<'s, 'de>>, AllocError> {
         mentions_of(self.alloc, self.sections, path)
     }
 
-    /// Returns the span of a key with its quotes.
+    /// Returns the span of a key, quotes included.
     fn whole(&self, key: &Key<'_>) -> Span {
         with_quotes(self.text, key.span)
     }
 
-    /// Returns the text of a section's header from its first part to the part at `index`, without the brackets. Returns
-    /// an empty string if the header is too short.
+    /// Returns the text of a section's header from the first part to the part at `index`, without the brackets. Returns
+    /// an empty string if the header has no such part.
     pub(crate) fn header_text(&self, section: &Section<'_>, index: usize) -> &'s str {
         match (header_key(section, 0), header_key(section, index)) {
             (Some(first), Some(last)) => {
@@ -85,15 +86,15 @@ impl<'s, 'de> Document<'s, 'de> {
         }
     }
 
-    /// Returns the text of an assignment's dotted key from its first part to the part at `index`.
+    /// Returns the text of an assignment's key from the first part to the part at `index`, or the whole key if it has
+    /// no such part.
     pub(crate) fn dotted_text(&self, assignment: &Assignment<'_>, index: usize) -> &'s str {
         let first = self.whole(part_at(&assignment.parts, 0));
         let last = self.whole(part_at(&assignment.parts, index));
         part(self.text, first.start, last.end)
     }
 
-    /// Returns the offset after the lines of a section, which end with its last assignment or, without assignments, its
-    /// header.
+    /// Returns the byte offset after the line of a section's last assignment or, without assignments, of its header.
     pub(crate) fn body_end(&self, section: &Section<'_>) -> usize {
         section_lines(self.text, section).end
     }

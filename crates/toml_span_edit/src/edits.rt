@@ -14,27 +14,29 @@ use toml_span::Stop;
 pub enum Change<'e> {
     /// Replaces the value with this one. Headers or dotted keys must not define the old value.
     Set(&'e str),
-    /// Replaces the value with this one, even a table or an array of tables that headers or dotted keys define.
+    /// Replaces the value with this one. Headers or dotted keys may define the old value.
     Replace(&'e str),
-    /// Replaces the value with this one. If there is no value at the path, adds this value, and the missing tables on
-    /// the way.
+    /// Replaces the value as `Set` does. If the path names nothing, adds this value, and the tables missing on the way.
     SetOrAdd(&'e str),
     /// Renames the key to this name, at every place where the key is written.
     Rename(&'e str),
-    /// Removes the value with its key, or the element of an array.
+    /// Removes the value and its key, or the element of an array.
     Remove,
     /// Adds this value to an existing table. The last segment of the path is the new key.
     Add(&'e str),
-    /// Adds an empty table, and the missing tables on the way.
+    /// Adds an empty table, and the tables missing on the way. The path must name nothing.
     AddTable,
-    /// Adds this element at the end of the array. If there is no value at the path, adds an array with this element.
+    /// Adds this element at the end of the array. If the path names nothing, adds an array with this element, and the
+    /// tables missing on the way.
     Append(&'e str),
     /// Adds this element to an array. The last segment of the path is the position of the new element: at most the
     /// number of elements in the array.
     Insert(&'e str),
-    /// Moves the value, with its comments, to this path. There must be no value at this path, unless the path leads
-    /// into an array, where the value is inserted as with `Insert`. Positions in this path are counted without the
-    /// moved value.
+    /// Moves the value, with the comments above and after it, to this path, the target. The comments are lost in some
+    /// targets, such as inline tables.
+    ///
+    /// If the target leads into an array, the value is inserted as with `Insert`. Otherwise the target must name
+    /// nothing. Positions in the target are counted without the moved value.
     MoveTo(&'e [&'e str]),
 }
 
@@ -46,7 +48,7 @@ pub struct Edit<'e> {
     pub change: Change<'e>,
 }
 
-/// Why an edit was refused, and which one.
+/// Which edit was refused, and why.
 #[derive(Debug, Drop)]
 pub struct EditError {
     /// The position of the edit in the list, counted from 0.
@@ -65,7 +67,7 @@ pub struct Edits<'e> {
 }
 
 impl<'e> Edits<'e> {
-    /// Returns an empty list of edits. The text is not read before `finish`.
+    /// Returns an empty list of edits of `text`. Does not read `text`; `finish` does.
     pub fn new(alloc: Global, text: &'e str) -> Self
         ensures { (result.text ≡ text.entry) × (result.list.items ≡ []) }
     {
@@ -84,14 +86,14 @@ impl<'e> Edits<'e> {
         Ok(())
     }
 
-    /// Appends the edit that makes `change` at `path`. Fails if an allocation fails; the list is then unchanged.
+    /// Appends the edit that makes `change` at `path`.
     fn change(&mut self, path: &'e [&'e str], change: Change<'e>) -> Result<(), AllocError>
         ensures { Pushed (record { path = path.entry; change = change.entry }) self.old result self.new }
     {
         self.push(Edit { path, change })
     }
 
-    /// Appends `Change::Set`: replaces the value at a path with `value`. Fails if an allocation fails; the list is then
+    /// Appends `Change::Set`: replaces the value at `path` with `value`. Fails if an allocation fails; the list is then
     /// unchanged.
     pub fn set(&mut self, path: &'e [&'e str], value: &'e str) -> Result<(), AllocError>
         ensures { Pushed (record { path = path.entry; change = changes.Set value.entry }) self.old result self.new }
@@ -99,16 +101,16 @@ impl<'e> Edits<'e> {
         self.change(path, Change::Set(value))
     }
 
-    /// Appends `Change::Replace`: replaces the value at a path with `value`, even a table that headers define. Fails if
-    /// an allocation fails; the list is then unchanged.
+    /// Appends `Change::Replace`: replaces the value at `path`, which headers or dotted keys may define, with `value`.
+    /// Fails if an allocation fails; the list is then unchanged.
     pub fn replace(&mut self, path: &'e [&'e str], value: &'e str) -> Result<(), AllocError>
         ensures { Pushed (record { path = path.entry; change = changes.Replace value.entry }) self.old result self.new }
     {
         self.change(path, Change::Replace(value))
     }
 
-    /// Appends `Change::SetOrAdd`: replaces the value at a path with `value`, or adds `value` if there is none. Fails
-    /// if an allocation fails; the list is then unchanged.
+    /// Appends `Change::SetOrAdd`: replaces the value at `path` with `value`, or adds `value` if `path` names nothing.
+    /// Fails if an allocation fails; the list is then unchanged.
     pub fn set_or_add(&mut self, path: &'e [&'e str], value: &'e str) -> Result<(), AllocError>
         ensures { Pushed (record { path = path.entry; change = changes.SetOrAdd value.entry }) self.old result
             self.new }
@@ -116,7 +118,7 @@ impl<'e> Edits<'e> {
         self.change(path, Change::SetOrAdd(value))
     }
 
-    /// Appends `Change::Rename`: renames the key at a path to `name`. Fails if an allocation fails; the list is then
+    /// Appends `Change::Rename`: renames the key at `path` to `name`. Fails if an allocation fails; the list is then
     /// unchanged.
     pub fn rename(&mut self, path: &'e [&'e str], name: &'e str) -> Result<(), AllocError>
         ensures { Pushed (record { path = path.entry; change = changes.Rename name.entry }) self.old result self.new }
@@ -124,40 +126,40 @@ impl<'e> Edits<'e> {
         self.change(path, Change::Rename(name))
     }
 
-    /// Appends `Change::Remove`: removes the value at a path. Fails if an allocation fails; the list is then unchanged.
+    /// Appends `Change::Remove`: removes the value at `path`. Fails if an allocation fails; the list is then unchanged.
     pub fn remove(&mut self, path: &'e [&'e str]) -> Result<(), AllocError>
         ensures { Pushed (record { path = path.entry; change = changes.Remove }) self.old result self.new }
     {
         self.change(path, Change::Remove)
     }
 
-    /// Appends `Change::Add`: adds a value to an existing table, at a path where there is none. Fails if an allocation
-    /// fails; the list is then unchanged.
+    /// Appends `Change::Add`: adds `value` to an existing table, at `path`, which must name nothing. Fails if an
+    /// allocation fails; the list is then unchanged.
     pub fn add(&mut self, path: &'e [&'e str], value: &'e str) -> Result<(), AllocError>
         ensures { Pushed (record { path = path.entry; change = changes.Add value.entry }) self.old result self.new }
     {
         self.change(path, Change::Add(value))
     }
 
-    /// Appends `Change::AddTable`: adds an empty table at a path where there is nothing. Fails if an allocation fails;
-    /// the list is then unchanged.
+    /// Appends `Change::AddTable`: adds an empty table at `path`, which must name nothing. Fails if an allocation
+    /// fails; the list is then unchanged.
     pub fn add_table(&mut self, path: &'e [&'e str]) -> Result<(), AllocError>
         ensures { Pushed (record { path = path.entry; change = changes.AddTable }) self.old result self.new }
     {
         self.change(path, Change::AddTable)
     }
 
-    /// Appends `Change::Append`: adds an element, the TOML value `value`, at the end of the array at a path. Fails if
-    /// an allocation fails; the list is then unchanged.
+    /// Appends `Change::Append`: adds the element `value` at the end of the array at `path`. Fails if an allocation
+    /// fails; the list is then unchanged.
     pub fn append(&mut self, path: &'e [&'e str], value: &'e str) -> Result<(), AllocError>
         ensures { Pushed (record { path = path.entry; change = changes.Append value.entry }) self.old result self.new }
     {
         self.change(path, Change::Append(value))
     }
 
-    /// Appends `Change::Insert`: adds an element, the TOML value `value`, to an array. The last segment of the path is
-    /// the position of the new element, at most the number of elements in the array. Fails if an allocation fails; the
-    /// list is then unchanged.
+    /// Appends `Change::Insert`: adds the element `value` to an array. The last segment of `path` is the position of
+    /// the new element, at most the number of elements in the array. Fails if an allocation fails; the list is then
+    /// unchanged.
     pub fn insert(&mut self, path: &'e [&'e str], value: &'e str) -> Result<(), AllocError>
         ensures { Pushed (record { path = path.entry; change = changes.Insert value.entry }) self.old result self.new }
     {
@@ -176,8 +178,8 @@ impl<'e> Edits<'e> {
     /// without reading it.
     ///
     /// Fails with the position and the reason of the first edit that is refused, and with `Stop::Memory` if an
-    /// allocation fails. An edit is refused unless the tree of the new text is the tree of the text before the edit,
-    /// with only this change.
+    /// allocation fails. An edit is refused if the tree of its result would differ from the tree before the edit in
+    /// anything but this change.
     pub fn finish(self) -> Result<String, Stop<EditError>>
         ensures { IfOk result (λ new. spec.EditsMade self.entry.list.items self.entry.text.now (string_bytes new)) }
     {
@@ -185,8 +187,8 @@ impl<'e> Edits<'e> {
     }
 }
 
-/// Makes an edit and returns the new text. `index` is the position of the edit in its list. Fails with the reason and
-/// `index` if the edit is refused, and with `Stop::Memory` if an allocation fails.
+/// Makes `edit` in `text`, and returns the new text. Fails with the reason and with `index`, the position of `edit` in
+/// its list, if `edit` is refused.
 fn edit_made(
     alloc: Global,
     text: &str,
@@ -201,9 +203,8 @@ fn edit_made(
     }
 }
 
-/// Makes edits one after the other and returns the new text. `first` is the position of the first edit, for errors.
-/// Fails with the position and the reason of the first edit that is refused, and with `Stop::Memory` if an allocation
-/// fails.
+/// Makes `edits` in `text`, one after the other, and returns the new text. Fails with the reason and the position of
+/// the first edit that is refused. The first of `edits` has the position `first`.
 fn rest_made(
     alloc: Global,
     text: String,
@@ -219,8 +220,8 @@ fn rest_made(
     Ok(new)
 }
 
-/// Makes edits one after the other and returns the new text. If there are no edits, returns the text as it is. Fails
-/// with the position and the reason of the first edit that is refused, and with `Stop::Memory` if an allocation fails.
+/// Makes `edits` in `text`, one after the other, and returns the new text: a copy of `text` if `edits` is empty. Fails
+/// with the reason and the position of the first edit that is refused.
 fn all_made(alloc: Global, text: &str, edits: &[Edit<'_>]) -> Result<String, Stop<EditError>>
     ensures { IfOk result (λ new. spec.EditsMade edits.now text.now (string_bytes new)) }
 {
@@ -232,7 +233,7 @@ fn all_made(alloc: Global, text: &str, edits: &[Edit<'_>]) -> Result<String, Sto
     Ok(made)
 }
 
-/// Adds `edit`, the index of the refused edit, to the reason. A failed allocation stays a failed allocation.
+/// Adds `edit`, the position of the refused edit, to the reason in `stop`. Returns a failed allocation as it is.
 fn refused(edit: usize, stop: Stop<Reason>) -> Stop<EditError> {
     match stop {
         Stop::Memory(error) => Stop::Memory(error),

@@ -7,11 +7,10 @@ use toml_span::Stop;
 use toml_span_places::{quote_key, quote_string};
 use toml_span_read::{Section, read_sections};
 
-/// What `probe_text` writes before a value to make a document of it.
+/// The text that `probe_text` writes before a value to make a document.
 const FRONT: &str = "v = ";
 
-/// Returns `v = ` followed by `value`: a document with a single entry, if `value` is a TOML value. Fails if an
-/// allocation fails.
+/// Returns `v = ` followed by `value`: a document with a single entry, if `value` is a TOML value.
 pub(crate) fn probe_text(alloc: Global, value: &str) -> Result<String, AllocError>
     ensures { IfOk result (λ text. string_bytes text ≡ codes "v = " ++ value.now) }
 {
@@ -20,8 +19,8 @@ pub(crate) fn probe_text(alloc: Global, value: &str) -> Result<String, AllocErro
     Ok(text)
 }
 
-/// Returns the sections of `probe`, the text that `probe_text` returned for `value`. Fails with `NoValue` if `value` is
-/// not one TOML value, and with `Stop::Memory` if an allocation fails.
+/// Returns the sections of `probe`, the text that `probe_text` returned for `value`. Fails with `NoValue` unless
+/// `value` is one TOML value with nothing after it.
 pub(crate) fn probed<'p>(
     alloc: Global,
     probe: &'p str,
@@ -41,7 +40,7 @@ pub(crate) fn probed<'p>(
     }
 }
 
-/// Returns whether the document has only one assignment and no header, and the assignment ends at the offset `end`.
+/// Returns whether `sections` have only one assignment and no header, and the assignment ends at the byte offset `end`.
 fn is_one_value(sections: &[Section<'_>], end: usize) -> bool {
     match sections {
         [section] => match section.assignments.as_slice() {
@@ -52,21 +51,22 @@ fn is_one_value(sections: &[Section<'_>], end: usize) -> bool {
     }
 }
 
-/// Checks that a text is one TOML value, with nothing before or after it. Fails with `NoValue` if not, and with
-/// `Stop::Memory` if an allocation fails.
+/// Checks that `value` is one TOML value with nothing after it, and only spaces and tabs before it. Fails with
+/// `NoValue` if not.
 pub(crate) fn check_value(alloc: Global, value: &str) -> Result<(), Stop<Reason>> {
     let probe = probe_text(alloc, value)?;
     drop(probed(alloc, probe.as_str(), value)?);
     Ok(())
 }
 
-/// Returns whether a character may occur in a word that was probably meant as a string.
+/// Returns whether `c` may occur in a word that was probably meant as a string. White space, control characters,
+/// quotes, brackets, braces, backslashes, backticks, `#`, `,` and `=` may not.
 fn is_in_word(c: char) -> bool {
     !c.is_whitespace() && !c.is_control() && !"\"'[]{}#,=\\`".contains(c)
 }
 
-/// Returns the reason to refuse `value`, which is not a TOML value. For a bare word, the reason suggests the string
-/// that was probably meant, quoted for a shell. Fails if an allocation fails.
+/// Returns `NoValue`, the reason to refuse `value`, which is not a TOML value. If `value` is a word (see `is_in_word`),
+/// the reason suggests it as a string, quoted for a shell.
 pub(crate) fn no_value(alloc: Global, value: &str) -> Result<Reason, AllocError> {
     if value.is_empty() || !value.chars().all(|c| is_in_word(c)) {
         return Ok(Reason::NoValue(None));
@@ -75,8 +75,8 @@ pub(crate) fn no_value(alloc: Global, value: &str) -> Result<Reason, AllocError>
     Ok(Reason::NoValue(Some(format!(in alloc; "'{string}'?")?)))
 }
 
-/// Returns a text with the escapes `\e` and `\xHH`, which TOML 1.1 added, replaced with escapes of TOML 1.0. Fails if
-/// an allocation fails.
+/// Returns `text`, a basic string, with the escapes `\e` and `\xHH`, which TOML 1.1 added, replaced with escapes of
+/// TOML 1.0.
 fn older(alloc: Global, text: &str) -> Result<String, AllocError> {
     let mut out = String::new(alloc);
     let mut escaped = false;
@@ -103,8 +103,7 @@ fn older(alloc: Global, text: &str) -> Result<String, AllocError> {
     Ok(out)
 }
 
-/// Returns a name as a key: bare if possible, otherwise in quotes, with escapes that TOML 1.0 has too. Fails if an
-/// allocation fails.
+/// Returns `name` as a key: bare if possible, otherwise in quotes, with only escapes of TOML 1.0.
 pub(crate) fn key_text(alloc: Global, name: &str) -> Result<String, AllocError> {
     let text = quote_key(alloc, name)?;
     if text.starts_with('"') {
@@ -113,7 +112,7 @@ pub(crate) fn key_text(alloc: Global, name: &str) -> Result<String, AllocError> 
     Ok(text)
 }
 
-/// Returns a text as a string on one line, in quotes, with escapes that TOML 1.0 has too. Fails only if an allocation
+/// Returns `text` as a TOML string on one line, quotes included, with only escapes of TOML 1.0. Fails if an allocation
 /// fails.
 pub fn string_text(alloc: Global, text: &str) -> Result<String, AllocError> {
     let text = quote_string(alloc, text)?;

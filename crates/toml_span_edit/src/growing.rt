@@ -12,8 +12,7 @@ use toml_span::Stop;
 use toml_span_read::{Section, Val, ValKind};
 
 /// Returns a section for a new element of an array of tables: the header `[[header]]`, and a line for each pair of
-/// `value`. Fails with `NoInlineTable` if `value` is not an inline table, with `NoValue` if it is not a TOML value, and
-/// with `Stop::Memory` if an allocation fails.
+/// `value`. Fails with `NoValue` if `value` is not a TOML value, and with `NoInlineTable` if it is not an inline table.
 fn element_text(
     document: Document<'_, '_>,
     header: &str,
@@ -36,13 +35,13 @@ fn element_text(
     Ok(lines)
 }
 
-/// Returns the value of the first assignment in the first section, or `None` if this assignment does not exist.
+/// Returns the value of the first assignment in the first section, or `None` if one of the two is missing.
 fn given_value<'s, 'de>(sections: &'s [Section<'de>]) -> Option<&'s Val<'de>> {
     Some(&sections.first()?.assignments.as_slice().first()?.value)
 }
 
-/// Returns the text of the header of an array of tables, without brackets, and the end of the array's last section.
-/// `mentions` are the mentions of the array. Returns `None` if no header opens an element of the array.
+/// Returns the header of the array of tables that `mentions` name, without brackets, and the byte offset after the
+/// array's last section. Returns `None` if `mentions` is empty, or if they name anything but an array of tables.
 fn elements_end<'s>(
     document: Document<'s, '_>,
     mentions: &[Mention<'s, '_>],
@@ -59,8 +58,7 @@ fn elements_end<'s>(
     }
 }
 
-/// Returns whether the TOML value `value` is an inline table. Fails with `NoValue` if it is not a TOML value, and with
-/// `Stop::Memory` if an allocation fails.
+/// Returns whether the TOML value `value` is an inline table. Fails with `NoValue` if `value` is not a TOML value.
 fn is_inline(document: Document<'_, '_>, value: &str) -> Result<bool, Stop<Reason>> {
     let probe = probe_text(document.alloc, value)?;
     let sections = probed(document.alloc, probe.as_str(), value)?;
@@ -70,10 +68,9 @@ fn is_inline(document: Document<'_, '_>, value: &str) -> Result<bool, Stop<Reaso
     })
 }
 
-/// Adds to `plan` the changes that put an array with `value` as its only element at a path that names nothing. The
-/// array is written as a section with a header `[[..]]` if `value` is an inline table and no braces or dotted keys
-/// define the table around the array. Fails with the reason if that is not possible, and with `Stop::Memory` if an
-/// allocation fails.
+/// Adds to `plan` the insertion of an array with `value` as its only element at `path`, which must name nothing. If
+/// `value` is an inline table, and no braces or dotted keys define the table around the array, the element is written
+/// as a section with a header `[[..]]`. Fails with a reason if the insertion is not possible.
 fn append_first(
     document: Document<'_, '_>,
     path: &[&str],
@@ -93,10 +90,9 @@ fn append_first(
     add_deep(document, path, array.as_str(), plan)
 }
 
-/// Adds to `plan` the changes that put the element `value` at the end of the array at a path or, if there is nothing at
-/// the path, put an array with only this element there. In an array of tables, the element becomes a section, and
-/// `value` must be an inline table. Fails with the reason if that is not possible, and with `Stop::Memory` if an
-/// allocation fails.
+/// Adds to `plan` the insertion of the element `value` at the end of the array at `path`. If `path` names nothing,
+/// inserts an array with only this element. In an array of tables, the element becomes a section, and `value` must be
+/// an inline table. Fails with a reason if the insertion is not possible.
 pub(crate) fn append(
     document: Document<'_, '_>,
     path: &[&str],
@@ -129,9 +125,9 @@ pub(crate) fn append(
     }
 }
 
-/// Adds to `plan` the insertion of the element `value` into an array of tables, before the section `next` of another
-/// element and the comments above that section. Fails with the reason if `value` is not an inline table, and with
-/// `Stop::Memory` if an allocation fails.
+/// Adds to `plan` the insertion of the element `value` into an array of tables, before `next`, the section of another
+/// element, and the comment lines above it. Fails with `NoValue` if `value` is not a TOML value, and with
+/// `NoInlineTable` if it is not an inline table.
 fn put_element(
     document: Document<'_, '_>,
     next: &Section<'_>,
@@ -147,9 +143,9 @@ fn put_element(
     Ok(())
 }
 
-/// Adds to `plan` the insertion of the element `item` into an array. The last segment of the path is the position of
-/// the new element: at most the number of elements in the array. Fails with `NoArray` if the path has no such position,
-/// with another reason if the element can't be written there, and with `Stop::Memory` if an allocation fails.
+/// Adds to `plan` the insertion of the element `item` into an array. The last segment of `path` is the position of the
+/// new element: at most the number of elements in the array. Fails with `NoArray` if the array or the position does not
+/// exist, and with another reason if the element can't be written there.
 pub(crate) fn insert(
     document: Document<'_, '_>,
     path: &[&str],
@@ -180,7 +176,7 @@ pub(crate) fn insert(
     }
 }
 
-/// Returns how many of an array's mentions are sections that open an element of the array.
+/// Returns how many of `mentions`, the mentions of an array, are sections that open an element of the array.
 fn elements(mentions: &[Mention<'_, '_>]) -> usize {
     let mut count: usize = 0;
     for mention in mentions {

@@ -11,7 +11,7 @@ use toml_span::value::{Value, ValueInner};
 use toml_span_places::literal_span;
 use toml_span_read::{Val, ValKind};
 
-/// Returns the span of the literal that spells a value: for a string, quotes included.
+/// Returns the span of the literal that spells `value`: for a string, quotes included.
 pub(crate) fn literal_of(text: &str, value: &Val<'_>) -> Span {
     let ValKind::String(string) = &value.kind else {
         return value.span;
@@ -33,8 +33,8 @@ pub(crate) fn count_of(list: &Val<'_>) -> usize {
     }
 }
 
-/// Returns the span of the item at this index: the literal of an element, or a pair from its key to the end of its
-/// value. Returns `None` if no item has this index.
+/// Returns the span of the item of `list` at `index`: an element's literal, or a pair from its key to the end of its
+/// value. Returns `None` if `list` has no such item.
 pub(crate) fn item_span(text: &str, list: &Val<'_>, index: usize) -> Option<Span> {
     match &list.kind {
         ValKind::Array(items) => Some(literal_of(text, items.get(index)?)),
@@ -43,12 +43,13 @@ pub(crate) fn item_span(text: &str, list: &Val<'_>, index: usize) -> Option<Span
     }
 }
 
-/// Returns the offset of the closing bracket or brace.
+/// Returns the byte offset of the closing bracket or brace of `list`.
 fn close_of(list: &Val<'_>) -> usize {
     list.span.end.saturating_sub(1)
 }
 
-/// Returns the end of the space after the item at `index`: the start of the next item, or the closing bracket or brace.
+/// Returns the start of the item at `index + 1` or, if `list` has no such item, the offset of the closing bracket or
+/// brace.
 fn space_end(text: &str, list: &Val<'_>, index: usize) -> usize {
     match item_span(text, list, index.saturating_add(1)) {
         Some(next) => next.start,
@@ -56,8 +57,8 @@ fn space_end(text: &str, list: &Val<'_>, index: usize) -> usize {
     }
 }
 
-/// Returns the offset of the comma between `start` and `end`, if there is one. Between these offsets, the text must
-/// have only this comma, blanks, line ends and comments. A comma in a comment does not count.
+/// Returns the byte offset of the first comma between the offsets `start` and `end` that is not in a comment, or
+/// `None`. Between these offsets, there must be nothing but commas, blanks, line ends and comments.
 fn comma_between(text: &str, start: usize, end: usize) -> Option<usize> {
     let mut is_comment = false;
     for (index, byte) in part(text, start, end).bytes().enumerate() {
@@ -71,8 +72,7 @@ fn comma_between(text: &str, start: usize, end: usize) -> Option<usize> {
     None
 }
 
-/// Adds to `plan` the removal of the comma at the offset `comma`, with its line if nothing else is on that line. Fails
-/// if an allocation fails.
+/// Adds to `plan` the removal of the comma at the byte offset `comma`, with its line if nothing else is on that line.
 fn cut_comma(text: &str, comma: usize, plan: &mut Plan) -> Result<(), AllocError> {
     let stop = line_stop(text, comma);
     let after = comma.saturating_add(1);
@@ -89,9 +89,9 @@ fn cut_comma(text: &str, comma: usize, plan: &mut Plan) -> Result<(), AllocError
     })
 }
 
-/// Adds to `plan` the changes that remove the items in the span `items`, the comment after them on the same line, and
-/// the comma after them, if any. `space` is the offset of the next item or of the closing bracket or brace; a line end
-/// must come before it. Fails if an allocation fails.
+/// Adds to `plan` the removal of the items in the span `items`, the rest of their last line, and the comma after the
+/// items, which may be on a later line. `space` is the offset of the next item or of the closing bracket or brace, and
+/// must be on a later line.
 fn cut_to_line_end(
     text: &str,
     items: Span,
@@ -114,10 +114,12 @@ fn cut_to_line_end(
     }
 }
 
-/// Adds to `plan` the changes that remove the last items of a list and one comma. `items` is the span of these items,
-/// `before` that of the item before them, if there is one. The closing bracket or brace at the offset `close` must
-/// be on the line where the items end. Removes the comma between `before` and the items if neither a line end nor a
-/// comment is between them. Otherwise removes the comma after the items, if there is one. Fails if an allocation fails.
+/// Adds to `plan` the removal of the last items of a list, whose span is `items`, and of at most one comma. `before` is
+/// the span of the item before them, if any. The closing bracket or brace at the offset `close` must be on the line
+/// where the items end.
+///
+/// Removes the comma before the items if `before` is on the same line and no comment is between. Otherwise removes the
+/// comma after the items, if there is one.
 fn cut_last(
     text: &str,
     before: Option<Span>,
@@ -144,9 +146,9 @@ fn cut_last(
     })
 }
 
-/// Adds to `plan` the removal of the items of `list` from index `first` to `last`, both included, with one comma and
-/// the comment at the end of their last line. A comment on its own line before or after them stays. Does nothing if one
-/// of these indices is out of range. Fails if an allocation fails.
+/// Adds to `plan` the removal of the items of `list` from index `first` to `last`, both included, with the commas
+/// between them, at most one other comma, and the comment at the end of their last line. A comment on its own line
+/// before or after the items stays. Adds nothing if one of these indices is out of range.
 pub(crate) fn cut_items(
     text: &str,
     list: &Val<'_>,
@@ -178,8 +180,7 @@ pub(crate) fn cut_items(
     cut_last(text, before, items, end, plan)
 }
 
-/// Adds to `plan` the insertion of `item` into the brackets or braces of `list`, which must have no items. Fails if an
-/// allocation fails.
+/// Adds to `plan` the insertion of `item` into the brackets or braces of `list`, which must have no items.
 fn put_first(
     alloc: Global,
     text: &str,
@@ -201,8 +202,8 @@ fn put_first(
     plan.put(Span { start, end }, new)
 }
 
-/// An item to insert. `above` has the comment lines above the item; `note` is the comment after the item and its comma,
-/// with the blanks before the comment.
+/// An item to insert. `above` has the comment lines above the item, and `note` the comment after the item and its
+/// comma, with the blanks before the comment.
 #[derive(Clone, Copy)]
 pub(crate) struct Item<'i> {
     pub above: &'i str,
@@ -210,10 +211,15 @@ pub(crate) struct Item<'i> {
     pub note: &'i str,
 }
 
-/// Adds to `plan` the insertion of an item into `list` after the last item, whose span is `last`. The new item gets its
-/// own line if the last item begins a line or has a comment after it on its line; otherwise it follows on the same
-/// line. If the comma of the last item is on a later line, with the closing bracket or brace, the new item follows that
-/// comma. Fails if an allocation fails.
+/// Adds to `plan` the insertion of `item` after the last item of `list`, whose span is `last`.
+///
+/// The new item gets its own line if the last item begins a line, or if the closing bracket or brace is on a later line
+/// and a comment precedes the end of the last item's line or, with a comma after this item, of the comma's line. But if
+/// that comma is on a later line, with the closing bracket or brace, the new item follows the comma. In all other
+/// cases, the new item follows the last item on the same line.
+///
+/// The comments of `item` are written only if the new item gets its own line, and the closing bracket or brace is on a
+/// later line.
 fn put_last(
     alloc: Global,
     text: &str,
@@ -262,7 +268,7 @@ fn put_last(
 }
 
 /// Returns the indent of a new item on its own line: the indent of the line where the item in the span `last` begins,
-/// and four spaces more if `list` opens on that line. Fails if an allocation fails.
+/// and four spaces more if `list` opens on that line.
 fn front_of(alloc: Global, text: &str, list: &Val<'_>, last: Span) -> Result<String, AllocError> {
     let mut front = String::from_str(alloc, indent(text, last.start))?;
     if list.span.start >= line_start(text, last.start) {
@@ -271,9 +277,9 @@ fn front_of(alloc: Global, text: &str, list: &Val<'_>, last: Span) -> Result<Str
     Ok(front)
 }
 
-/// Adds to `plan` the insertion of an item before the item of `list` at `index`, whose span is `next`. If `next` begins
+/// Adds to `plan` the insertion of `item` before the item of `list` at `index`, whose span is `next`. If `next` begins
 /// a line, the new item gets its own line, above the comments of `next`. Otherwise the new item is written on the same
-/// line. Fails if an allocation fails.
+/// line, without its comments.
 fn put_before(
     alloc: Global,
     text: &str,
@@ -306,8 +312,8 @@ fn put_before(
     plan.put(point(next.start), format!(in alloc; "{item}, ")?)
 }
 
-/// Adds to `plan` the insertion of an item into `list` before the item at `index` or, if `index` is too large, after
-/// the last item. Fails if an allocation fails.
+/// Adds to `plan` the insertion of `item` into `list` before the item at `index` or, if `index` is too large, after the
+/// last item.
 pub(crate) fn put_item(
     alloc: Global,
     text: &str,
@@ -326,7 +332,7 @@ pub(crate) fn put_item(
     }
 }
 
-/// Returns an item with this text and without comments.
+/// Returns an item with the text `text` and without comments.
 pub(crate) fn bare(text: &str) -> Item<'_> {
     Item {
         above: "",
@@ -335,8 +341,8 @@ pub(crate) fn bare(text: &str) -> Item<'_> {
     }
 }
 
-/// Returns the comment at the end of the line of the item that ends at the offset `end`, with the blanks before it. The
-/// comma after the item is skipped. The result is empty if anything else follows the item on the line.
+/// Returns the comment after the byte offset `end`, the end of an item, on the same line, with the blanks before the
+/// comment. Skips a comma before the comment. Returns an empty string if anything else or nothing follows.
 fn note_after(text: &str, end: usize) -> &str {
     let rest = part(text, end, line_stop(text, end));
     let note = match rest.trim_start().strip_prefix(',') {
@@ -350,8 +356,8 @@ fn note_after(text: &str, end: usize) -> &str {
     }
 }
 
-/// Returns the comment lines above the item in a span, and the comment at the end of the item's line. Both are empty if
-/// the item does not begin a line.
+/// Returns the comment lines above the item in the span `item`, and the comment that `note_after` returns for the item.
+/// Both are empty if the item does not begin a line.
 pub(crate) fn comments_of(text: &str, item: Span) -> (&str, &str) {
     if !begins_line(text, item.start) {
         return ("", "");

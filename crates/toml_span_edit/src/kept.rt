@@ -10,14 +10,14 @@ use toml_span_lex::bytes::is_blank;
 use toml_span_places::Replacement;
 use toml_span_read::gaps::byte_at;
 
-/// Returns whether a byte is a space, a tab or part of a line end.
+/// Returns whether a byte is a space, a tab, a line feed or a carriage return.
 fn is_space(byte: u8) -> bool
     ensures { result ≡ spec.is_space byte }
 {
     is_blank(byte) || byte == b'\n' || byte == b'\r'
 }
 
-/// Returns whether all bytes are spaces, tabs or parts of line ends.
+/// Returns whether all bytes are spaces, tabs, line feeds or carriage returns.
 fn is_all_space(bytes: &[u8]) -> bool
     ensures { result ≡ list_all spec.is_space bytes.now }
 {
@@ -29,8 +29,7 @@ fn is_all_space(bytes: &[u8]) -> bool
     true
 }
 
-/// Returns the bytes from `start` to `end`, or to the end of the text if that comes first. Returns an empty slice if
-/// `start` is not before that end.
+/// Returns the bytes of `text` whose offsets are in `start..end`. Offsets after the end of `text` are ignored.
 fn bytes_of(text: &str, start: usize, end: usize) -> &[u8]
     ensures { result.now ≡ slice_range text.now start end }
 {
@@ -39,14 +38,15 @@ fn bytes_of(text: &str, start: usize, end: usize) -> &[u8]
     if start < end { &bytes[start..end] } else { &[] }
 }
 
-/// Returns whether a replacement only inserts text, or replaces only spaces, tabs and line ends.
+/// Returns whether a replacement only inserts text, or replaces only spaces, tabs, line feeds and carriage returns.
 fn replaces_space(text: &str, replacement: Replacement<'_>) -> bool
     ensures { result ≡ spec.replaces_space text.now (edit_of replacement.entry) }
 {
     is_all_space(bytes_of(text, replacement.span.start, replacement.span.end))
 }
 
-/// Returns whether each replacement only inserts text, or replaces only spaces, tabs and line ends.
+/// Returns whether each replacement in `list` only inserts text, or replaces only spaces, tabs, line feeds and carriage
+/// returns.
 pub(crate) fn replace_space(text: &str, list: &[Replacement<'_>]) -> bool
     ensures { result ≡ list_all (spec.replaces_space text.now) (map edit_of list.now) }
 {
@@ -65,8 +65,8 @@ fn is_same(bytes: &[u8], others: &[u8]) -> bool
     bytes == others
 }
 
-/// Returns whether `new` consists of the bytes of `old` before a span, any other bytes, and the bytes of `old` after
-/// the span. Returns false if `old` does not contain the span.
+/// Returns whether `new` can be made from `old` by replacing `span` with some bytes. Returns false if `span` is not
+/// inside `old`.
 fn bytes_around(old: &[u8], span: Span, new: &[u8]) -> bool
     ensures { result ≡ true → spec.KeepsAround old.now span new.now }
 {
@@ -79,15 +79,16 @@ fn bytes_around(old: &[u8], span: Span, new: &[u8]) -> bool
     is_same(&old[..start], &new[..start]) && is_same(&old[end..], &new[stop..])
 }
 
-/// Returns whether `new` consists of the text before a span, any other text, and the text after the span. Returns false
-/// if the text does not contain the span.
+/// Returns whether `new` can be made from `text` by replacing `span` with some bytes. Returns false if `span` is not
+/// inside `text`.
 pub(crate) fn keeps_around(text: &str, span: Span, new: &str) -> bool
     ensures { result ≡ true → spec.KeepsAround text.now span new.now }
 {
     bytes_around(text.as_bytes(), span, new.as_bytes())
 }
 
-/// Returns whether the text from `start` to `end` consists only of blanks and comments with their line ends.
+/// Returns whether the bytes of `text` in `start..end` are only spaces, tabs, and comments with their line ends.
+/// Returns false if a line end follows no comment.
 pub(crate) fn only_comments(text: &str, start: usize, end: usize) -> bool
     ensures { result ≡ spec.only_comments false (slice_range text.now start end) }
 {
@@ -105,7 +106,7 @@ pub(crate) fn only_comments(text: &str, start: usize, end: usize) -> bool
     true
 }
 
-/// Returns whether all bytes are blanks or opening brackets, as at the start of a header.
+/// Returns whether all bytes are spaces, tabs or opening brackets, as at the start of a header.
 fn is_opening(bytes: &[u8]) -> bool
     ensures { result ≡ list_all spec.is_opening bytes.now }
 {
@@ -117,7 +118,7 @@ fn is_opening(bytes: &[u8]) -> bool
     true
 }
 
-/// Returns whether `wanted` is one of the bytes.
+/// Returns whether `bytes` contains `wanted`.
 fn has_byte(bytes: &[u8], wanted: u8) -> bool
     ensures { result ≡ list_any (λ c. c == wanted) bytes.now }
 {
@@ -129,8 +130,8 @@ fn has_byte(bytes: &[u8], wanted: u8) -> bool
     false
 }
 
-/// Returns whether a replacement is inside one line, and only blanks and one or more opening brackets come before it on
-/// that line.
+/// Returns whether the span of a replacement is inside one line, and only spaces, tabs and one or more opening brackets
+/// are before the span on that line.
 fn is_header_part(text: &str, replacement: Replacement<'_>) -> bool
     ensures { result ≡ spec.is_header_part text.now (edit_of replacement.entry) }
 {
@@ -139,8 +140,8 @@ fn is_header_part(text: &str, replacement: Replacement<'_>) -> bool
     is_opening(before) && has_byte(before, b'[') && !has_byte(bytes_of(text, start, end), b'\n')
 }
 
-/// Returns whether each replacement is inside one line, and only blanks and one or more opening brackets come before it
-/// on that line.
+/// Returns whether the span of each replacement is inside one line, and only spaces, tabs and one or more opening
+/// brackets are before the span on that line.
 pub(crate) fn are_header_parts(text: &str, list: &[Replacement<'_>]) -> bool
     ensures { result ≡ list_all (spec.is_header_part text.now) (map edit_of list.now) }
 {

@@ -1,23 +1,23 @@
 //! Finds the starts and ends of lines, their indents, and the comments above them.
 use toml_span::Span;
 
-/// Returns the text from the offset `start` to `end`, or an empty string if `end` is before `start`, or if one of them
-/// is after the end of the text or inside a character.
+/// Returns `text[start..end]`. Returns an empty string if these byte offsets are out of bounds, out of order, or inside
+/// a character.
 pub(crate) fn part(text: &str, start: usize, end: usize) -> &str {
     text.get(start..end).unwrap_or("")
 }
 
-/// Returns the empty span at the offset `at`.
+/// Returns the empty span at the byte offset `at`.
 pub(crate) fn point(at: usize) -> Span {
     Span { start: at, end: at }
 }
 
-/// Returns the line end for new lines of a text: CRLF if the text contains one, otherwise a line feed.
+/// Returns the line end for new lines of `text`: CRLF if `text` contains one, otherwise a line feed.
 pub(crate) fn line_end(text: &str) -> &'static str {
     if text.contains("\r\n") { "\r\n" } else { "\n" }
 }
 
-/// Returns the start of the line that contains `offset`.
+/// Returns the start of the line that contains the byte offset `offset`, which must be at a character boundary.
 pub(crate) fn line_start(text: &str, offset: usize) -> usize {
     match part(text, 0, offset).rfind('\n') {
         Some(at) => at.saturating_add(1),
@@ -25,7 +25,8 @@ pub(crate) fn line_start(text: &str, offset: usize) -> usize {
     }
 }
 
-/// Returns the end of the line that contains `offset`, without its line end.
+/// Returns the start of the first line end at or after the byte offset `offset`. Without such a line end, returns the
+/// length of `text`. `offset` must be at a character boundary.
 pub(crate) fn line_stop(text: &str, offset: usize) -> usize {
     let rest = part(text, offset, text.len());
     match rest.find('\n') {
@@ -41,8 +42,8 @@ pub(crate) fn line_stop(text: &str, offset: usize) -> usize {
     }
 }
 
-/// Returns the start of the line after the one that contains `offset`, or the length of the text if that is the last
-/// line.
+/// Returns the byte offset after the first line feed at or after `offset`. Without such a line feed, returns the length
+/// of `text`. `offset` must be at a character boundary.
 pub(crate) fn next_line(text: &str, offset: usize) -> usize {
     let rest = part(text, offset, text.len());
     match rest.find('\n') {
@@ -51,18 +52,21 @@ pub(crate) fn next_line(text: &str, offset: usize) -> usize {
     }
 }
 
-/// Returns the start of the spaces and tabs directly before `offset`.
+/// Returns the start of the run of spaces and tabs that ends at the byte offset `offset`, or `offset` if the run is
+/// empty. `offset` must be at a character boundary.
 pub(crate) fn blanks_before(text: &str, offset: usize) -> usize {
     part(text, 0, offset).trim_end_matches([' ', '\t']).len()
 }
 
-/// Returns whether only blanks precede an offset on its line.
+/// Returns whether only spaces and tabs are before the byte offset `offset` on its line. `offset` must be at a
+/// character boundary.
 pub(crate) fn begins_line(text: &str, offset: usize) -> bool {
     let start = blanks_before(text, offset);
     start == 0 || part(text, 0, start).ends_with('\n')
 }
 
-/// Returns the spaces and tabs at the start of the line that contains `offset`.
+/// Returns the spaces and tabs at the start of the line that contains the byte offset `offset`, which must be at a
+/// character boundary.
 pub(crate) fn indent(text: &str, offset: usize) -> &str {
     let start = line_start(text, offset);
     let line = part(text, start, text.len());
@@ -70,8 +74,8 @@ pub(crate) fn indent(text: &str, offset: usize) -> &str {
     part(text, start, text.len().saturating_sub(rest.len()))
 }
 
-/// Returns the start of the block of comment lines that ends at `offset`, the start of a line. Returns `offset` if the
-/// line above is not a comment line.
+/// Returns the start of the comment lines directly above the byte offset `offset`, the start of a line. Without such
+/// lines, returns `offset`. A comment on the same line as a byte order mark does not count.
 pub(crate) fn comments_above(text: &str, offset: usize) -> usize {
     let mut start: usize = 0;
     let mut at: usize = 0;
@@ -84,7 +88,7 @@ pub(crate) fn comments_above(text: &str, offset: usize) -> usize {
     start
 }
 
-/// Returns whether the text before `offset` ends with a line that has no line end yet.
+/// Returns whether the byte offset `offset` is neither 0 nor directly after a line feed.
 pub(crate) fn is_open(text: &str, offset: usize) -> bool {
     offset > 0 && !part(text, 0, offset).ends_with('\n')
 }

@@ -12,7 +12,7 @@ use crate::same::{same_items, same_tree};
 use std::collections::btree_map::Iter;
 use toml_span::value::{Array, Key, Table, Value, ValueInner};
 
-/// Returns the value of the entry with this name, if there is one.
+/// Returns the value of the entry `name`, or `None` if the table lacks this entry.
 fn entry_named<'v, 'de>(table: &'v Table<'de>, name: &str) -> Option<&'v Value<'de>>
     ensures { option_map (λ v. view v.now) result ≡ get_member name.now (members_view table.now.entries) }
 {
@@ -24,7 +24,8 @@ fn entry_named<'v, 'de>(table: &'v Table<'de>, name: &str) -> Option<&'v Value<'
     None
 }
 
-/// Returns the element at the position that a segment spells, if there is one.
+/// Returns the element at the position that `segment` spells. Returns `None` if `segment` spells no position, or if the
+/// array has no such element.
 fn element_named<'v, 'de>(array: &'v Array<'de>, segment: &str) -> Option<&'v Value<'de>>
     ensures { option_map (λ v. view v.now) result
         ≡ option_and_then (λ i. get_item i (items_view array.now.items)) (position_of segment.now) }
@@ -32,8 +33,8 @@ fn element_named<'v, 'de>(array: &'v Array<'de>, segment: &str) -> Option<&'v Va
     array.get(position(segment)?)
 }
 
-/// Returns the value that a segment selects: an entry of a table, or an element of an array. Returns `None` if there is
-/// no such entry or element, or if `value` is taken.
+/// Returns the element, or the value of the entry, that `segment` names in `value`. Returns `None` if `segment` names
+/// nothing, or if `value` is taken.
 pub(crate) fn child<'v, 'de>(value: &'v Value<'de>, segment: &str) -> Option<&'v Value<'de>>
     ensures { option_map (λ v. view v.now) result ≡ spec.child segment.now (inner_of (view value.now)) }
 {
@@ -47,7 +48,7 @@ pub(crate) fn child<'v, 'de>(value: &'v Value<'de>, segment: &str) -> Option<&'v
     }
 }
 
-/// Returns the value at a path that begins at `value`, or `None` if the path names nothing.
+/// Returns the value at `path`, which begins at `value`, or `None` if `path` names nothing.
 pub(crate) fn value_at<'v, 'de>(path: &[&str], value: &'v Value<'de>) -> Option<&'v Value<'de>>
     ensures { option_map (λ v. view v.now) result ≡ paths.found (map (λ s. s.now) path.now) (view value.now) }
 {
@@ -75,8 +76,8 @@ fn items_but(items: &[Value<'_>], at: usize, others: &[Value<'_>]) -> bool
     same_items(&items[..at], &others[..at]) && same_items(&items[at + 1..], &others[at + 1..])
 }
 
-/// Returns whether both arrays have an element at the position that a segment spells, and are equal except for these
-/// elements. Returns false if the segment does not spell a position.
+/// Returns whether two arrays are equal except for their elements at the position that `segment` spells. Returns false
+/// if `segment` spells no position, or if one of the arrays has no such element.
 fn array_but(array: &Array<'_>, segment: &str, others: &Array<'_>) -> bool
     ensures { result ≡ spec.at_position (λ i. spec.items_but i (items_view array.now.items)
         (items_view others.now.items)) (position_of segment.now) }
@@ -87,7 +88,7 @@ fn array_but(array: &Array<'_>, segment: &str, others: &Array<'_>) -> bool
     }
 }
 
-/// Returns whether two tables are equal except for the values of the entries with this name.
+/// Returns whether two tables have the same names and, except for the entry `name`, the same values.
 fn members_but(table: &Table<'_>, name: &str, others: &Table<'_>) -> bool
     ensures { result ≡ spec.members_but name.now (members_view table.now.entries) (members_view others.now.entries) }
 {
@@ -106,8 +107,8 @@ fn members_but(table: &Table<'_>, name: &str, others: &Table<'_>) -> bool
     rest.next().is_none()
 }
 
-/// Returns whether two tables have the same names and are equal except for the value of the entry that a segment names,
-/// or whether two arrays are equal except for the element at the position that the segment spells.
+/// Returns whether `value` and `other` are equal except for the entry or element that `segment` names. Returns false
+/// unless both are tables with the same names, or both are arrays with this element.
 fn same_but(value: &Value<'_>, segment: &str, other: &Value<'_>) -> bool
     ensures { result ≡ spec.same_but segment.now (inner_of (view value.now)) (inner_of (view other.now)) }
 {
@@ -120,7 +121,8 @@ fn same_but(value: &Value<'_>, segment: &str, other: &Value<'_>) -> bool
     }
 }
 
-/// Returns whether `others` is `items` without the element at this position.
+/// Returns whether `others` is `items` without the element at the position `at`. Returns false if `items` has no such
+/// element.
 #[tactic(auto, using(crate::proofs::Elements::short_gone, crate::proofs::Elements::few_gone))]
 fn item_gone(items: &[Value<'_>], at: usize, others: &[Value<'_>]) -> bool
     ensures { result ≡ spec.item_gone at (items_view items.now) (items_view others.now) }
@@ -134,7 +136,8 @@ fn item_gone(items: &[Value<'_>], at: usize, others: &[Value<'_>]) -> bool
     same_items(&items[..at], &others[..at]) && same_items(&items[at + 1..], &others[at..])
 }
 
-/// Returns whether `others` is `array` without the element at the position that a segment spells.
+/// Returns whether `others` is `array` without the element at the position that `segment` spells. Returns false if
+/// `array` has no such element.
 fn array_gone(array: &Array<'_>, segment: &str, others: &Array<'_>) -> bool
     ensures { result ≡ spec.at_position (λ i. spec.item_gone i (items_view array.now.items)
         (items_view others.now.items)) (position_of segment.now) }
@@ -145,7 +148,7 @@ fn array_gone(array: &Array<'_>, segment: &str, others: &Array<'_>) -> bool
     }
 }
 
-/// Returns whether `others` is `table` without the entry with this name.
+/// Returns whether `others` is `table` without the entry `name`, which `table` need not have.
 fn members_gone(table: &Table<'_>, name: &str, others: &Table<'_>) -> bool
     ensures { result ≡ same_members (spec.without name.now (members_view table.now.entries))
         (members_view others.now.entries) }
@@ -165,8 +168,8 @@ fn members_gone(table: &Table<'_>, name: &str, others: &Table<'_>) -> bool
     rest.next().is_none()
 }
 
-/// Returns whether `other` is `value` without the entry or element that a segment selects. Returns false if there is no
-/// such entry or element.
+/// Returns whether `other` is `value` without the entry or element that `segment` names. Returns false if `value` has
+/// no such entry or element.
 fn gone(value: &Value<'_>, segment: &str, other: &Value<'_>) -> bool
     ensures { result ≡ spec.gone segment.now (inner_of (view value.now)) (inner_of (view other.now)) }
 {
@@ -211,7 +214,7 @@ fn item_last(items: &[Value<'_>], new: &Value<'_>, others: &[Value<'_>]) -> bool
     }
 }
 
-/// Returns whether `other` is the array `value` with the element `new` at its end.
+/// Returns whether `value` and `other` are arrays, and `other` is `value` with the element `new` at its end.
 fn last(value: &Value<'_>, new: &Value<'_>, other: &Value<'_>) -> bool
     ensures { result ≡ spec.last (view new.now) (inner_of (view value.now)) (inner_of (view other.now)) }
 {
@@ -221,8 +224,8 @@ fn last(value: &Value<'_>, new: &Value<'_>, other: &Value<'_>) -> bool
     }
 }
 
-/// Returns the next entry of `rest` whose name is not `name`, and advances `rest` beyond it. Returns `None` after the
-/// last entry.
+/// Returns the next entry of `rest` whose name is not `name`, and advances `rest` beyond this entry. Without such an
+/// entry, returns `None` and advances `rest` to its end.
 fn next_but<'v, 'de>(
     rest: &mut Iter<'v, Key<'de>, Value<'de>>,
     name: &str,
@@ -237,7 +240,7 @@ fn next_but<'v, 'de>(
     None
 }
 
-/// Returns whether two tables are equal except for the entry `name` of one and the entry `other_name` of the other.
+/// Returns whether `table` without the entry `name` equals `others` without the entry `other_name`.
 fn same_without(table: &Table<'_>, name: &str, others: &Table<'_>, other_name: &str) -> bool
     ensures { result ≡ same_members (spec.without name.now (members_view table.now.entries))
         (spec.without other_name.now (members_view others.now.entries)) }
@@ -257,7 +260,8 @@ fn same_without(table: &Table<'_>, name: &str, others: &Table<'_>, other_name: &
     next_but(&mut rest, other_name).is_none()
 }
 
-/// Returns whether `other` is the table `value` with the entry `name` renamed to `new`.
+/// Returns whether `other` is the table `value` with the entry `name` renamed to `new`. Returns false if `value` is not
+/// a table with this entry.
 fn renamed(value: &Value<'_>, name: &str, new: &str, other: &Value<'_>) -> bool
     ensures { result ≡ spec.renamed name.now new.now (inner_of (view value.now)) (inner_of (view other.now)) }
 {
@@ -272,7 +276,7 @@ fn renamed(value: &Value<'_>, name: &str, new: &str, other: &Value<'_>) -> bool
     }
 }
 
-/// A change of a value. A segment selects an entry if the value is a table, and an element if it is an array.
+/// A change of a value. In a table, a segment selects an entry; in an array, an element.
 #[derive(Clone, Copy)]
 pub(crate) enum Local<'l, 'v, 'de> {
     /// The value is replaced with this one.
@@ -281,14 +285,14 @@ pub(crate) enum Local<'l, 'v, 'de> {
     Gone(&'l str),
     /// This value is added as an entry with this name, or inserted as an element at this position.
     Put(&'l str, &'v Value<'de>),
-    /// This element is added at the end.
+    /// This element is added at the end of the array.
     Last(&'v Value<'de>),
     /// The entry with the first name gets the second name.
     Renamed(&'l str, &'l str),
 }
 
 impl Local<'_, '_, '_> {
-    /// Returns whether `other` is `value` with this change.
+    /// Returns whether `other` is `value` with this change made.
     fn holds(self, value: &Value<'_>, other: &Value<'_>) -> bool
         ensures { result ≡ spec.local self.entry (view value.now) (view other.now) }
     {
@@ -302,7 +306,8 @@ impl Local<'_, '_, '_> {
     }
 }
 
-/// Returns whether the tree `other` is `value` with a change at a path, and no other difference.
+/// Returns whether the tree `other` is the tree `value` with the change `local` made at `path`. Returns false if `path`
+/// names nothing in one of them.
 pub(crate) fn changed(
     path: &[&str],
     local: Local<'_, '_, '_>,
@@ -322,8 +327,8 @@ pub(crate) fn changed(
     }
 }
 
-/// Returns whether `value` is `new` inside nested tables, each of which has only one entry. `names` are the names of
-/// these entries, from the outermost table on.
+/// Returns whether `value` is `new` inside nested tables with one entry each. `names` are the names of these entries,
+/// from the outermost table inward.
 fn is_nested(names: &[&str], new: &Value<'_>, value: &Value<'_>) -> bool
     ensures { result ≡ same (spec.nested (map (λ s. s.now) names.now) (view new.now)) (view value.now) }
 {
@@ -342,8 +347,8 @@ fn is_nested(names: &[&str], new: &Value<'_>, value: &Value<'_>) -> bool
     }
 }
 
-/// Returns whether the tree `other` is `value` with `new` added at a path, which named nothing before, and with the
-/// tables that were missing on the way.
+/// Returns whether the tree `other` is the tree `value` with `new`, and the tables missing on the way, added at `path`.
+/// Returns false if `path` is empty or names something in `value`.
 pub(crate) fn added(path: &[&str], new: &Value<'_>, value: &Value<'_>, other: &Value<'_>) -> bool
     ensures { result ≡ spec.added (map (λ s. s.now) path.now) (view new.now) (view value.now) (view other.now) }
 {

@@ -17,29 +17,31 @@ pub(crate) enum Home<'s, 'de> {
 /// A place in the text that names the value at a path.
 #[derive(Clone, Copy)]
 pub(crate) enum Mention<'s, 'de> {
-    /// The section of the table itself. For the root, the section without a header.
+    /// The section of the table at the path. For the root, the section without a header.
     Own(&'s Section<'de>),
-    /// The section of a table inside the value. The part of the section's header with this index names the value.
+    /// The section of a table inside the value. The part of the section's header with this index names the value. For
+    /// the root, the index is 0.
     Below(&'s Section<'de>, usize),
     /// An assignment with a dotted key. The part of the key with this index, which is not the last part, names the
     /// value.
     Dotted(&'s Assignment<'de>, usize, Home<'s, 'de>),
     /// The assignment of the value.
     Assigned(&'s Assignment<'de>, Home<'s, 'de>),
-    /// The element of an array in brackets, with its index.
+    /// The element with this index of this array in brackets.
     Element(&'s Val<'de>, usize),
 }
 
-/// Where the table of a section is, relative to a path.
+/// Where the table of a section is, relative to the value at a path.
 enum Placement {
+    /// Neither on the way to the value, nor inside it.
     Apart,
     /// At the path or on the way to it: this many of the path's first segments name the table.
     Above(usize),
-    /// Inside the value at the path. The part of the header with this index names that value.
+    /// Inside the value. The part of the header with this index names the value; for the root, the index is 0.
     Below(usize),
 }
 
-/// Returns the part of a dotted key at `index`, or its last part if the key is shorter.
+/// Returns the part of a key at `index`, or the last part if the key has fewer.
 pub(crate) fn part_at<'s, 'de>(parts: &'s DottedKey<'de>, index: usize) -> &'s Key<'de> {
     if let Some(key) = parts.inner.get(index) {
         return key;
@@ -47,14 +49,13 @@ pub(crate) fn part_at<'s, 'de>(parts: &'s DottedKey<'de>, index: usize) -> &'s K
     &parts.last
 }
 
-/// Returns how many elements have been opened in the array of tables that the first `depth` segments of a path name, or
-/// 0 if `depth` is out of range.
+/// Returns `counts[depth]`, the number of elements opened so far in an array of tables (see `placement_of`). Returns 0
+/// if `depth` is out of range.
 fn count_at(counts: &[usize], depth: usize) -> usize {
     counts.get(depth).copied().unwrap_or(0)
 }
 
-/// Counts one more element of the array of tables that the first `depth` segments of a path name, and returns how many
-/// elements there were before. If `depth` is out of range, counts nothing and returns 0.
+/// Adds 1 to `counts[depth]`, and returns the number before. If `depth` is out of range, changes nothing and returns 0.
 fn count_up(counts: &mut Vec<usize>, depth: usize) -> usize {
     match counts.get_mut(depth) {
         Some(count) => {
@@ -66,9 +67,9 @@ fn count_up(counts: &mut Vec<usize>, depth: usize) -> usize {
     }
 }
 
-/// Returns where the table of a section is, relative to a path. `counts[n]` is the number of elements that have been
-/// opened in the array of tables that the first `n` segments of the path name. If the section opens an element of such
-/// an array, the function counts that element.
+/// Returns where the table of `section` is, relative to the value at `path`. `counts[n]` is the number of elements that
+/// earlier sections opened in the array of tables at the first `n` segments of `path`. If `section` opens one more,
+/// adds 1 to that number.
 fn placement_of(section: &Section<'_>, path: &[&str], counts: &mut Vec<usize>) -> Placement {
     let mut depth: usize = 0;
     let last = section.header.len().saturating_sub(1);
@@ -100,8 +101,8 @@ fn placement_of(section: &Section<'_>, path: &[&str], counts: &mut Vec<usize>) -
     Placement::Above(depth)
 }
 
-/// Compares the parts of a dotted key with the first segments of a path. Returns how many have been compared: all
-/// parts, or as many as the path has segments. Returns `None` if a part differs from its segment.
+/// Compares the parts of a key with the first segments of `path`, as far as both go. Returns how many were compared, or
+/// `None` if a part differs from its segment.
 fn common(parts: &DottedKey<'_>, path: &[&str]) -> Option<usize> {
     let count = parts.inner.len().saturating_add(1).min(path.len());
     for index in 0..count {
@@ -112,8 +113,8 @@ fn common(parts: &DottedKey<'_>, path: &[&str]) -> Option<usize> {
     Some(count)
 }
 
-/// Appends the mentions of a path in an assignment. `home` says where the assignment is. The path begins at the table
-/// around the assignment, and is not empty. Fails if an allocation fails.
+/// Appends to `out` the mentions of `path` in `assignment`, which is written at `home`. `path` begins at the table
+/// around `assignment`, and must not be empty. If an allocation fails, `out` has some of the mentions.
 #[cycle(push_inside)]
 fn push_assigned<'s, 'de>(
     assignment: &'s Assignment<'de>,
@@ -135,8 +136,7 @@ fn push_assigned<'s, 'de>(
     push_inside(&assignment.value, rest_of(path, count), out)
 }
 
-/// Appends a mention of the element of `array` at `index`, if `rest`, the path inside that element, is empty. Fails if
-/// an allocation fails.
+/// Appends to `out` a mention of the element of `array` at `index` if `rest`, the path inside this element, is empty.
 fn push_element<'s, 'de>(
     array: &'s Val<'de>,
     index: usize,
@@ -149,8 +149,8 @@ fn push_element<'s, 'de>(
     Ok(())
 }
 
-/// Appends the mentions of a path inside a value. The path begins at the value. If the path is empty, nothing is
-/// appended. Fails if an allocation fails.
+/// Appends to `out` the mentions of `path` inside `value`. `path` begins at `value`; if it is empty, appends nothing.
+/// If an allocation fails, `out` has some of the mentions.
 #[cycle(push_inside)]
 fn push_inside<'s, 'de>(
     value: &'s Val<'de>,
@@ -176,8 +176,8 @@ fn push_inside<'s, 'de>(
     Ok(())
 }
 
-/// Appends the mentions of a path in a section. If the section opens an element of an array of tables on the path,
-/// counts that element in `counts` (see `placement_of`). Fails if an allocation fails.
+/// Appends to `out` the mentions of `path` in `section`. Changes `counts` as `placement_of` does. If an allocation
+/// fails, `counts` is changed too, and `out` has some of the mentions.
 fn push_section<'s, 'de>(
     section: &'s Section<'de>,
     path: &[&str],
@@ -197,8 +197,8 @@ fn push_section<'s, 'de>(
     Ok(())
 }
 
-/// Returns the places that name the value at a path, in the order of the text. The list is empty if the document has no
-/// such value. Fails if an allocation fails.
+/// Returns the places in `sections` that name the value at `path`, in the order of the text. Returns an empty list if
+/// nothing names the value.
 pub(crate) fn mentions_of<'s, 'de>(
     alloc: Global,
     sections: &'s [Section<'de>],
@@ -212,8 +212,7 @@ pub(crate) fn mentions_of<'s, 'de>(
     Ok(out)
 }
 
-/// Returns whether a section opens an element of the array of tables that its header names up to the part at the index
-/// `part`.
+/// Returns whether the header of `section` has double brackets, and its last part has the index `part`.
 pub(crate) fn opens_element(section: &Section<'_>, part: usize) -> bool {
     section.array && part.saturating_add(1) == section.header.len()
 }

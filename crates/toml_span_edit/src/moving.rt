@@ -16,20 +16,21 @@ use toml_span_read::{Section, ValKind};
 /// A value to move: its text, with its comments.
 #[derive(Clone, Copy)]
 pub(crate) struct Moved<'s> {
-    /// The lines with only a comment that are directly above the value.
+    /// The comment lines directly above the value, line ends included.
     pub above: &'s str,
     pub value: &'s str,
-    /// The blanks and the comment after the value on its line.
+    /// The spaces, tabs and comment that follow the value on its line, without a comma.
     pub note: &'s str,
 }
 
-/// Returns the start of the comment lines directly above an assignment or element, whose span is `extent`.
+/// Returns the start of the comment lines directly above the line where `extent` begins. Without such lines, returns
+/// the start of that line.
 fn comments_start(text: &str, extent: Span) -> usize {
     comments_above(text, line_start(text, extent.start))
 }
 
-/// Returns the value at a path with its comments, or `None` if the value is not written as a literal. Fails if an
-/// allocation fails.
+/// Returns the value at `path` with its comments. Returns `None` if `path` names nothing, or if the value is not
+/// written as a literal.
 pub(crate) fn moved_value<'s>(
     document: Document<'s, '_>,
     path: &[&str],
@@ -53,8 +54,8 @@ pub(crate) fn moved_value<'s>(
     Ok(Some(Moved { above, value, note }))
 }
 
-/// Returns the span of the assignment or element that a mention names, if comments above it move with it: an assignment
-/// on its own line, or an element of an array in brackets. Returns `None` for any other mention.
+/// Returns the span of the assignment on a line, or of the element of an array in brackets, that `mention` names.
+/// Returns `None` for any other mention.
 fn extent_of(text: &str, mention: &Mention<'_, '_>) -> Option<Span> {
     match *mention {
         Mention::Assigned(assignment, Home::Lines) => Some(assignment.extent),
@@ -63,8 +64,8 @@ fn extent_of(text: &str, mention: &Mention<'_, '_>) -> Option<Span> {
     }
 }
 
-/// Adds to `plan` the removal of the comment lines directly above the value at a path, which move with the value. Fails
-/// if an allocation fails.
+/// Adds to `plan` the removal of the comment lines directly above the assignment or array element at `path`. Adds
+/// nothing for any other value, or for an element that does not begin a line.
 pub(crate) fn cut_comments(
     document: Document<'_, '_>,
     path: &[&str],
@@ -85,7 +86,7 @@ pub(crate) fn cut_comments(
     Ok(())
 }
 
-/// Returns whether the value at a path is an array, in brackets or of tables. Fails if an allocation fails.
+/// Returns whether the value at `path` is an array, in brackets or of tables. Returns false if `path` names nothing.
 fn is_array(document: Document<'_, '_>, path: &[&str]) -> Result<bool, AllocError> {
     let mentions = document.mentions(path)?;
     if let Some(value) = written(mentions.as_slice()) {
@@ -97,9 +98,8 @@ fn is_array(document: Document<'_, '_>, path: &[&str]) -> Result<bool, AllocErro
     })
 }
 
-/// Adds to `plan` the changes that put the value `moved` at a path: as an element if the path leads into an array,
-/// otherwise as an entry of a table. Fails with the reason if that is not possible, and with `Stop::Memory` if an
-/// allocation fails.
+/// Adds to `plan` the changes that put the value `moved` at `path`: as an element if `path` leads into an array,
+/// otherwise as an entry of a table. Fails with a reason if this is not possible.
 pub(crate) fn put_moved(
     document: Document<'_, '_>,
     path: &[&str],
@@ -120,8 +120,8 @@ pub(crate) fn put_moved(
     add_lines(document, path, moved, plan)
 }
 
-/// Returns the text of a header for a table at a path, without the brackets, if that table goes into the root or into a
-/// table that headers define. Returns `None` otherwise, and for an empty path. Fails if an allocation fails.
+/// Returns a header, without brackets, for a table at `path`. Returns `None` if `path` is empty, or if the table around
+/// `path` is neither the root nor named first by a header.
 fn new_header(document: Document<'_, '_>, path: &[&str]) -> Result<Option<String>, AllocError> {
     let [front @ .., name] = path else {
         return Ok(None);
@@ -141,8 +141,8 @@ fn new_header(document: Document<'_, '_>, path: &[&str]) -> Result<Option<String
     Ok(Some(format!(in document.alloc; "{table}.{key}")?))
 }
 
-/// Returns the span of a section's header from its first part to the part at `index`, quotes included. Returns the span
-/// of the whole header if it does not have that part.
+/// Returns the span of a section's header from the first part to the part at `index`, quotes included. Returns the span
+/// of the header's line if the header has no such part.
 fn header_span(text: &str, section: &Section<'_>, index: usize) -> Span {
     let keys = section.header.as_slice();
     match (keys.first(), keys.get(index)) {
@@ -154,10 +154,9 @@ fn header_span(text: &str, section: &Section<'_>, index: usize) -> Span {
     }
 }
 
-/// Adds to `plan` the changes that write `target` instead of `path` in the headers of the table or array of tables at
-/// `path`, and in those of the tables inside it. Fails with `NotSpelled` if `path` names an element of an array, or if
-/// anything but headers defines the value at `path` or the table around `target`. Fails with `Stop::Memory` if an
-/// allocation fails.
+/// Adds to `plan` the changes that write `target` instead of `path` in the headers of the table, or array of tables, at
+/// `path`, and of the tables inside it. Fails with `NotSpelled` if `path` leads to an array element, if anything but
+/// headers names the value at `path`, or if `new_header` returns `None` for `target`.
 pub(crate) fn rename_headers(
     document: Document<'_, '_>,
     path: &[&str],

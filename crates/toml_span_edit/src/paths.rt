@@ -14,16 +14,16 @@ use toml_span::Stop;
 use toml_span::value::Step;
 use toml_span_places::{PathError, path_segments};
 
-/// Returns where a path can't be read, and why: `column 3: expected a key`. Columns count characters from 1. Fails if
-/// an allocation fails.
+/// Returns the column and the message of `error`, with which reading `path` failed, such as `column 3: expected a key`.
+/// Columns count characters from 1. Fails if an allocation fails.
 pub fn path_error_text(alloc: Global, path: &str, error: &PathError) -> Result<String, AllocError> {
     let before = path.char_indices().filter(|(at, _)| *at < error.at).count();
     let column = before.saturating_add(1);
     format!(in alloc; "column {column}: {error}")
 }
 
-/// Returns the segments of a path, which is a pointer such as `/a/0` or a dotted key such as `a[0]`. Fails with
-/// `WrongPath` if the path is neither, and with `Stop::Memory` if an allocation fails.
+/// Returns the segments of `path`, a pointer such as `/a/0` or a dotted key such as `a[0]`. Fails with `WrongPath` if
+/// `path` can't be read.
 pub(crate) fn segments_of<'p>(alloc: Global, path: &'p str) -> Result<Vec<CowStr<'p>>, Stop<Reason>>
     ensures { IfOk result (λ segments. IsPath path.now (Ok (map cow_str_bytes segments.items))) }
 {
@@ -37,8 +37,8 @@ pub(crate) fn segments_of<'p>(alloc: Global, path: &'p str) -> Result<Vec<CowStr
     }
 }
 
-/// Returns the position that a segment spells, without a sign and without leading zeros. Returns `None` for any other
-/// segment, and for a number that does not fit into a `usize`.
+/// Returns the position that `segment` spells, in digits without a sign and without leading zeros. Returns `None` for
+/// any other segment, and for a number that does not fit into a `usize`.
 pub(crate) fn position(segment: &str) -> Option<usize>
     ensures { PositionIs result (position_of segment.now) }
 {
@@ -63,7 +63,7 @@ pub(crate) fn front_of<'p, 'e>(path: &'p [&'e str], count: usize) -> &'p [&'e st
     path.get(..count).unwrap_or(path)
 }
 
-/// Returns whether the segment of a path at `index` is `segment`. Returns false if the path is too short.
+/// Returns whether the segment of `path` at `index` is `segment`. Returns false if `path` is too short.
 pub(crate) fn has_segment(path: &[&str], index: usize, segment: &str) -> bool {
     match path.get(index) {
         Some(other) => *other == segment,
@@ -71,7 +71,7 @@ pub(crate) fn has_segment(path: &[&str], index: usize, segment: &str) -> bool {
     }
 }
 
-/// Returns whether the segment of a path at `index` spells the position `at`. Returns false if the path is too short.
+/// Returns whether the segment of `path` at `index` spells the position `at`. Returns false if `path` is too short.
 pub(crate) fn has_position(path: &[&str], index: usize, at: usize) -> bool {
     match path.get(index) {
         Some(segment) => position(*segment) == Some(at),
@@ -79,7 +79,7 @@ pub(crate) fn has_position(path: &[&str], index: usize, at: usize) -> bool {
     }
 }
 
-/// Returns whether a segment names `step`: whether it is the name of the key, or spells the position of the element.
+/// Returns whether `segment` is the name of the key `step`, or spells the position `step`.
 fn is_step(segment: &str, step: Step<'_>) -> bool
     ensures { result ≡ spec.is_step segment.now (step_of step.entry) }
 {
@@ -105,7 +105,8 @@ pub(crate) fn names_steps(path: &[&str], steps: &[Step<'_>]) -> bool
     is_step(*segment, *step) && names_steps(path, steps)
 }
 
-/// Returns whether each segment of a path names the step at the same index. There may be more steps than segments.
+/// Returns whether each segment of `path` names the step at the same index. There may be more steps than segments, but
+/// not fewer.
 pub(crate) fn names_first(path: &[&str], steps: &[Step<'_>]) -> bool
     ensures { result ≡ spec.names_first (map (λ s. s.now) path.now) (map step_of steps.now) }
 {

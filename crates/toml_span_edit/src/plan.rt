@@ -16,7 +16,8 @@ pub(crate) struct Piece {
     pub text: String,
 }
 
-/// Replacements in a text. They must be in the order of the text, and their spans must not overlap.
+/// Replacements in a text. They must be in the order of the text, and their spans must not overlap. A function that
+/// fails to add several may have added some.
 #[derive(Drop)]
 pub(crate) struct Plan {
     alloc: Global,
@@ -32,19 +33,19 @@ impl Plan {
         }
     }
 
-    /// Adds the replacement of a span with a text. Fails if an allocation fails.
+    /// Adds the replacement of `span` with `text`.
     pub(crate) fn put(&mut self, span: Span, text: String) -> Result<(), AllocError> {
         self.pieces.push(Piece { span, text })?;
         Ok(())
     }
 
-    /// Adds the removal of a span. Fails if an allocation fails.
+    /// Adds the removal of `span`.
     pub(crate) fn cut(&mut self, span: Span) -> Result<(), AllocError> {
         let text = String::new(self.alloc);
         self.put(span, text)
     }
 
-    /// Returns the replacements, with their texts borrowed. Fails if an allocation fails.
+    /// Returns the replacements, with their texts borrowed.
     fn replacements(&self) -> Result<Vec<Replacement<'_>>, AllocError> {
         let mut list = Vec::with_capacity(self.alloc, self.pieces.len())?;
         for piece in &self.pieces {
@@ -56,16 +57,15 @@ impl Plan {
         Ok(list)
     }
 
-    /// Returns the text with the replacements made. Fails with `WouldDiffer` if a span is invalid, or overlaps or
-    /// precedes an earlier one, and with `Stop::Memory` if an allocation fails.
+    /// Returns `text` with the replacements made. Fails with `WouldDiffer` if a span is invalid, or overlaps or
+    /// precedes an earlier one.
     pub(crate) fn applied(&self, text: &str) -> Result<String, Stop<Reason>> {
         let list = self.replacements()?;
         with_replaced(self.alloc, text, list.as_slice())
     }
 
-    /// Returns the text with the replacements made. Fails with `WouldDiffer` if a replacement replaces anything but
-    /// white space, or if a span is invalid, or overlaps or precedes an earlier one, and with `Stop::Memory` if an
-    /// allocation fails.
+    /// Returns `text` with the replacements made. Fails with `WouldDiffer` if a replacement replaces anything but
+    /// blanks and line ends, or if a span is invalid, or overlaps or precedes an earlier one.
     pub(crate) fn inserted(&self, text: &str) -> Result<String, Stop<Reason>>
         ensures { IfOk result (λ new. spec.IsInserted text.now (string_bytes new)) }
     {
@@ -76,9 +76,8 @@ impl Plan {
         with_replaced(self.alloc, text, list.as_slice())
     }
 
-    /// Returns the text with the replacements made. Fails with `WouldDiffer` if a replacement replaces anything but a
-    /// part of a header, or if a span is invalid, or overlaps or precedes an earlier one, and with `Stop::Memory` if an
-    /// allocation fails.
+    /// Returns `text` with the replacements made. Fails with `WouldDiffer` if a replacement replaces anything but a
+    /// part of a header, or if a span is invalid, or overlaps or precedes an earlier one.
     pub(crate) fn in_headers(&self, text: &str) -> Result<String, Stop<Reason>>
         ensures { IfOk result (λ new. spec.AreHeadersReplaced text.now (string_bytes new)) }
     {
@@ -90,8 +89,8 @@ impl Plan {
     }
 }
 
-/// Returns the text with these replacements made. Fails with `WouldDiffer` if a span is invalid, or overlaps or
-/// precedes an earlier one, and with `Stop::Memory` if an allocation fails.
+/// Returns `text` with the replacements in `list` made. Fails with `WouldDiffer` if a span is invalid, or overlaps or
+/// precedes an earlier one.
 fn with_replaced(
     alloc: Global,
     text: &str,

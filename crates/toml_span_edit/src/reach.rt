@@ -35,7 +35,8 @@ fn hull(one: Span, other: Span) -> Span
     }
 }
 
-/// Returns the smallest span that contains the literals of a value and of all values inside it, and the keys inside it.
+/// Returns the smallest span that contains the literals of `value` and of all values inside it, and the spans of the
+/// keys inside it.
 #[cycle(reach)]
 fn reach(text: &str, value: &Value<'_>) -> Span
     ensures { result ≡ spec.reach text.now (view value.now) }
@@ -51,7 +52,7 @@ fn reach(text: &str, value: &Value<'_>) -> Span
     }
 }
 
-/// Returns the smallest span that contains `own` and each element, with all literals and keys inside it.
+/// Returns the smallest span that contains `own` and the span that `reach` returns for each of `items`.
 #[cycle(reach)]
 fn items_reach(text: &str, own: Span, items: &[Value<'_>]) -> Span
     ensures { result ≡ spec.items_reach text.now own (items_view items.now) }
@@ -63,8 +64,8 @@ fn items_reach(text: &str, own: Span, items: &[Value<'_>]) -> Span
     span
 }
 
-/// Returns the smallest span that contains `own` and each entry: its key, and its value with all literals and keys
-/// inside.
+/// Returns the smallest span that contains `own` and, for each entry of `table`, the key's span and the span that
+/// `reach` returns for the value.
 #[cycle(reach)]
 fn entries_reach(text: &str, own: Span, table: &Table<'_>) -> Span
     ensures { result ≡ spec.members_reach text.now own (members_view table.now.entries) }
@@ -76,7 +77,7 @@ fn entries_reach(text: &str, own: Span, table: &Table<'_>) -> Span
     span
 }
 
-/// Returns the value of the entry with this name, with the span of its key, or `None` if there is no such entry.
+/// Returns the value of the entry `name`, and the span of its key. Returns `None` if the table lacks this entry.
 fn entry<'v, 'de>(table: &'v Table<'de>, name: &str) -> Option<(Option<Span>, &'v Value<'de>)>
     ensures { option_map (λ e. (e.0, view e.1.now)) result ≡ entry_at name.now (members_view table.now.entries) }
 {
@@ -88,8 +89,8 @@ fn entry<'v, 'de>(table: &'v Table<'de>, name: &str) -> Option<(Option<Span>, &'
     None
 }
 
-/// Returns the entry or element that a segment names, with the span of its key if it is an entry. Returns `None` if the
-/// segment names nothing.
+/// Returns the element, or the value of the entry, that `segment` names in `value`. An entry comes with the span of its
+/// key. Returns `None` if `segment` names nothing.
 fn named<'v, 'de>(value: &'v Value<'de>, segment: &str) -> Option<(Option<Span>, &'v Value<'de>)>
     ensures { option_map (λ e. (e.0, view e.1.now)) result ≡ spec.named segment.now (inner_of (view value.now)) }
 {
@@ -102,7 +103,7 @@ fn named<'v, 'de>(value: &'v Value<'de>, segment: &str) -> Option<(Option<Span>,
     }
 }
 
-/// Returns the smallest span that contains `span` and the span of the key, if there is a key.
+/// Returns the smallest span that contains `span` and, if there is one, the span `key`.
 fn with_key(key: Option<Span>, span: Span) -> Span
     ensures { result ≡ spec.with_key key span }
 {
@@ -112,7 +113,7 @@ fn with_key(key: Option<Span>, span: Span) -> Span
     }
 }
 
-/// Returns the start of the line that contains the offset `at`.
+/// Returns the start of the line that contains the byte offset `at`.
 pub(crate) fn line_start(text: &str, at: usize) -> usize
     ensures { result ≡ spec.line_start text.now at }
 {
@@ -123,8 +124,8 @@ pub(crate) fn line_start(text: &str, at: usize) -> usize
     start
 }
 
-/// Returns the offset after the first line feed at or after the offset `from`. Without such a line feed, returns the
-/// length of the text or, if larger, `from`.
+/// Returns the byte offset after the first line feed at or after the offset `from`. Without such a line feed, returns
+/// the length of `text` or, if larger, `from`.
 fn after_line(text: &str, from: usize) -> usize
     ensures { result ≡ after_line text.now from }
 {
@@ -137,8 +138,8 @@ fn after_line(text: &str, from: usize) -> usize
     bytes.len().max(from)
 }
 
-/// Returns the end of the line that contains the byte before the offset `end`, line end included. Returns 0 if `end` is
-/// 0.
+/// Returns the end of the line that contains the byte before the byte offset `end`, line end included. Returns 0 if
+/// `end` is 0.
 fn lines_end(text: &str, end: usize) -> usize
     ensures { result ≡ spec.lines_end text.now end }
 {
@@ -148,7 +149,7 @@ fn lines_end(text: &str, end: usize) -> usize
     after_line(text, end)
 }
 
-/// Returns the span of the whole lines that contain a span, including the last line end.
+/// Returns the span of the whole lines that contain `span`, including the last line end.
 fn lines_around(text: &str, span: Span) -> Span
     ensures { result ≡ spec.lines_around text.now span }
 {
@@ -158,7 +159,7 @@ fn lines_around(text: &str, span: Span) -> Span
     }
 }
 
-/// Returns whether a byte opens a literal of this value: `[` for an array, `{` for a table.
+/// Returns whether `value` is an array and `byte` is `[`, or `value` is a table and `byte` is `{`.
 fn opens(value: &Value<'_>, byte: u8) -> bool
     ensures { result ≡ spec.opens (inner_of (view value.now)) byte }
 {
@@ -168,7 +169,7 @@ fn opens(value: &Value<'_>, byte: u8) -> bool
     value.as_table().is_some() && byte == b'{'
 }
 
-/// Returns the span between the brackets or braces of a value, if they contain `span`. Otherwise returns `outer`.
+/// Returns the span between the brackets or braces of `value`, if they contain `span`. Otherwise returns `outer`.
 fn held_in(text: &str, value: &Value<'_>, span: Span, outer: Option<Span>) -> Option<Span>
     ensures { result ≡ spec.held_in text.now (view value.now) span outer }
 {
@@ -180,9 +181,9 @@ fn held_in(text: &str, value: &Value<'_>, span: Span, outer: Option<Span>) -> Op
     outer
 }
 
-/// Returns the span in which the value at a path is written: from its first to its last line or, if brackets or braces
-/// are around it, the span between the innermost pair of these. Returns `None` if the path is empty or names nothing.
-/// The path begins at `value`; `outer` is the span between the brackets or braces around `value`, if there are any.
+/// Returns the span between the innermost brackets or braces around the value at `path` or, without these, the span of
+/// the value's lines. Returns `None` if `path` is empty or names nothing. `path` begins at `value`, and `outer` is the
+/// span between the brackets or braces around `value`, if any.
 fn room(text: &str, path: &[&str], outer: Option<Span>, value: &Value<'_>) -> Option<Span>
     ensures { result ≡ spec.room text.now (map (λ s. s.now) path.now) outer (view value.now) }
 {
@@ -198,8 +199,8 @@ fn room(text: &str, path: &[&str], outer: Option<Span>, value: &Value<'_>) -> Op
     room(text, rest, held, below)
 }
 
-/// Returns the smallest span that contains `span` and the lines of each section of the table at a path or of a table
-/// inside that table.
+/// Returns the smallest span that contains `span` and the lines of each section in `places` whose path begins with
+/// `path`.
 fn with_sections(text: &str, path: &[&str], span: Span, places: &[SectionPlace<'_>]) -> Span
     ensures { result ≡ spec.with_sections text.now (map (λ s. s.now) path.now) span
         (map section_mention places.now) }
@@ -213,9 +214,9 @@ fn with_sections(text: &str, path: &[&str], span: Span, places: &[SectionPlace<'
     around
 }
 
-/// Returns a span that contains the whole value at a path: the lines of the value and of its sections or, if brackets
-/// or braces are around it, the span between the innermost pair of these. `value` is the tree of the document. Fails
-/// with `Nothing` if the path is empty or names nothing, and with `Stop::Memory` if an allocation fails.
+/// Returns a span that contains the whole value at `path`: the span that `room` returns, and the lines of the sections
+/// of this value and of the tables inside it. `value` is the tree of `document`. Fails with `Nothing` if `path` is
+/// empty or names nothing.
 pub(crate) fn around(
     document: Document<'_, '_>,
     path: &[&str],

@@ -14,10 +14,10 @@ pub enum Reason {
     WrongPath(String),
     /// There is no value at the path.
     Nothing,
-    /// The new value is not a TOML value. For a bare word, the string is what was probably meant, quoted for a shell
-    /// and followed by a question mark, to complete `did you mean`.
+    /// The new value is not a TOML value. For a word such as `abc`, the string is `'"abc"'?`: what was probably meant,
+    /// quoted for a shell, to complete `did you mean`.
     NoValue(Option<String>),
-    /// Headers or dotted keys define the value at the path.
+    /// Headers or dotted keys define the value at the path, or the path leads to the root.
     NotSpelled,
     /// The path does not name a key.
     NoKey,
@@ -28,7 +28,7 @@ pub enum Reason {
     /// The value to which an element would be added is not an array, or the array does not have the position in the
     /// path.
     NoArray,
-    /// A new element of an array of tables must be written as an inline table.
+    /// The new element of an array of tables is not written as an inline table.
     NoInlineTable,
     /// The result would not be valid TOML. The string is its error with line and column.
     WouldBeNone(String),
@@ -37,7 +37,7 @@ pub enum Reason {
 }
 
 impl Reason {
-    /// Returns the reason as text. If `detail` is not empty, it continues this text.
+    /// Returns the reason as text. If `detail` returns a string that is not empty, that string continues this text.
     pub fn text(&self) -> &'static str {
         match self {
             Reason::TooLong => "the file is larger than 16 MiB",
@@ -63,8 +63,8 @@ impl Reason {
         }
     }
 
-    /// Returns the detail that follows the reason: the place and the message of an error, or the string that was
-    /// probably meant. Returns an empty text for other reasons.
+    /// Returns the string in the reason, which continues `text`: the place and message of an error, or the string that
+    /// was probably meant. Returns an empty string for other reasons.
     pub fn detail(&self) -> &str {
         match self {
             Reason::NoDocument(fault) => fault.as_str(),

@@ -18,8 +18,8 @@ struct Run<'s, 'de> {
     last: usize,
 }
 
-/// Returns the item to remove for a mention in brackets or braces, as a run of one item. Returns `None` for a mention
-/// on lines.
+/// Returns the item that a mention in brackets or braces names, as a run of one item. Returns `None` for a mention on
+/// lines.
 fn run_of<'s, 'de>(mention: &Mention<'s, 'de>) -> Option<Run<'s, 'de>> {
     let (list, index) = match *mention {
         Mention::Dotted(_, _, Home::Braces(list, index)) => (list, index),
@@ -59,7 +59,7 @@ fn joined<'s, 'de>(run: Run<'s, 'de>, next: Run<'s, 'de>) -> Option<Run<'s, 'de>
     }
 }
 
-/// Adds to `plan` the removal of the items of a run. Does nothing for `None`. Fails if an allocation fails.
+/// Adds to `plan` the removal of the items of a run. Does nothing for `None`.
 fn cut_run(text: &str, run: Option<Run<'_, '_>>, plan: &mut Plan) -> Result<(), AllocError> {
     match run {
         Some(run) => cut_items(text, run.list, run.first, run.last, plan),
@@ -67,7 +67,7 @@ fn cut_run(text: &str, run: Option<Run<'_, '_>>, plan: &mut Plan) -> Result<(), 
     }
 }
 
-/// Adds to `plan` the removal of the lines and items of these mentions. Fails if an allocation fails.
+/// Adds to `plan` the removal of the lines and items that `mentions` name.
 fn cut_all(text: &str, mentions: &[Mention<'_, '_>], plan: &mut Plan) -> Result<(), AllocError> {
     let mut open = None;
     for mention in mentions {
@@ -88,7 +88,8 @@ fn cut_all(text: &str, mentions: &[Mention<'_, '_>], plan: &mut Plan) -> Result<
     cut_run(text, open, plan)
 }
 
-/// Returns whether a mention names a table only on the way to another value, and does not define the table.
+/// Returns whether a mention names a table only on the way to a value inside the table, by a longer header or a dotted
+/// key.
 fn passes(mention: &Mention<'_, '_>) -> bool {
     match *mention {
         Mention::Below(_, _) => true,
@@ -97,14 +98,14 @@ fn passes(mention: &Mention<'_, '_>) -> bool {
     }
 }
 
-/// Returns whether a table exists only because of one value in it: no header and no braces define it. `table` has the
-/// mentions of the table, and `values` is the number of mentions of the value.
+/// Returns whether a table exists only because of one value in it. `table` has the mentions of the table, and `values`
+/// is the number of mentions of the value.
 fn is_implied(table: &[Mention<'_, '_>], values: usize) -> bool {
     table.len() == values && table.iter().all(|mention| passes(mention))
 }
 
 /// Adds to `plan` the change that writes an empty table in place of the mention `table`: a header without entries, or a
-/// dotted key with `{}`. Does nothing for a mention other than `Below` and `Dotted`. Fails if an allocation fails.
+/// dotted key with `{}`. Does nothing for a mention other than `Below` and `Dotted`.
 fn keep_table(
     document: Document<'_, '_>,
     table: &Mention<'_, '_>,
@@ -140,9 +141,9 @@ fn keep_table(
     }
 }
 
-/// Adds to `plan` the removal of the value at a path. A table that exists only because of this value stays as an empty
-/// table, written as a header or as `{}`. Fails with the reason if that is not possible, and with `Stop::Memory` if an
-/// allocation fails.
+/// Adds to `plan` the removal of the value at `path`. A table that exists only because of this value stays as an empty
+/// table, written as a header or as `{}`. Fails with `WouldDiffer` for the root, and with `Nothing` if `path` names
+/// nothing.
 pub(crate) fn remove(
     document: Document<'_, '_>,
     path: &[&str],

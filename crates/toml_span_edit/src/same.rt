@@ -5,8 +5,8 @@ ghost use Rattle.toml_span_edit.specs.Same as spec;
 
 use toml_span::value::{Table, Value, ValueInner};
 
-/// Returns whether two trees have the same keys and values at the same paths. Spans are ignored, and so is the spelling
-/// of values, except that floats and dates are compared by their texts.
+/// Returns whether two trees have the same keys and values at the same paths. Spans and the spelling of strings and
+/// integers are ignored. Floats and dates are compared by their texts. A taken value equals only another taken value.
 #[cycle(same)]
 pub fn same_tree(tree: &Value<'_>, other: &Value<'_>) -> bool
     ensures { result ≡ spec.same (view tree.now) (view other.now) }
@@ -28,7 +28,7 @@ pub fn same_tree(tree: &Value<'_>, other: &Value<'_>) -> bool
     }
 }
 
-/// Returns whether both values are scalars of the same kind, and equal.
+/// Returns whether both values are equal scalars of the same kind. Floats and dates are compared by their texts.
 fn same_scalar(inner: &ValueInner<'_>, other: &ValueInner<'_>) -> bool
     ensures { result ≡ spec.same_scalars (inner_view inner.now) (inner_view other.now) }
 {
@@ -59,7 +59,7 @@ pub(crate) fn same_items(items: &[Value<'_>], others: &[Value<'_>]) -> bool
     rest.next().is_none()
 }
 
-/// Returns whether two tables have the same entries: the same names with the same values.
+/// Returns whether two tables have the same names with the same values.
 #[cycle(same)]
 fn same_entries(table: &Table<'_>, others: &Table<'_>) -> bool
     ensures { result ≡ spec.same_members (members_view table.now.entries) (members_view others.now.entries) }

@@ -25,12 +25,11 @@ pub(crate) enum Written {
     Literal,
     /// By headers or dotted keys.
     Otherwise,
-    /// Not at all: there is nothing at the path.
+    /// Not at all: nothing in the text names it.
     Nowhere,
 }
 
-/// Returns how the value at a path is written. Fails with `WouldDiffer` if the text can't be split into sections, and
-/// with `Stop::Memory` if an allocation fails.
+/// Returns how the value at `path` is written. Fails with `WouldDiffer` if `text` can't be split into sections.
 pub(crate) fn how_written(
     alloc: Global,
     text: &str,
@@ -53,8 +52,7 @@ pub(crate) fn how_written(
     })
 }
 
-/// Returns the text with `new` in place of a span. Fails with `WouldDiffer` if the span is not a part of the text, and
-/// with `Stop::Memory` if an allocation fails.
+/// Returns `text` with `new` in place of `span`. Fails with `WouldDiffer` if `span` is not a valid span of `text`.
 fn with_span_replaced(
     alloc: Global,
     text: &str,
@@ -69,8 +67,8 @@ fn with_span_replaced(
     }
 }
 
-/// Returns the text with `value` written over the literal of the value at a path. `old` is the tree of the text. Fails
-/// with `Nothing` if the path names nothing, and with `Stop::Memory` if an allocation fails.
+/// Returns `text` with `value` in place of the literal at `path`. `old` is the tree of `text`. Fails with `Nothing` if
+/// `path` names nothing, and with `WouldDiffer` if the literal's span is not valid in `text`.
 pub(crate) fn write_over(
     alloc: Global,
     text: &str,
@@ -87,9 +85,9 @@ pub(crate) fn write_over(
     }
 }
 
-/// Returns the text with the TOML value `value` written over the value at a path. `old` is the tree of the text. Fails
-/// with `NoValue` if `value` is not a TOML value, with `Nothing` if the path names nothing, with `NotSpelled` if
-/// headers or dotted keys define the value at the path, and with `Stop::Memory` if an allocation fails.
+/// Returns `text` with the TOML value `value` written over the value at `path`. `old` is the tree of `text`. Fails with
+/// `NoValue` if `value` is not a TOML value, with `Nothing` if `path` names nothing, and with `NotSpelled` for the root
+/// and for a value that headers or dotted keys define.
 pub(crate) fn set_text(
     alloc: Global,
     text: &str,
@@ -110,8 +108,7 @@ pub(crate) fn set_text(
 
 // ---- keys
 
-/// Returns the spans of the keys in `places` that name the value at a path, quotes included. Fails if an allocation
-/// fails.
+/// Returns the spans of the keys in `places` that name the value at `path`, quotes included.
 fn keys_at(alloc: Global, path: &[&str], places: &[KeyPlace<'_>]) -> Result<Vec<Span>, AllocError>
     ensures { IfOk result (λ spans. spans.items
         ≡ spec.keys_at (map (λ s. s.now) path.now) (map key_mention places.now)) }
@@ -125,7 +122,7 @@ fn keys_at(alloc: Global, path: &[&str], places: &[KeyPlace<'_>]) -> Result<Vec<
     Ok(spans)
 }
 
-/// Returns the spans of all keys that name the value at a path, quotes included. Fails if an allocation fails.
+/// Returns the spans of all keys in `document` that name the value at `path`, quotes included.
 fn key_spans(document: Document<'_, '_>, path: &[&str]) -> Result<Vec<Span>, AllocError>
     ensures { IfOk result (λ spans. spans.items ≡ spec.keys_at (map (λ s. s.now) path.now)
         (document_keys document.entry.text.now (map parsed_section document.entry.sections.now))) }
@@ -134,8 +131,8 @@ fn key_spans(document: Document<'_, '_>, path: &[&str]) -> Result<Vec<Span>, All
     keys_at(document.alloc, path, places.as_slice())
 }
 
-/// Returns the text with `key` in place of each of the spans. Fails with `WouldDiffer` if the spans are not parts of
-/// the text, overlap, or are not in the order of the text, and with `Stop::Memory` if an allocation fails.
+/// Returns `text` with `key` in place of each of `spans`. Fails with `WouldDiffer` if a span is not valid in `text`, or
+/// if the spans overlap or are not in the order of the text.
 fn with_spans(alloc: Global, text: &str, spans: &[Span], key: &str) -> Result<String, Stop<Reason>>
     ensures { IfOk result (λ new. places.replaced text.now (map (λ span. (span, key.now)) spans.now)
         ≡ Some (string_bytes new)) }
@@ -146,8 +143,8 @@ fn with_spans(alloc: Global, text: &str, spans: &[Span], key: &str) -> Result<St
     }
 }
 
-/// Returns the text with `key` in place of all keys that name the value at a path. Fails with `WouldDiffer` if the keys
-/// can't be replaced, and with `Stop::Memory` if an allocation fails.
+/// Returns the text of `document` with `key` in place of all keys that name the value at `path`. Fails with
+/// `WouldDiffer` if the spans of the keys can't be replaced.
 fn with_key(document: Document<'_, '_>, path: &[&str], key: &str) -> Result<String, Stop<Reason>>
     ensures { IfOk result (λ new. places.replaced document.entry.text.now (map (λ span. (span, key.now))
         (spec.keys_at (map (λ s. s.now) path.now) (document_keys document.entry.text.now
@@ -157,8 +154,8 @@ fn with_key(document: Document<'_, '_>, path: &[&str], key: &str) -> Result<Stri
     with_spans(document.alloc, document.text, spans.as_slice(), key)
 }
 
-/// Checks that keys name the value at a path. Fails with `NoKey` for the root and for an element of an array, with
-/// `Nothing` if the path names nothing, and with `Stop::Memory` if an allocation fails.
+/// Checks that keys name the value at `path`. Fails with `NoKey` for the root and for an element of an array, and with
+/// `Nothing` if `path` names nothing.
 fn check_keys(document: Document<'_, '_>, path: &[&str]) -> Result<(), Stop<Reason>> {
     if path.is_empty() {
         return Err(Stop::Fault(Reason::NoKey));
@@ -177,9 +174,9 @@ fn check_keys(document: Document<'_, '_>, path: &[&str]) -> Result<(), Stop<Reas
     Ok(())
 }
 
-/// Returns the text with the key `name` in place of all keys that name the value at a path. Fails with `Nothing` if the
-/// path names nothing, with `NoKey` if the value is the root or an element of an array, and with `Stop::Memory` if an
-/// allocation fails.
+/// Returns the text of `document` with the key `name` in place of all keys that name the value at `path`. Fails with
+/// `NoKey` for the root and for an element of an array, with `Nothing` if `path` names nothing, and with `WouldDiffer`
+/// if the keys can't be replaced.
 fn rename_keys(
     document: Document<'_, '_>,
     path: &[&str],
@@ -194,9 +191,9 @@ fn rename_keys(
     with_key(document, path, key.as_str())
 }
 
-/// Returns the text with the key `name` in place of all keys that name the value at a path. Fails with `WouldDiffer` if
-/// the text can't be split into sections, with `Nothing` if the path names nothing, with `NoKey` if the value is the
-/// root or an element of an array, and with `Stop::Memory` if an allocation fails.
+/// Returns `text` with the key `name` in place of all keys that name the value at `path`. Fails with `NoKey` for the
+/// root and for an element of an array, with `Nothing` if `path` names nothing, and with `WouldDiffer` if `text` can't
+/// be split into sections or the keys can't be replaced.
 pub(crate) fn renamed_text(
     alloc: Global,
     text: &str,

@@ -17,24 +17,25 @@ use std::alloc::{AllocError, Global};
 use toml_span::value::Value;
 use toml_span::{Error, Stop, parse};
 
-/// Where a new value goes, relative to a path: `Here` at the path, `Under` a key or position in the table or array
-/// there, or at the `End` of the array there.
+/// Where a new value goes, relative to the value at a path.
 #[derive(Clone, Copy)]
 pub(crate) enum Spot<'l> {
+    /// In its place.
     Here,
+    /// In the table at the path, under this key, or in the array there, at this position.
     Under(&'l str),
+    /// At the end of the array at the path.
     End,
 }
 
-/// Returns an error as text: its line and column, both counted from 1, and its message. Fails if an allocation fails.
+/// Returns `fault` as text: its line, its column in bytes, and its message. Line and column count from 1.
 fn fault_text(alloc: Global, fault: &Error<'_>) -> Result<String, AllocError> {
     let (line, column) = fault.line_info.unwrap_or((0, 0));
     let (line, column) = (line.saturating_add(1), column.saturating_add(1));
     format!(in alloc; "{line}:{column}: {fault}")
 }
 
-/// Returns the tree of a text, or the error of the text with line and column if it is not valid TOML. Fails if an
-/// allocation fails.
+/// Returns the tree of `text` or, if `text` is not valid TOML, its error as text, with line and column.
 fn tree<'t>(alloc: Global, text: &'t str) -> Result<Result<Value<'t>, String>, AllocError>
     ensures { IfOk result (λ read. IfOk read (λ root. IsTree text.now depth_limit root)) }
 {
@@ -49,8 +50,7 @@ fn tree<'t>(alloc: Global, text: &'t str) -> Result<Result<Value<'t>, String>, A
     }
 }
 
-/// Returns the tree of `probe`, which is `v = ` followed by `value`. Fails with `NoValue` if `probe` is not valid TOML,
-/// and with `Stop::Memory` if an allocation fails.
+/// Returns the tree of `probe`, which is `v = ` followed by `value`. Fails with `NoValue` if `probe` is not valid TOML.
 fn given_tree<'p>(alloc: Global, probe: &'p str, value: &str) -> Result<Value<'p>, Stop<Reason>>
     ensures { IfOk result (λ root. IsTree probe.now depth_limit root) }
 {
@@ -63,7 +63,7 @@ fn given_tree<'p>(alloc: Global, probe: &'p str, value: &str) -> Result<Value<'p
     }
 }
 
-/// Returns the change that puts the value `given` at this spot.
+/// Returns the `Local` change that puts `given` at `spot`.
 fn local_of<'l, 'v, 'de>(spot: Spot<'l>, given: &'v Value<'de>) -> Local<'l, 'v, 'de>
     ensures { local result ≡ spec.goes spot.entry (view given.now) }
 {
@@ -74,8 +74,8 @@ fn local_of<'l, 'v, 'de>(spot: Spot<'l>, given: &'v Value<'de>) -> Local<'l, 'v,
     }
 }
 
-/// Returns whether the tree `new` is `old` with the TOML value `value` at `spot`, relative to the path. Fails with
-/// `NoValue` if `value` is not a TOML value, and with `Stop::Memory` if an allocation fails.
+/// Returns whether the tree `new` is the tree `old` with the TOML value `value` at `spot`, relative to the value at
+/// `path`. Fails with `NoValue` if `value` can't be read.
 fn goes(
     alloc: Global,
     spot: Spot<'_>,
@@ -95,8 +95,8 @@ fn goes(
     }
 }
 
-/// Returns whether the tree `new` is `old` with the TOML value `value` added at a path that names nothing in `old`.
-/// Fails with `NoValue` if `value` is not a TOML value, and with `Stop::Memory` if an allocation fails.
+/// Returns whether the tree `new` is the tree `old` with the TOML value `value`, and the tables missing on the way,
+/// added at `path`. Fails with `NoValue` if `value` can't be read.
 fn is_new(
     alloc: Global,
     value: &str,
@@ -115,8 +115,8 @@ fn is_new(
     }
 }
 
-/// Returns whether the tree `new` is `old` with this edit made. Returns false for a move. Fails with `NoValue` if the
-/// given value is not a TOML value, and with `Stop::Memory` if an allocation fails.
+/// Returns whether the tree `new` is the tree `old` with `edit` made. Returns false for a move. Fails with `NoValue` if
+/// the edit's value can't be read.
 fn is_made(
     alloc: Global,
     edit: Edit<'_>,
@@ -141,8 +141,8 @@ fn is_made(
     }
 }
 
-/// Returns whether the tree `new` is `old` with the TOML value `value` at a path, added or in place of another value.
-/// Fails with `NoValue` if `value` is not a TOML value, and with `Stop::Memory` if an allocation fails.
+/// Returns whether the tree `new` is the tree `old` with the TOML value `value` at `path`, added or in place of another
+/// value. Fails with `NoValue` if `value` can't be read.
 fn is_set_or_new(
     alloc: Global,
     value: &str,
@@ -160,9 +160,8 @@ fn is_set_or_new(
     goes(alloc, Spot::Here, value, path, old, new)
 }
 
-/// Returns whether the tree `new` is `old` with the TOML value `value` at the end of the array at a path, or with a new
-/// array that has only this element. Fails with `NoValue` if `value` is not a TOML value, and with `Stop::Memory` if an
-/// allocation fails.
+/// Returns whether the tree `new` is the tree `old` with the TOML value `value` added at the end of the array at
+/// `path`, or with a new array at `path` that has only this element. Fails with `NoValue` if `value` can't be read.
 fn is_appended(
     alloc: Global,
     value: &str,
@@ -183,8 +182,8 @@ fn is_appended(
     goes(alloc, Spot::End, value, path, old, new)
 }
 
-/// Returns whether the tree `new` is `old` with the TOML value `value` added at a path, in a table or array that `old`
-/// has. Fails with `NoValue` if `value` is not a TOML value, and with `Stop::Memory` if an allocation fails.
+/// Returns whether the tree `new` is the tree `old` with the TOML value `value` added at `path`, in a table or array
+/// that `old` has. Returns false if `path` is empty. Fails with `NoValue` if `value` can't be read.
 fn is_under(
     alloc: Global,
     value: &str,
@@ -201,7 +200,8 @@ fn is_under(
     }
 }
 
-/// Returns whether the tree `new` is `old` without the value at a path.
+/// Returns whether the tree `new` is the tree `old` without the value at `path`. Returns false if `path` is empty or
+/// names nothing in `old`.
 fn is_gone(path: &[&str], old: &Value<'_>, new: &Value<'_>) -> bool
     ensures { result ≡ true → spec.IsGone (map (λ s. s.now) path.now) (view old.now) (view new.now) }
 {
@@ -211,7 +211,8 @@ fn is_gone(path: &[&str], old: &Value<'_>, new: &Value<'_>) -> bool
     }
 }
 
-/// Returns whether the tree `new` is `old` with the key at a path renamed to `new_name`.
+/// Returns whether the tree `new` is the tree `old` with the key at `path` renamed to `new_name`. Returns false if
+/// `path` names no key in `old`.
 fn is_renamed(new_name: &str, path: &[&str], old: &Value<'_>, new: &Value<'_>) -> bool
     ensures { result ≡ true
         → spec.IsRenamed new_name.now (map (λ s. s.now) path.now) (view old.now) (view new.now) }
@@ -222,7 +223,8 @@ fn is_renamed(new_name: &str, path: &[&str], old: &Value<'_>, new: &Value<'_>) -
     }
 }
 
-/// Returns whether the tree `new` is `old` with `value` inserted at a path, as an element or as an entry.
+/// Returns whether the tree `new` is the tree `old` with `value` added at `path`: as an element of an array, or as an
+/// entry, with the tables missing on the way. Returns false if `path` is empty.
 fn is_put(path: &[&str], value: &Value<'_>, old: &Value<'_>, new: &Value<'_>) -> bool
     ensures { result ≡ true
         → spec.IsPut (map (λ s. s.now) path.now) (view value.now) (view old.now) (view new.now) }
@@ -236,8 +238,7 @@ fn is_put(path: &[&str], value: &Value<'_>, old: &Value<'_>, new: &Value<'_>) ->
     }
 }
 
-/// Returns the tree of the text to edit. Fails with `NoDocument` if it is not valid TOML, and with `Stop::Memory` if an
-/// allocation fails.
+/// Returns the tree of `text`, the text to edit. Fails with `NoDocument` if `text` is not valid TOML.
 pub(crate) fn old_tree<'t>(alloc: Global, text: &'t str) -> Result<Value<'t>, Stop<Reason>>
     ensures { IfOk result (λ root. IsTree text.now depth_limit root) }
 {
@@ -247,8 +248,7 @@ pub(crate) fn old_tree<'t>(alloc: Global, text: &'t str) -> Result<Value<'t>, St
     }
 }
 
-/// Returns the tree of the text that an edit made. Fails with `WouldBeNone` if it is not valid TOML, and with
-/// `Stop::Memory` if an allocation fails.
+/// Returns the tree of `text`, the result of an edit. Fails with `WouldBeNone` if `text` is not valid TOML.
 pub(crate) fn new_tree<'t>(alloc: Global, text: &'t str) -> Result<Value<'t>, Stop<Reason>>
     ensures { IfOk result (λ root. IsTree text.now depth_limit root) }
 {
@@ -258,8 +258,9 @@ pub(crate) fn new_tree<'t>(alloc: Global, text: &'t str) -> Result<Value<'t>, St
     }
 }
 
-/// Checks that the text `new` is a document whose tree is `old` with an edit made, other than a move. Fails with
-/// `WouldBeNone` or `WouldDiffer` if not, and with `Stop::Memory` if an allocation fails.
+/// Checks that `new` is a document whose tree is `old` with `edit` made. Fails with `WouldBeNone` if `new` is not valid
+/// TOML, with `NoValue` if the edit's value can't be read, and with `WouldDiffer` if the tree is another or `edit` is a
+/// move.
 fn check_made(alloc: Global, edit: Edit<'_>, old: &Value<'_>, new: &str) -> Result<(), Stop<Reason>>
     ensures { OnOk result (spec.IsMade edit.entry.change (map (λ s. s.now) edit.entry.path.now) (view old.now)
         new.now) }
@@ -272,8 +273,8 @@ fn check_made(alloc: Global, edit: Edit<'_>, old: &Value<'_>, new: &str) -> Resu
     }
 }
 
-/// Checks that the text `new` is a document whose tree is `rest` with `value` inserted at a path. Fails with
-/// `WouldBeNone` or `WouldDiffer` if not, and with `Stop::Memory` if an allocation fails.
+/// Checks that `new` is a document whose tree is `rest` with `value` added at `path`. Fails with `WouldBeNone` if `new`
+/// is not valid TOML, and with `WouldDiffer` if its tree is another.
 fn check_put_back(
     alloc: Global,
     path: &[&str],
@@ -291,8 +292,8 @@ fn check_put_back(
     }
 }
 
-/// Checks that the text `new` is a document whose tree is `old` with the value at `path` moved to `target`. `without`
-/// is the text without that value. Fails with the reason if not, and with `Stop::Memory` if an allocation fails.
+/// Checks that `new` is a document whose tree is `old` with the value at `path` moved to `target`. `without` is the
+/// text without the value. Fails with a reason otherwise.
 fn check_moved(
     alloc: Global,
     without: &str,
@@ -314,8 +315,8 @@ fn check_moved(
     check_put_back(alloc, target, value, &rest, new)
 }
 
-/// Returns the text with the value at `path` moved to `target`. `old` is the tree of the text. Fails with the reason if
-/// that is not possible, and with `Stop::Memory` if an allocation fails.
+/// Returns `text` with the value at `path` moved to `target`. `old` is the tree of `text`. Fails with a reason if the
+/// move is refused.
 fn move_value(
     alloc: Global,
     text: &str,
@@ -334,8 +335,8 @@ fn move_value(
     Ok(new)
 }
 
-/// Makes an edit other than a move, and returns the new text. `old` is the tree of the text. Fails with the reason if
-/// the edit is refused, and with `Stop::Memory` if an allocation fails.
+/// Returns `text` with `edit` made. `old` is the tree of `text`. Fails with a reason if `edit` is refused; a move
+/// always is.
 fn edited(
     alloc: Global,
     text: &str,
@@ -352,9 +353,8 @@ fn edited(
     Ok(new)
 }
 
-/// Makes an edit, and returns the new text. Fails with the reason if the text is not a document, if the edit can't be
-/// made, if the tree of the result would not be the old tree with only this change, or if other bytes would change.
-/// Fails with `Stop::Memory` if an allocation fails.
+/// Returns `text` with `edit` made. Fails with a reason if `text` is not a document, or if `edit` can't be made without
+/// changing anything else in the tree or the text.
 pub(crate) fn step(alloc: Global, text: &str, edit: Edit<'_>) -> Result<String, Stop<Reason>>
     ensures { IfOk result (λ new. spec.EditMade edit.entry text.now (string_bytes new)) }
 {

@@ -1,4 +1,4 @@
-//! Makes one edit at a path in a document, which is passed as bytes.
+//! Makes one edit at a path in a document that is passed as bytes.
 ghost use Rattle.std.specs.Prelude.{◌≡◌, IfOk, map, string_bytes};
 ghost use Rattle.toml_span_edit.specs.Tasks as spec;
 
@@ -18,13 +18,13 @@ pub enum Task<'w> {
     Set(&'w str),
     /// Renames the key to this name, at every place where the key is written.
     Rename(&'w str),
-    /// Removes the value with its key, or the element of an array.
+    /// Removes the value and its key, or the element of an array.
     Remove,
     /// Adds this key with this value to the table.
     Add(&'w str, &'w str),
 }
 
-/// Returns the path and the change of the edit that carries out a task at the given path. Fails if an allocation fails.
+/// Returns the path and the change of the edit that carries out `task` at the value at `path`.
 fn change_of<'w>(
     path: Vec<&'w str>,
     task: Task<'w>,
@@ -45,8 +45,8 @@ fn change_of<'w>(
     Ok((path, change))
 }
 
-/// Carries out a task at the value that a path names, and returns the new text. Fails with the reason if the edit is
-/// refused, and with `Stop::Memory` if an allocation fails.
+/// Carries out `task` at the value that `path` names in `text`, and returns the new text. Fails with a reason if the
+/// edit is refused.
 fn perform(alloc: Global, text: &str, path: &str, task: Task<'_>) -> Result<String, Stop<Reason>>
     ensures { IfOk result (λ new. spec.TaskMade path.now task.entry text.now (string_bytes new)) }
 {
@@ -57,11 +57,11 @@ fn perform(alloc: Global, text: &str, path: &str, task: Task<'_>) -> Result<Stri
     step(alloc, text, Edit { path, change })
 }
 
-/// Makes one edit of a document, as `Edits` does, and returns the new text. `path` names the value to edit: a pointer
-/// such as `/a/b/0`, or a dotted key such as `a.b[0]`.
+/// Makes one edit of a document, as `Edits` does, and returns the new text. `path` names the value at which `task` is
+/// carried out: a pointer such as `/a/b/0`, or a dotted key such as `a.b[0]`.
 ///
-/// Fails with `TooLong` for a document of more than 16 MiB, with `NotUtf8` if it is not valid UTF-8, with the reason if
-/// the edit is refused, and with `Stop::Memory` if an allocation fails.
+/// Fails with `TooLong` for a document of more than 16 MiB, with `NotUtf8` if the document is not valid UTF-8, with
+/// another reason if the edit is refused, and with `Stop::Memory` if an allocation fails.
 pub fn edited(
     alloc: Global,
     document: &[u8],

@@ -23,8 +23,8 @@ use toml_span::{Span, Stop};
 
 // ---- what is inserted
 
-/// Adds to `plan` the insertions that make a change at a path. Fails with the reason if the change can't be made, with
-/// `WouldDiffer` if it does more than insert, and with `Stop::Memory` if an allocation fails.
+/// Adds to `plan` the replacements that make `change` at `path`. Fails with a reason if `change` can't be made there,
+/// and with `WouldDiffer` for `Set`, `Replace`, `Rename`, `Remove` and `MoveTo`.
 fn plan(
     document: Document<'_, '_>,
     path: &[&str],
@@ -41,8 +41,8 @@ fn plan(
     }
 }
 
-/// Returns the text after a change at a path that only inserts text. Fails with the reason if the change can't be made,
-/// with `WouldDiffer` if it would replace more than white space, and with `Stop::Memory` if an allocation fails.
+/// Returns `text` with `change` made at `path`, only by inserting text and replacing blanks and line ends. Fails with a
+/// reason if this is not possible.
 fn inserted_text(
     alloc: Global,
     text: &str,
@@ -62,9 +62,9 @@ fn inserted_text(
     pieces.inserted(text)
 }
 
-/// Returns the text with `value` written over the value at a path or, if there is nothing, added there. `old` is the
-/// tree of the text. Fails with `NotSpelled` if headers or dotted keys define the value at the path, with another
-/// reason if `value` can't be written there, and with `Stop::Memory` if an allocation fails.
+/// Returns `text` with `value` written over the value at `path` or, if `path` names nothing, added at `path`. `old` is
+/// the tree of `text`. Fails with `NotSpelled` if headers or dotted keys define the value at `path`, and with another
+/// reason if `value` can't be written there.
 fn set_or_added_text(
     alloc: Global,
     text: &str,
@@ -86,8 +86,8 @@ fn set_or_added_text(
 
 // ---- what is removed
 
-/// Returns the text without the value at a path and, if `has_comments`, without the comments above it. Fails with the
-/// reason if the value can't be removed, and with `Stop::Memory` if an allocation fails.
+/// Returns the text of `document` without the value at `path` and, if `has_comments`, without the comment lines
+/// directly above the value. Fails with a reason if the value can't be removed.
 fn removed(
     document: Document<'_, '_>,
     path: &[&str],
@@ -101,8 +101,7 @@ fn removed(
     pieces.applied(document.text)
 }
 
-/// Returns `new` if it consists of the text before the offset `start`, any other text, and the text after the offset
-/// `end`. Fails with `WouldDiffer` otherwise.
+/// Returns `new` if it can be made from `text` by replacing the bytes `start..end`. Fails with `WouldDiffer` otherwise.
 fn if_around(text: &str, start: usize, end: usize, new: String) -> Result<String, Stop<Reason>>
     ensures { IfOk result (λ out. spec.KeepsAround text.now (record { start = start; end = end })
         (string_bytes out)) }
@@ -114,9 +113,8 @@ fn if_around(text: &str, start: usize, end: usize, new: String) -> Result<String
     }
 }
 
-/// Returns the text without the value at a path. `old` is the tree of the text. Fails with the reason if the value
-/// can't be removed, with `WouldDiffer` if text outside the value's lines, or outside the brackets or braces around the
-/// value, would change, and with `Stop::Memory` if an allocation fails.
+/// Returns `text` without the value at `path`. `old` is the tree of `text`. Fails with a reason if the value can't be
+/// removed, or if bytes outside the span that `around` returns would change.
 fn cut_text(
     alloc: Global,
     text: &str,
@@ -136,7 +134,7 @@ fn cut_text(
     if_around(text, span.start, span.end, new)
 }
 
-/// Returns the start of the comments directly above the offset `at`, or `at` if there are no comments.
+/// Returns the start of the comment lines directly above the byte offset `at`. Without such lines, returns `at`.
 fn comments_from(text: &str, at: usize) -> usize
     ensures on { result ≤ at }
     ensures comments { spec.only_comments false (slice_range text.now result at) ≡ true }
@@ -148,9 +146,9 @@ fn comments_from(text: &str, at: usize) -> usize
     at
 }
 
-/// Returns the text without the value at a path and the comments directly above it. `old` is the tree of the text.
-/// Fails with the reason if the value can't be removed, with `WouldDiffer` if anything else would change, and with
-/// `Stop::Memory` if an allocation fails.
+/// Returns `text` without the value at `path` and the comment lines directly above it. `old` is the tree of `text`.
+/// Fails with a reason if the value can't be removed, or if bytes outside these lines and the span that `around`
+/// returns would change.
 pub(crate) fn text_without(
     alloc: Global,
     text: &str,
@@ -171,8 +169,8 @@ pub(crate) fn text_without(
     if_around(text, comments_from(text, span.start), span.end, new)
 }
 
-/// Returns the text with the value at a path removed, and then `value` added at that path. `old` is the tree of the
-/// text. Fails with the reason if one of the two is not possible, and with `Stop::Memory` if an allocation fails.
+/// Returns `text` with the value at `path` removed, and then `value` added at `path`. `old` is the tree of `text`.
+/// Fails with a reason if one of these steps is not possible.
 fn cut_then_added(
     alloc: Global,
     text: &str,
@@ -187,8 +185,8 @@ fn cut_then_added(
     inserted_text(alloc, without.as_str(), path, Change::SetOrAdd(value))
 }
 
-/// Returns whether a path names the only element of an array of tables. Fails with `WouldDiffer` if the text can't be
-/// split into sections, and with `Stop::Memory` if an allocation fails.
+/// Returns whether `path` leads to the only element of an array of tables. Fails with `WouldDiffer` if `text` can't be
+/// split into sections.
 fn is_only_element(alloc: Global, text: &str, path: &[&str]) -> Result<bool, Stop<Reason>> {
     let [front @ .., segment] = path else {
         return Ok(false);
@@ -206,9 +204,8 @@ fn is_only_element(alloc: Global, text: &str, path: &[&str]) -> Result<bool, Sto
     Ok(names_array(array.as_slice()) && element.len() == array.len())
 }
 
-/// Returns the text without the value at a path. If the value is the only element of an array of tables, the array
-/// becomes `[]`. `old` is the tree of the text. Fails with the reason if the value can't be removed, and with
-/// `Stop::Memory` if an allocation fails.
+/// Returns `text` without the value at `path`. If the value is the only element of an array of tables, the array
+/// becomes `[]`. `old` is the tree of `text`. Fails with a reason if the value can't be removed.
 fn removed_text(
     alloc: Global,
     text: &str,
@@ -227,9 +224,8 @@ fn removed_text(
     }
 }
 
-/// Returns the text with the value at a path replaced with `value`. Headers or dotted keys may define the old value.
-/// `old` is the tree of the text. Fails with the reason if `value` is not a TOML value or the old value can't be
-/// removed, and with `Stop::Memory` if an allocation fails.
+/// Returns `text` with `value` in place of the value at `path`, which headers or dotted keys may define. `old` is the
+/// tree of `text`. Fails with a reason if this is not possible.
 fn replaced_text(
     alloc: Global,
     text: &str,
@@ -250,8 +246,7 @@ fn replaced_text(
 
 // ---- what is moved
 
-/// Returns the text with the value `moved` added at a path. Fails with the reason if that is not possible, and with
-/// `Stop::Memory` if an allocation fails.
+/// Returns `text` with the value `moved` added at `path`. Fails with a reason if this is not possible.
 fn put_text(
     alloc: Global,
     text: &str,
@@ -271,9 +266,8 @@ fn put_text(
     pieces.inserted(text)
 }
 
-/// Returns the text with `target` written instead of `path` in the headers of the table, or array of tables, at `path`,
-/// and of the tables inside that one. Fails with the reason if that is not possible, and with `Stop::Memory` if an
-/// allocation fails.
+/// Returns the text of `document` with `target` in place of `path` in the headers of the table, or array of tables, at
+/// `path`, and of the tables inside it. Fails with a reason if this is not possible.
 fn headers_text(
     document: Document<'_, '_>,
     path: &[&str],
@@ -286,8 +280,8 @@ fn headers_text(
     pieces.in_headers(document.text)
 }
 
-/// Returns the text with the value at `path` moved to `target`. `without` is the text without that value and its
-/// comments. Fails with the reason if the value can't be moved, and with `Stop::Memory` if an allocation fails.
+/// Returns `text` with the value at `path` moved to `target`. `without` is `text` without the value and the comment
+/// lines above it. Fails with a reason if the value can't be moved.
 pub(crate) fn moved_text(
     alloc: Global,
     text: &str,
@@ -312,8 +306,8 @@ pub(crate) fn moved_text(
 
 // ---- changes
 
-/// Returns the text after an edit other than a move. `old` is the tree of the text. Fails with the reason if the edit
-/// can't be made, with `WouldDiffer` for a move, and with `Stop::Memory` if an allocation fails.
+/// Returns `text` with `edit` made. `old` is the tree of `text`. Fails with a reason if `edit` can't be made, and with
+/// `WouldDiffer` if it is a move.
 pub(crate) fn edited_text(
     alloc: Global,
     text: &str,

@@ -21,6 +21,7 @@ struct Finding {
     message: &'static str,
     /// The span to mark, and its label.
     place: (Span, &'static str),
+    /// Another span to mark, and its label.
     other: Option<(Span, &'static str)>,
     help: Option<&'static str>,
     /// The name that was probably meant.
@@ -45,7 +46,7 @@ fn new_finding(
     }
 }
 
-/// Returns a finding if a key at the root is not in `TABLES`, otherwise `None`. Fails if an allocation fails.
+/// Returns a finding if a key at the root is not in `TABLES`, otherwise `None`.
 fn unknown_table(alloc: Global, key: &Key) -> Result<Option<Finding>, AllocError> {
     if TABLES.contains(&key.name.as_str()) {
         return Ok(None);
@@ -56,7 +57,7 @@ fn unknown_table(alloc: Global, key: &Key) -> Result<Option<Finding>, AllocError
     Ok(Some(Finding { meant, ..found }))
 }
 
-/// Returns the findings for the table `package`.
+/// Returns the findings for `package`, the value of `key`: one slot for each rule, `None` if the rule is kept.
 fn package(key: &Key, package: &Value) -> [Option<Finding>; 5] {
     let mut found = [None; 5];
     if !package.has_key("version") {
@@ -118,7 +119,7 @@ fn is_edition(edition: &Value) -> bool {
     matches!(edition.as_str(), Some("2015" | "2018" | "2021" | "2024"))
 }
 
-/// Returns the findings for a dependency.
+/// Returns the findings for the dependency `value`: one slot for each rule, `None` if the rule is kept.
 fn dependency(value: &Value) -> [Option<Finding>; 2] {
     let mut found = [None; 2];
     let version = value.pointer("/version").unwrap_or(value);
@@ -142,7 +143,7 @@ fn dependency(value: &Value) -> [Option<Finding>; 2] {
     found
 }
 
-/// Appends the findings that are not `None`. Fails if an allocation fails.
+/// Appends to `list` the findings that are not `None`. If an allocation fails, `list` has some of them.
 fn push_all(found: &[Option<Finding>], list: &mut Vec<Finding>) -> Result<(), AllocError> {
     for one in found {
         if let Some(finding) = one {
@@ -152,8 +153,8 @@ fn push_all(found: &[Option<Finding>], list: &mut Vec<Finding>) -> Result<(), Al
     Ok(())
 }
 
-/// Checks the keywords of a package, if they are an array, and appends the findings to `list`. Fails if an allocation
-/// fails.
+/// Checks the keywords of a package, if they are an array, and appends the findings to `list`. If an allocation fails,
+/// `list` has some of them.
 fn keywords(alloc: Global, package: &Value, list: &mut Vec<Finding>) -> Result<(), AllocError> {
     let Some(found) = package.pointer("/keywords") else {
         return Ok(());
@@ -168,7 +169,10 @@ fn keywords(alloc: Global, package: &Value, list: &mut Vec<Finding>) -> Result<(
     }
     let mut seen = BTreeMap::new(alloc);
     for word in words {
-        if let Some(before) = seen.insert(word.as_str(), word.span)? {
+        let Some(text) = word.as_str() else {
+            continue;
+        };
+        if let Some(before) = seen.insert(text, word.span)? {
             let message = "a keyword occurs twice";
             list.push(Finding {
                 other: Some((before, "also here")),
@@ -179,7 +183,7 @@ fn keywords(alloc: Global, package: &Value, list: &mut Vec<Finding>) -> Result<(
     Ok(())
 }
 
-/// Checks a manifest, and appends the findings. Fails if an allocation fails.
+/// Checks a manifest, and appends the findings to `list`. If an allocation fails, `list` has some of them.
 fn lint(alloc: Global, root: &Table, list: &mut Vec<Finding>) -> Result<(), AllocError> {
     for (key, value) in root.iter() {
         push_all(&[unknown_table(alloc, key)?], list)?;
@@ -199,7 +203,7 @@ fn lint(alloc: Global, root: &Table, list: &mut Vec<Finding>) -> Result<(), Allo
     Ok(())
 }
 
-/// Returns the report of a finding. Fails if an allocation fails.
+/// Returns the report of a finding.
 fn report_of(alloc: Global, found: Finding) -> Result<Report, AllocError> {
     let (span, label) = found.place;
     let bare = Report::new(alloc, found.severity, found.code, found.message)?;
@@ -216,7 +220,7 @@ fn report_of(alloc: Global, found: Finding) -> Result<Report, AllocError> {
     Ok(report)
 }
 
-/// Returns the reports of all findings in a manifest. Fails if an allocation fails.
+/// Returns the reports of all findings in a manifest.
 fn lint_reports(alloc: Global, root: &Value) -> Result<Vec<Report>, AllocError> {
     let mut list = Vec::new(alloc);
     if let Some(root) = root.as_table() {
@@ -229,8 +233,7 @@ fn lint_reports(alloc: Global, root: &Value) -> Result<Vec<Report>, AllocError> 
     Ok(reports)
 }
 
-/// Returns the reports for a text: the report of its error or, if it is valid TOML, the reports of all findings. Fails
-/// if an allocation fails.
+/// Returns the reports for a text: the report of its error or, if it is valid TOML, the reports of all findings.
 fn text_reports(alloc: Global, text: &str) -> Result<Vec<Report>, AllocError> {
     match parse(alloc, text) {
         Ok(root) => lint_reports(alloc, &root),
@@ -241,7 +244,7 @@ fn text_reports(alloc: Global, text: &str) -> Result<Vec<Report>, AllocError> {
     }
 }
 
-/// Returns the reports as commands for GitHub workflows. Fails if an allocation fails.
+/// Returns the reports as commands for GitHub workflows.
 fn github(alloc: Global, reports: &[Report], text: &str) -> Result<String, AllocError> {
     let mut out = String::new(alloc);
     for report in reports {
@@ -250,7 +253,7 @@ fn github(alloc: Global, reports: &[Report], text: &str) -> Result<String, Alloc
     Ok(out)
 }
 
-/// Returns the reports as a SARIF document. Fails if an allocation fails.
+/// Returns the reports as a SARIF document.
 fn sarif(alloc: Global, reports: &[Report], text: &str) -> Result<String, AllocError> {
     let mut results = String::new(alloc);
     for report in reports {
@@ -259,8 +262,8 @@ fn sarif(alloc: Global, reports: &[Report], text: &str) -> Result<String, AllocE
     sarif_document(alloc, "manifest-lint", results.as_str())
 }
 
-/// Returns what is wrong with a manifest, in the format `github` or `sarif` or otherwise as text, and whether nothing
-/// is wrong. Fails if an allocation fails.
+/// Returns what is wrong with the manifest `text`, and whether nothing is wrong. `format` is `github` or `sarif`; any
+/// other means plain text.
 pub fn shown(alloc: Global, text: &str, format: &str) -> Result<(String, bool), AllocError> {
     let reports = text_reports(alloc, text)?;
     let reports = reports.as_slice();

@@ -14,7 +14,7 @@ use std::{env, io};
 use toml_span_load::{LoadError, TextFile};
 
 /// Returns what to print for a file, and whether nothing is wrong with it. `format` is the format for the findings of a
-/// manifest. Fails if an allocation fails.
+/// manifest.
 fn shown(alloc: Global, file: &TextFile, format: &str) -> Result<(String, bool), AllocError> {
     let text = file.text.as_str();
     if !text.starts_with("[package]") && !text.starts_with("[dependencies]") {
@@ -23,8 +23,8 @@ fn shown(alloc: Global, file: &TextFile, format: &str) -> Result<(String, bool),
     lint::shown(alloc, text, format)
 }
 
-/// Returns what to print for a file or, if it could not be read, the error, and whether nothing is wrong. `format` is
-/// as in `shown`. Fails if an allocation fails.
+/// Returns what to print for a file or, if it could not be read, the error. Also returns whether nothing is wrong.
+/// `format` is as in `shown`.
 fn opened(
     alloc: Global,
     file: Result<TextFile, LoadError>,

@@ -81,8 +81,8 @@ impl<'de> Deserialize<'de> for Mirror {
     }
 }
 
-/// Returns, as text, the errors and warnings of a file and, if it can be read, its settings. Also returns whether it
-/// can be read. Fails if an allocation fails.
+/// Returns the errors and warnings of a file as text, with its settings if they can be read. Also returns whether they
+/// can be read.
 pub fn shown(alloc: Global, file: &TextFile) -> Result<(String, bool), AllocError> {
     match file.read_with_warnings::<Settings>(alloc) {
         Ok(Loaded { value, warnings }) => {

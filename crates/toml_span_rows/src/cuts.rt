@@ -1,10 +1,11 @@
-//! `cuts`: parses a text cut at each character boundary. Each time there must be a tree, or an error within the cut.
+//! `cuts`: parses a text cut before each character. Each result must be a tree, or an error that begins in the cut
+//! text or at its end.
 use crate::told::Out;
 use std::alloc::Global;
 use toml_span::{line_and_byte, parse};
 
-/// Returns whether a text has a tree from which nothing has been taken, or an error with a right place: its span begins
-/// in the text and does not end before it begins, and its line and column are those of the start of the span.
+/// Returns whether `parse` returns a whole tree, or an error whose place is right. The error's span must begin in the
+/// text or at its end, and not end before its start. The line and column must be those of the start.
 fn is_right(alloc: Global, text: &str, out: &mut Out) -> bool {
     match parse(alloc, text) {
         Ok(root) => {
@@ -25,7 +26,7 @@ fn is_right(alloc: Global, text: &str, out: &mut Out) -> bool {
     }
 }
 
-/// Prints the number of cuts or, if the result for one of them is wrong, the text up to the first such cut.
+/// Prints the number of cuts or, if a result is wrong, the first cut text with a wrong result.
 pub fn push_cuts(alloc: Global, text: &str, out: &mut Out) {
     let mut count: usize = 0;
     for end in 0..text.len() {

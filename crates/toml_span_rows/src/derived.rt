@@ -5,7 +5,7 @@
 //!   error.
 //! - `shown` prints the settings, or the error with its source lines.
 //!
-//! If memory runs out, a read as a struct, other than by `shown`, is repeated once.
+//! If an allocation fails, `settings`, `device`, `tagged` and `attributes` read the document once more.
 use crate::Row;
 use crate::told::Out;
 use device::{Attributes, Device, Tagged};
@@ -23,7 +23,7 @@ mod settings;
 /// A map from names to numbers.
 type Limits = BTreeMap<Spanned<String>, Spanned<i8>>;
 
-/// Prints the answer to a row. Returns false if this module has no such call.
+/// Prints the answer to a row. Returns `false` if this module has no such call.
 pub fn answer(alloc: Global, row: Row<'_>, out: &mut Out) -> bool {
     let text = row.text;
     match row.call {
@@ -40,7 +40,7 @@ pub fn answer(alloc: Global, row: Row<'_>, out: &mut Out) -> bool {
     true
 }
 
-/// Reads a text as a type, and prints the answer.
+/// Reads a text as a type, and prints the result. If an allocation fails, reads the text once more.
 fn push_read<'de, T: Deserialize<'de> + Debug + Drop>(
     alloc: Global,
     text: &'de str,
@@ -51,8 +51,8 @@ fn push_read<'de, T: Deserialize<'de> + Debug + Drop>(
     }
 }
 
-/// Reads the document's tree as limits. Fails with `Refused` if the text is not valid TOML, with `Misfit` if the tree
-/// does not fit, and with `Stop::Memory` if an allocation fails.
+/// Reads the document's tree as limits. Fails with `Refused` if the text is not valid TOML, and with `Misfit` if the
+/// tree does not fit.
 fn limits_of(alloc: Global, text: &str) -> Result<Limits, Stop<Error<'_>>> {
     let root = match parse(alloc, text) {
         Ok(root) => root,
@@ -64,7 +64,7 @@ fn limits_of(alloc: Global, text: &str) -> Result<Limits, Stop<Error<'_>>> {
     }
 }
 
-/// Prints the value that was read, or the error. Returns whether there was enough memory.
+/// Prints the value that was read, or the error. Returns `false` if an allocation failed.
 fn push_answer<T: Debug + Drop>(
     alloc: Global,
     read: Result<T, Stop<Error<'_>>>,
@@ -84,7 +84,7 @@ fn push_answer<T: Debug + Drop>(
     true
 }
 
-/// Prints the code, the span, the line and column, and the message of an error.
+/// Prints an error: the code, the span, the line and column, and the message.
 fn push_error(alloc: Global, error: &Error<'_>, out: &mut Out) {
     if let Some(shown) = out.kept(error.to_diagnostic(alloc, ())) {
         out.push_str(shown.code.as_str());

@@ -1,11 +1,11 @@
-//! The texts of rows, in which a backslash begins an escape.
+//! Decodes the texts of rows, in which a backslash begins an escape.
 //!
 //! Escapes are `\n` `\r` `\t` `\\`, `\u{HEX}` for the character with this number, and `\{N PART\}` for N copies of
 //! PART, which may contain the other escapes.
 use std::alloc::{AllocError, Global};
 
-/// Reads the escape whose backslash precedes `piece`. Returns the character that the escape spells and the rest of the
-/// piece, or `None` if the escape is not valid.
+/// Decodes the escape whose backslash is before `piece`. Returns the character and the rest of `piece`, or `None` if
+/// the escape is not valid. An empty `piece` is an escaped backslash.
 fn escaped(piece: &str) -> Option<(char, &str)> {
     let mut chars = piece.chars();
     let Some(first) = chars.next() else {
@@ -25,8 +25,7 @@ fn escaped(piece: &str) -> Option<(char, &str)> {
     }
 }
 
-/// Repeats the end of a text, from the offset `start` on, so that it occurs `times` times instead of once. Fails if an
-/// allocation fails.
+/// Replaces the end of `text`, from the offset `start` on, with `times` copies of this end.
 fn repeat(alloc: Global, times: usize, start: usize, text: &mut String) -> Result<(), AllocError> {
     let part = String::from_str(alloc, text.as_str().get(start..).unwrap_or(""))?;
     if times == 0 {
@@ -38,15 +37,13 @@ fn repeat(alloc: Global, times: usize, start: usize, text: &mut String) -> Resul
     Ok(())
 }
 
-/// Appends the text that `source`, a row's text with escapes, spells. Returns whether all escapes are valid. Fails if
-/// an allocation fails.
-///
-/// The row is split at its backslashes. An empty piece between two others comes from two adjacent backslashes. These
-/// spell one backslash, so the piece after them does not begin with an escape.
+/// Decodes `source`, a row's text with escapes, and appends the result to `text`. Returns whether all escapes are
+/// valid. If not, it is unspecified what is appended.
 pub fn push_text(alloc: Global, source: &str, text: &mut String) -> Result<bool, AllocError> {
-    // The number of copies of the part to repeat, and the offset in `text` where that part starts.
+    // The number of copies of the part to repeat, and the offset in `text` at which the part starts.
     let mut part = (1, 0);
-    // Whether the next piece begins with an escape.
+    // Whether the next piece begins with an escape. After an empty piece, it does not: the piece was an escaped
+    // backslash.
     let mut after = false;
     for piece in source.split('\\') {
         if !after {
@@ -73,8 +70,8 @@ pub fn push_text(alloc: Global, source: &str, text: &mut String) -> Result<bool,
     Ok(after)
 }
 
-/// Appends the words of a row, which are separated by spaces, with their escapes decoded. `""` is the empty word.
-/// Returns whether all escapes are valid. Fails if an allocation fails.
+/// Decodes the words of a row, which are separated by spaces, and appends them to `found`. `""` is the empty word.
+/// Returns whether all escapes are valid.
 pub fn push_words(alloc: Global, words: &str, found: &mut Vec<String>) -> Result<bool, AllocError> {
     if words.is_empty() {
         return Ok(true);

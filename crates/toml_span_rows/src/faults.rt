@@ -1,9 +1,9 @@
 //! The texts of errors.
 //!
 //! - `diagnostic KIND`: an error of a kind that typed reads cause, at 4..6 in line 2, with the names in the text.
-//! - `diagnostics` of a text or of a typed read: the message of its error, and the diagnostic.
-//! - `copied` of a text or of a typed read: clones of its error, of its kind and of its diagnostic, each made twice,
-//!   and then the error.
+//! - `diagnostics` of a text or of a typed read: the message of the error, and the diagnostic.
+//! - `copied` of a text or of a typed read: clones of the error's kind and of the error, and the diagnostic, each made
+//!   twice, and then the error.
 use crate::Row;
 use crate::told::Out;
 use crate::trees::shown::push_stand;
@@ -11,10 +11,10 @@ use std::alloc::Global;
 use std::borrow::CowStr;
 use toml_span::{Error, ErrorKind, Span};
 
-/// The number that stands for the file in a diagnostic.
+/// The number of the file in a diagnostic.
 const FILE: u8 = 7;
 
-/// Prints an error's code, span and message, and its diagnostic.
+/// Prints an error: the code, the span, the line and column, the message, and the diagnostic.
 fn push_error(alloc: Global, error: &Error<'_>, out: &mut Out) {
     push_stand(error, out);
     out.push_str(" ");
@@ -23,7 +23,7 @@ fn push_error(alloc: Global, error: &Error<'_>, out: &mut Out) {
     out.told(error.to_diagnostic(alloc, FILE));
 }
 
-/// Prints the code, the span and the texts of an error, and one more line if those of its clone differ.
+/// Prints an error as `push_error` does, and one more line if the error's clone prints differently.
 pub fn push_twice(alloc: Global, error: &Error<'_>, out: &mut Out) {
     push_error(alloc, error, out);
     let Some(copy) = out.kept(error.clone(alloc)) else {
@@ -37,7 +37,7 @@ pub fn push_twice(alloc: Global, error: &Error<'_>, out: &mut Out) {
     out.is_short = out.is_short || again.is_short;
 }
 
-/// Prints clones of an error, of its kind and of its diagnostic, each made twice, and then the error.
+/// Prints clones of an error's kind and of the error, and the error's diagnostic, each twice, and then the error.
 pub fn push_copies(alloc: Global, error: &Error<'_>, out: &mut Out) {
     for _ in 0..2 {
         out.told_line(error.kind.clone(alloc));
@@ -47,8 +47,8 @@ pub fn push_copies(alloc: Global, error: &Error<'_>, out: &mut Out) {
     out.told(error);
 }
 
-/// Returns the kind of error that a word names, with the names in the text, which ` | ` separates. Returns `None` if
-/// there is no such kind.
+/// Returns the kind of error that `word` names, or `None` for any other word. `text` has the names for the kind,
+/// separated by ` | `.
 fn kind_of<'s>(word: &str, text: &'s str) -> Option<ErrorKind<'s>> {
     let (first, second) = text.split_once(" | ").unwrap_or((text, ""));
     Some(match word {
@@ -67,7 +67,7 @@ fn kind_of<'s>(word: &str, text: &'s str) -> Option<ErrorKind<'s>> {
     })
 }
 
-/// Prints the answer to a row. Returns false if this module has no such call, or if a word of the row is wrong.
+/// Prints the answer to a row. Returns `false` if this module has no such call, or if a word of the row is wrong.
 pub fn answer(alloc: Global, row: Row<'_>, out: &mut Out) -> bool {
     if row.call != "diagnostic" {
         return false;

@@ -1,8 +1,8 @@
 //! Calls public functions as rows say, and prints the answers.
 //!
-//! Each line of standard input is a row: `CALL WORDS: TEXT`. The program prints each line and, after a row, its answer,
-//! whose lines are indented by four spaces. Empty lines and lines that begin with `#` are titles. If a row can't be
-//! read, the answer is `no such row`, and the status is 1.
+//! Each line of standard input is a row: `CALL WORDS: TEXT`. The program prints each line and, after a row, the answer,
+//! indented by four spaces. Empty lines and lines that begin with `#` are titles. If a row can't be read, the answer is
+//! `no such row`, and the status is 1.
 //!
 //! - `cuts`: see `cuts`. `span_at POINTER`, `port_of`, `describe_port`: the results of these functions in `uses`.
 //! - `holders`: the document, read as the `Holders` of `typed::structs`. `warned TYPE`: see `typed::warned`.
@@ -41,7 +41,7 @@ use uses::{port_of, span_at};
 /// The answer to a row that can't be read.
 const NO_SUCH_ROW: &str = "no such row";
 
-/// A row: a call's name, its words, and its text.
+/// A row without its answer: the name of the call, its arguments (`words`), and the text after the colon.
 #[derive(Clone, Copy)]
 pub(crate) struct Row<'r> {
     pub(crate) call: &'r str,
@@ -50,7 +50,7 @@ pub(crate) struct Row<'r> {
 }
 
 impl<'r> Row<'r> {
-    /// Returns the word at an index, or an empty text if there are fewer words.
+    /// Returns the word at an index, or an empty text if the row has fewer words.
     pub(crate) fn word(self, index: usize) -> &'r str {
         match self.words.get(index) {
             Some(word) => word.as_str(),
@@ -59,8 +59,8 @@ impl<'r> Row<'r> {
     }
 }
 
-/// Splits a line into the call, the words and the text, with the escapes still in them. Returns `None` if the line is
-/// not a row.
+/// Splits a line into the call, the words and the text. Escapes are not decoded. Returns `None` if the line is not a
+/// row.
 fn parts_of(line: &str) -> Option<(&str, &str, &str)> {
     let (front, text) = match line.split_once(": ") {
         Some(parts) => parts,
@@ -70,8 +70,8 @@ fn parts_of(line: &str) -> Option<(&str, &str, &str)> {
     Some((call, words, text))
 }
 
-/// Prints the answer to `cuts`, `span_at`, `port_of`, `describe_port`, `holders` or `warned`. Returns false for any
-/// other call.
+/// Prints the answer to `cuts`, `span_at`, `port_of`, `describe_port`, `holders` or `warned`. Returns `false` for any
+/// other call, and for an unknown type of `warned`.
 fn push_caller(alloc: Global, row: Row<'_>, out: &mut Out) -> bool {
     let text = row.text;
     match row.call {
@@ -86,7 +86,7 @@ fn push_caller(alloc: Global, row: Row<'_>, out: &mut Out) -> bool {
     true
 }
 
-/// Prints the answer of the module that knows the row's call. Returns false if no module knows it.
+/// Prints the answer of the first module that answers the row. Returns `false` if none does.
 fn push_answer(alloc: Global, row: Row<'_>, out: &mut Out) -> bool {
     push_caller(alloc, row, out)
         || tokens::answer(alloc, row, out)
@@ -99,7 +99,7 @@ fn push_answer(alloc: Global, row: Row<'_>, out: &mut Out) -> bool {
         || trees::answer(alloc, row, out)
 }
 
-/// Prints the answer to a row. Returns whether the row could be read. Fails if an allocation fails.
+/// Prints the answer to the row `line`. Returns whether the row could be read.
 fn push_answered(
     rt: &HostRuntime,
     alloc: Global,
@@ -123,7 +123,7 @@ fn push_answered(
     Ok(push_answer(alloc, row, out))
 }
 
-/// Prints the answer to a row, indented by four spaces. Returns whether the row could be read.
+/// Prints the answer to the row `line`, indented by four spaces. Returns whether the row could be read.
 fn push_row(rt: &HostRuntime, alloc: Global, line: &str, out: &mut Out) -> bool {
     let mut answer = Out::new(alloc);
     let answered = push_answered(rt, alloc, line, &mut answer);
@@ -141,7 +141,7 @@ fn push_row(rt: &HostRuntime, alloc: Global, line: &str, out: &mut Out) -> bool 
     known
 }
 
-/// Prints all lines with their answers. Returns whether each row could be read.
+/// Prints all lines, each row with its answer. Returns whether all rows could be read.
 fn push_lines(rt: &HostRuntime, alloc: Global, input: &str, out: &mut Out) -> bool {
     let mut readable = true;
     for line in input.lines() {

@@ -3,10 +3,9 @@
 //! - `key_places`: for each key, the path to what it names, its role, and its span without and with quotes.
 //! - `table_forms STEP ..`: how the text names the table at this path.
 //! - `insertion_point STEP ..`: where to insert a line into the table at this path, and the text with `new = 0` there.
-//! - `node_at OFFSET`: the path to what is at an offset, whether it is the key or the value, its span, and the text
-//!   there.
+//! - `node_at OFFSET`: the path to the key or value at an offset, which of the two it is, its span, and the text there.
 //!
-//! A word that is a number is a position, any other word is a key.
+//! A word that is a number is a position. Any other word is a key.
 use crate::Row;
 use crate::told::Out;
 use std::alloc::{AllocError, Global};
@@ -15,7 +14,7 @@ use toml_span::value::{Step, Value};
 use toml_span_places::{insertion_point, key_places, node_at, replaced, table_forms};
 use toml_span_read::Section;
 
-/// Converts words to the steps of a path. Fails if an allocation fails.
+/// Converts words to the steps of a path.
 fn steps_of<'r>(alloc: Global, words: &'r [String]) -> Result<Vec<Step<'r>>, AllocError> {
     let mut steps = Vec::new(alloc);
     for word in words {
@@ -85,7 +84,7 @@ pub fn push_point(alloc: Global, row: Row<'_>, sections: &[Section<'_>], out: &m
     }
 }
 
-/// Prints the answer to `node_at`. Returns false if the word is not an offset.
+/// Prints the answer to `node_at`. Returns `false` if the word is not an offset.
 pub fn push_node_at(alloc: Global, row: Row<'_>, root: &Value<'_>, out: &mut Out) -> bool {
     let Ok(offset) = row.word(0).parse::<usize>() else {
         return false;

@@ -1,8 +1,8 @@
 //! Reports on a text in the file `a.toml`, and keys and strings to write.
 //!
-//! - `nearest WORD`: the nearest of the names in the text, which spaces separate.
-//! - `without_labels MESSAGE`: a warning with three labels, and a note and an error without labels, all with that
-//!   message: all together, one line each, and as JSON.
+//! - `nearest WORD`: the name in the text that is nearest to the word. Spaces separate the names.
+//! - `without_labels MESSAGE`: a warning with three labels, and a note and an error without labels, with that message:
+//!   all together, one line each, and as JSON.
 //! - `quoted`: the text as a JSON string. `quote_key`, `quote_string`: the text as a key and as a string of TOML.
 use crate::Row;
 use crate::told::Out;
@@ -12,10 +12,10 @@ use toml_span_places::{quote_key, quote_string};
 use toml_span_report::visible::push_quoted;
 use toml_span_report::{Report, Severity, Style, nearest, render_all, render_json, render_line};
 
-/// The name of the file.
+/// The name of the file in reports.
 const FILE: &str = "a.toml";
 
-/// Prints the answer to a row. Returns false if this module has no such call.
+/// Prints the answer to a row. Returns `false` if this module has no such call.
 pub fn answer(alloc: Global, row: Row<'_>, out: &mut Out) -> bool {
     match row.call {
         "nearest" => {
@@ -36,7 +36,7 @@ pub fn answer(alloc: Global, row: Row<'_>, out: &mut Out) -> bool {
     true
 }
 
-/// Returns the reports that `without_labels` prints, all with this message. Fails if an allocation fails.
+/// Returns the reports that `without_labels` prints, each with this message.
 fn reports_of(alloc: Global, message: &str) -> Result<Vec<Report>, AllocError> {
     let warning = Report::warning(alloc, "", message)?
         .secondary(Span::new(4, 5), "second")?

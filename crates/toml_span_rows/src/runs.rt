@@ -22,7 +22,7 @@ use std::io::{ErrorKind, Read, Write};
 use toml_span_lines::run::{run, run_with_limit};
 use toml_span_lines::tracked::Tracked;
 
-/// How the reader and the writer of a run behave. Calls are counted from 1; 0 means none.
+/// The behavior of the reader and the writer of a run. Calls are counted from 1; 0 means none.
 #[derive(Clone, Copy)]
 struct Ends {
     read: usize,
@@ -34,7 +34,7 @@ struct Ends {
 }
 
 impl Ends {
-    /// Sets the field that a word names. If the word ends in `each`, the number in it is `each`. Returns `None` if the
+    /// Sets the field that a word names. `each` is the number in a word that ends in `=each`. Returns `None` if the
     /// word can't be read.
     fn set(&mut self, word: &str, each: usize) -> Option<()> {
         let (name, number) = word.split_once('=')?;
@@ -55,8 +55,8 @@ impl Ends {
     }
 }
 
-/// Returns the behavior that the words describe, or `None` if a word can't be read. `each` is the number for a word
-/// that ends in `each`.
+/// Returns the behavior that the words describe, or `None` if a word can't be read. `each` is the number in a word that
+/// ends in `=each`.
 fn ends_of(words: &[String], each: usize) -> Option<Ends> {
     let mut ends = Ends {
         read: usize::MAX,
@@ -79,7 +79,7 @@ struct Given<'b> {
     left: &'b [u8],
     ends: Ends,
     calls: usize,
-    /// The number of bytes that have been read.
+    /// The number of bytes read so far.
     given: usize,
 }
 
@@ -99,7 +99,7 @@ impl Read for Given<'_> {
     }
 }
 
-/// A writer that keeps the bytes that it accepts.
+/// A writer into memory.
 #[derive(Drop)]
 struct Taken {
     bytes: Vec<u8>,
@@ -133,7 +133,7 @@ struct Ended<'b> {
     writer: Taken,
 }
 
-/// Runs the program on these bytes, with the depth limit `limit`.
+/// Runs the program on these bytes. `limit` is the depth limit.
 fn run_on(alloc: Global, limit: usize, bytes: &[u8], ends: Ends) -> Ended<'_>
     requires some { 1 ≤ limit }
     requires small { limit ≤ 128 }
@@ -162,8 +162,8 @@ fn run_on(alloc: Global, limit: usize, bytes: &[u8], ends: Ends) -> Ended<'_>
     }
 }
 
-/// Prints the status of a run and its numbers of calls and bytes. If the output is not a prefix of `whole`, prints only
-/// the output.
+/// Prints the status of a run, and its numbers of bytes and calls. If the output is not a prefix of `whole`, prints
+/// only the output.
 fn push_front(ended: &Ended<'_>, whole: &[u8], out: &mut Out) {
     let bytes = ended.writer.bytes.as_slice();
     if !whole.starts_with(bytes) {
@@ -183,8 +183,8 @@ fn push_front(ended: &Ended<'_>, whole: &[u8], out: &mut Out) {
     }
 }
 
-/// Runs the program with 1, 2 and so on in place of `each`, and prints a line for each run. Ends after the first run
-/// whose status is not 3.
+/// Runs the program with 1, 2 and so on in place of `each`, and prints a line for each run. Stops after the first run
+/// with a status other than 3.
 fn push_each(alloc: Global, limit: usize, words: &[String], whole: &Ended<'_>, out: &mut Out)
     requires some { 1 ≤ limit }
     requires small { limit ≤ 128 }
@@ -201,7 +201,7 @@ fn push_each(alloc: Global, limit: usize, words: &[String], whole: &Ended<'_>, o
     }
 }
 
-/// Prints the answer to a row. Returns false if the row's call is not `run`, or if a word of the row is wrong.
+/// Prints the answer to a row. Returns `false` if the row's call is not `run`, or if a word of the row is wrong.
 pub fn answer(alloc: Global, row: Row<'_>, out: &mut Out) -> bool {
     if row.call != "run" {
         return false;

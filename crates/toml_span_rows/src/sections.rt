@@ -18,7 +18,7 @@ fn push_place(span: Span, out: &mut Out) {
     out.span(span);
 }
 
-/// Prints a key, and the text `after`.
+/// Prints a key and the text `after`.
 fn push_key(key: &Key<'_>, after: &str, out: &mut Out) {
     out.push_str(key.name.as_ref());
     push_place(key.span, out);
@@ -57,7 +57,7 @@ fn push_sections(sections: &[Section<'_>], out: &mut Out) {
     }
 }
 
-/// Prints the answer of a call on sections.
+/// Prints the answer to a call on sections.
 fn push_call(alloc: Global, row: Row<'_>, sections: &[Section<'_>], out: &mut Out) {
     match row.call {
         "read" => push_sections(sections, out),
@@ -67,7 +67,7 @@ fn push_call(alloc: Global, row: Row<'_>, sections: &[Section<'_>], out: &mut Ou
     }
 }
 
-/// Prints the answer to a row. Returns false if this module has no such call, or if a word of the row is wrong.
+/// Prints the answer to a row. Returns `false` if this module has no such call, or if a word of the row is wrong.
 pub fn answer(alloc: Global, row: Row<'_>, out: &mut Out) -> bool {
     if !matches!(
         row.call,

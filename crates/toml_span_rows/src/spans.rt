@@ -8,7 +8,7 @@ use toml_span::tokens::Tokenizer;
 use toml_span::value::Key;
 use toml_span::{Span, Spanned};
 
-/// Prints two clones of a key whose name is `text`, and two clones of the text with its span.
+/// Prints two clones of a key with the name `text`, and two clones of `text`, all with this span.
 fn push_copies(alloc: Global, span: Span, text: &str, out: &mut Out) {
     let Some(name) = out.kept(String::from_str(alloc, text)) else {
         return;
@@ -25,7 +25,7 @@ fn push_copies(alloc: Global, span: Span, text: &str, out: &mut Out) {
     }
 }
 
-/// Prints the answer to a row. Returns false if this module has no such call, or if a word of the row is wrong.
+/// Prints the answer to a row. Returns `false` if this module has no such call, or if a word of the row is wrong.
 pub fn answer(alloc: Global, row: Row<'_>, out: &mut Out) -> bool {
     let words = (row.word(0).parse::<usize>(), row.word(1).parse::<usize>());
     let (Ok(start), Ok(end)) = words else {

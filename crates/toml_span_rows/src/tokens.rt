@@ -1,6 +1,7 @@
-//! Calls of a `Tokenizer`.
+//! Calls on a `Tokenizer`.
 //!
-//! - `tokens`: the tokens of a text, one per line, up to its end or its first error, and the offset after that.
+//! - `tokens`: the tokens of a text, one per line, up to the end of the text or the first error, and the offset after
+//!   an error.
 //! - `tokenizer OPERATIONS`: the results of these calls, made one after the other.
 //!
 //! An operation is the name of a method. Some are followed by `=` and the expected token, such as `Equals` or, with its
@@ -15,7 +16,7 @@ use toml_span::tokens::{Error, Token, Tokenizer};
 use toml_span::value::Key;
 use toml_span::{Span, Stop};
 
-/// Returns the token that a word names, or `None` if it names no token. A string is written as its text with the
+/// Returns the token that a word names, or `None` for any other word. The content of a string is its text with the
 /// quotes, `=`, and its value.
 fn token_of(named: &str) -> Option<Token<'_>> {
     let (kind, content) = match named.split_once('(') {
@@ -55,7 +56,7 @@ fn push_stop(out: &mut Out, stop: &Stop<Error>) {
     }
 }
 
-/// Prints whether a text is borrowed from the document.
+/// Prints whether a text is borrowed or owned.
 fn push_holder(out: &mut Out, text: &CowStr<'_>) {
     out.push_str(match text {
         CowStr::Borrowed(_) => " borrowed",
@@ -63,8 +64,8 @@ fn push_holder(out: &mut Out, text: &CowStr<'_>) {
     });
 }
 
-/// Prints the token in `answer` or, if `in_words`, only its name. Prints `end` for `None`, and the error if the call
-/// failed.
+/// Prints the token in `answer` or, if `in_words`, only its name. Prints `end` for `None`, or the error of a failed
+/// call.
 fn push_step(
     out: &mut Out,
     answer: Result<Option<(Span, Token<'_>)>, Stop<Error>>,
@@ -85,7 +86,7 @@ fn push_step(
     }
 }
 
-/// Prints the key in `answer`, or the error if the call failed.
+/// Prints the key in `answer`, or the error of a failed call.
 fn push_key(out: &mut Out, answer: Result<Key<'_>, Stop<Error>>) {
     match &answer {
         Ok(key) => {
@@ -98,7 +99,7 @@ fn push_key(out: &mut Out, answer: Result<Key<'_>, Stop<Error>>) {
     }
 }
 
-/// A tokenizer and a copy of it.
+/// A tokenizer and a copy.
 #[derive(Drop)]
 struct Tokenizers<'t> {
     used: Tokenizer<'t>,
@@ -106,8 +107,8 @@ struct Tokenizers<'t> {
 }
 
 impl<'t> Tokenizers<'t> {
-    /// Calls the method with this name, which expects a token, and prints the result. Returns whether there is such a
-    /// method.
+    /// Calls the method with this name, which expects a token, and prints the result. Returns `false` for an unknown
+    /// name.
     fn push_expecting(
         &mut self,
         alloc: Global,
@@ -125,7 +126,7 @@ impl<'t> Tokenizers<'t> {
         true
     }
 
-    /// Calls the method with this name, and prints the result. Returns whether there is such a method.
+    /// Calls the method with this name, and prints the result. Returns `false` for an unknown name.
     fn push_call(&mut self, alloc: Global, name: &str, out: &mut Out) -> bool {
         match name {
             "step" => push_step(out, self.used.step(alloc), false),
@@ -141,7 +142,7 @@ impl<'t> Tokenizers<'t> {
         true
     }
 
-    /// Calls the method with this name, which returns nothing. Returns whether there is such a method.
+    /// Calls the method with this name, which returns nothing. Returns `false` for an unknown name.
     fn push_quiet_call(&mut self, name: &str, out: &mut Out) -> bool {
         match name {
             "eat_whitespace" => self.used.eat_whitespace(),
@@ -159,8 +160,8 @@ impl<'t> Tokenizers<'t> {
     }
 }
 
-/// Calls methods of one tokenizer, in the order in which the words name them, and prints a line for each. Returns false
-/// at a word that names no method.
+/// Calls methods of one tokenizer, in the order of the words, and prints a line for each. Returns `false` at a word
+/// that names no method.
 fn push_calls(alloc: Global, row: Row<'_>, out: &mut Out) -> bool {
     let mut tokenizers = Tokenizers {
         used: Tokenizer::new(row.text),
@@ -182,7 +183,7 @@ fn push_calls(alloc: Global, row: Row<'_>, out: &mut Out) -> bool {
     true
 }
 
-/// Prints the tokens of a text, one per line, up to its end or its first error.
+/// Prints the tokens of a text, one per line, up to the end of the text or the first error.
 fn push_tokens(alloc: Global, text: &str, out: &mut Out) {
     let mut tokenizer = Tokenizer::new(text);
     for _ in 0..=text.len() {
@@ -200,7 +201,7 @@ fn push_tokens(alloc: Global, text: &str, out: &mut Out) {
     }
 }
 
-/// Prints the answer to a row. Returns false if this module has no such call, or if a word of the row is wrong.
+/// Prints the answer to a row. Returns `false` if this module has no such call, or if a word of the row is wrong.
 pub fn answer(alloc: Global, row: Row<'_>, out: &mut Out) -> bool {
     match row.call {
         "tokens" => {

@@ -7,12 +7,12 @@ use toml_span::Span;
 #[derive(Drop)]
 pub struct Out {
     pub text: String,
-    /// Whether an allocation for a part failed.
+    /// Whether an allocation failed.
     pub is_short: bool,
 }
 
 impl Out {
-    /// Returns an empty text.
+    /// Returns an empty output.
     pub fn new(alloc: Global) -> Out {
         Out {
             text: String::new(alloc),
@@ -20,7 +20,7 @@ impl Out {
         }
     }
 
-    /// Returns the result of a call, or records that an allocation failed and returns `None`.
+    /// Returns the value that a call returned. If the call failed, records a failed allocation and returns `None`.
     pub fn kept<T: Drop>(&mut self, made: Result<T, AllocError>) -> Option<T> {
         match made {
             Ok(value) => Some(value),
@@ -38,7 +38,7 @@ impl Out {
         }
     }
 
-    /// Appends the text that a call returned.
+    /// Appends the text that a call returned, or records that the call failed.
     pub fn made(&mut self, made: Result<String, AllocError>) {
         if let Some(text) = self.kept(made) {
             self.push_str(text.as_str());
@@ -52,7 +52,7 @@ impl Out {
         }
     }
 
-    /// Appends the `Debug` output of a value, and a line feed.
+    /// Appends the `Debug` output of a value and a line feed.
     pub fn told_line<T: Debug + Drop>(&mut self, told: T) {
         self.told(told);
         self.push_str("\n");

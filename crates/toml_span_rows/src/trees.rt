@@ -1,7 +1,7 @@
 //! Calls on the tree of a document. If the text is not valid TOML, they print its error.
 //!
-//! - `parse LIMIT`: the lines of the tree. `twice` parses the text twice: prints a word for the first result, then the
-//!   lines of the second.
+//! - `parse LIMIT`: the lines of the tree. `twice` parses the text twice, and prints a word for the first result, then
+//!   the lines of the second.
 //! - `json`: the JSON value.
 //! - `again`: each value that is written in one piece, parsed again.
 //! - `node_at OFFSET`: see `places`. `write OPERATION ..`: see `writes`. Typed reads: see `typed`.
@@ -22,8 +22,8 @@ mod pieces;
 pub mod shown;
 mod writes;
 
-/// Returns the depth limit that a row gives to `parse`, `read` or `run`, or 128 for any other call. Returns `None` if
-/// the row's first word is not a number from 1 to 128.
+/// Returns the depth limit of a row: the first word of `parse`, `read` or `run`, or 128 for any other call. Returns
+/// `None` if that word is not a number from 1 to 128.
 pub(crate) fn limit_of(row: Row<'_>) -> Option<usize>
     ensures some { IfSome result (λ limit. 1 ≤ limit) }
     ensures small { IfSome result (λ limit. limit ≤ 128) }
@@ -39,7 +39,7 @@ pub(crate) fn limit_of(row: Row<'_>) -> Option<usize>
     }
 }
 
-/// Prints the JSON value of a tree from which nothing has been taken. If an allocation fails, tries once more.
+/// Prints the JSON value of a tree, or `not whole`. If an allocation fails, tries once more.
 fn push_json(alloc: Global, root: &Value<'_>, out: &mut Out) {
     if !root.is_whole() {
         return out.push_str("not whole");
@@ -54,7 +54,7 @@ fn push_json(alloc: Global, root: &Value<'_>, out: &mut Out) {
     }
 }
 
-/// Prints the answer of a call on a tree. Returns false for an unknown call, or if the call can't be made on this tree.
+/// Prints the answer to a call on a tree. Returns `false` if the call is unknown, or can't be made on this tree.
 fn push_call<'t>(alloc: Global, row: Row<'t>, root: &mut Value<'t>, out: &mut Out) -> bool {
     match row.call {
         "parse" | "twice" => push_lines(alloc, root, out),
@@ -67,7 +67,7 @@ fn push_call<'t>(alloc: Global, row: Row<'t>, root: &mut Value<'t>, out: &mut Ou
     true
 }
 
-/// Prints the error of a text, in the form that the call prints.
+/// Prints the error of a text, in the form for this call.
 fn push_refused(alloc: Global, call: &str, fault: &Error<'_>, out: &mut Out) {
     match call {
         "diagnostics" => push_twice(alloc, fault, out),
@@ -76,7 +76,8 @@ fn push_refused(alloc: Global, call: &str, fault: &Error<'_>, out: &mut Out) {
     }
 }
 
-/// Prints the answer to a row. Returns false if this module has no such call, or if a word of the row is wrong.
+/// Prints the answer to a row: for any call, the error of a text that is not valid TOML. Returns `false` if the limit
+/// is wrong or, for a valid text, if this module has no such call or another word is wrong.
 pub fn answer(alloc: Global, row: Row<'_>, out: &mut Out) -> bool {
     let Some(limit) = limit_of(row) else {
         return false;

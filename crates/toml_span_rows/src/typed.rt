@@ -1,8 +1,8 @@
-//! Typed reads. The result of a call is followed by the lines of the tree that it leaves.
+//! Typed reads. After the result of a call, the lines of the tree are printed as the call leaves it.
 //!
 //! - `typed TYPE` reads the value at `/a`, `typed_root TYPE` the root: the value, or the errors.
-//! - `errors TYPE` reads the value at `/a`, and prints the result of each method of the `DeserError`. `diagnostics
-//!   TYPE` and `copied TYPE`: see `faults`, for the last error.
+//! - `errors TYPE` reads the value at `/a`, and prints the result of each method of the `DeserError`.
+//!   `diagnostics TYPE` and `copied TYPE`: see `faults`, for the last error.
 //! - `merge TYPE TYPE` reads `/a` and `/b`, and appends the errors of the second to those of the first.
 //! - `parse_string TYPE` parses the string at `/a`. `open` makes a helper for the value at `/a`.
 //! - `fields CALL ..` makes a helper for the root, and makes each call on it.
@@ -24,8 +24,8 @@ use toml_span::DeserError;
 use toml_span::de_helpers::{TableHelper, parse};
 use toml_span::value::Value;
 
-/// Prints the answer to a row for a tree. Returns false if this module has no such call, or if the call can't be made
-/// on this tree.
+/// Prints the answer to a row, and then the lines of the tree. Returns `false` if this module has no such call, or if
+/// the call can't be made on this tree.
 pub fn answer<'de>(alloc: Global, row: Row<'de>, root: &mut Value<'de>, out: &mut Out) -> bool {
     let known = match row.call {
         "typed_root" => push_read(alloc, row.word(0), root, out),
@@ -38,8 +38,8 @@ pub fn answer<'de>(alloc: Global, row: Row<'de>, root: &mut Value<'de>, out: &mu
     known
 }
 
-/// Prints the result of the row's call on the value at `/a`. Returns false for an unknown call, or if the value is
-/// missing.
+/// Prints the result of the row's call on the value at `/a`. Returns `false` if the value is missing, or if the call is
+/// unknown or can't be made on it.
 fn push_at<'de>(alloc: Global, row: Row<'de>, root: &mut Value<'de>, out: &mut Out) -> bool {
     match root.pointer_mut("/a") {
         Some(value) if row.call == "typed" => push_read(alloc, row.word(0), value, out),
@@ -48,8 +48,8 @@ fn push_at<'de>(alloc: Global, row: Row<'de>, root: &mut Value<'de>, out: &mut O
     }
 }
 
-/// Prints the result of `parse_string` or `open`, which take the value. Returns false for an unknown call, or if the
-/// value has been taken.
+/// Prints the result of `parse_string` or `open` on a value. Returns `false` for any other call, or if the value has
+/// been taken.
 fn push_call<'de>(alloc: Global, row: Row<'_>, value: &mut Value<'de>, out: &mut Out) -> bool {
     if value.is_taken() {
         return false;
@@ -69,8 +69,8 @@ fn push_call<'de>(alloc: Global, row: Row<'_>, value: &mut Value<'de>, out: &mut
     true
 }
 
-/// Prints the errors of one read or, for `merge`, of two, as the row's call says. Returns false if a read has no
-/// errors.
+/// Reads the value at `/a`, for `merge` also the value at `/b`, and prints the errors. Returns `false` if a read
+/// returns no errors.
 fn push_errors<'de>(alloc: Global, row: Row<'de>, root: &mut Value<'de>, out: &mut Out) -> bool {
     let Some(mut errors) = errors_at(alloc, row.word(0), root, "/a", out) else {
         return false;
@@ -89,8 +89,8 @@ fn push_errors<'de>(alloc: Global, row: Row<'de>, root: &mut Value<'de>, out: &m
     true
 }
 
-/// Appends the errors `more` to `errors`, and prints the result. If an allocation fails, tries again with the errors
-/// that `merge` returns.
+/// Appends the errors `more` to `errors`, and prints the result. If an allocation fails, tries once more with the
+/// errors that `merge` returns.
 fn push_merge<'de>(
     alloc: Global,
     errors: &mut DeserError<'de>,
@@ -104,8 +104,8 @@ fn push_merge<'de>(
     }
 }
 
-/// Prints the result of each method of a `DeserError`: the number of errors, `get` at each position and at the one
-/// after the last, the errors that `iter` yields, the last error, and the text of all errors.
+/// Prints the result of each method of a `DeserError`: the number of errors, `get` at each position and after the last
+/// one, the errors of `iter`, the last error, and the text of all errors.
 fn push_lists(errors: &DeserError<'_>, out: &mut Out) {
     let len = errors.len();
     out.told_line(len);

@@ -1,4 +1,4 @@
-//! Functions that call `toml_span`, with contracts that say what follows from its contracts.
+//! Functions that call `toml_span`, with contracts that follow from its contracts.
 ghost use Rattle.std.specs.Prelude.{◌≡◌, ◌↔◌, ◌∷◌, [], pos, codes, Some, IfOk, IfErr};
 ghost use Rattle.toml_span_lex.specs.declared.span.Span.{Span as Bytes};
 ghost use Rattle.toml_span_tree.specs.Node.{integer};
@@ -14,8 +14,8 @@ use std::alloc::Global;
 use toml_span::de_helpers::TableHelper;
 use toml_span::{Error, Span, Stop, parse};
 
-/// Returns the span of the value that the pointer names, or `None` if it names nothing. Fails with `Stop::Fault` if the
-/// text is not valid TOML, and with `Stop::Memory` if an allocation fails.
+/// Returns the span of the value that `pointer` names, or `None` if it names nothing. Fails if the text is not valid
+/// TOML.
 pub(crate) fn span_at<'de>(
     alloc: Global,
     text: &'de str,
@@ -32,8 +32,8 @@ pub(crate) fn span_at<'de>(
     }
 }
 
-/// Returns the integer `port` of a document. Fails with `Stop::Fault` if the text is not valid TOML, or if `port` is
-/// missing or not a `u16`, and with `Stop::Memory` if an allocation fails.
+/// Returns the integer `port` of a document. Fails if the text is not valid TOML, or if `port` is missing or not a
+/// `u16`.
 #[tactic(auto, using(toml_span_typed::proofs::Whole::found_whole))]
 pub(crate) fn port_of<'de>(alloc: Global, text: &'de str) -> Result<u16, Stop<Error<'de>>>
     ensures port { IfOk result (λ port. IsDocument text.now (λ places. (place : Place)

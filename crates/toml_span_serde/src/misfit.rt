@@ -1,4 +1,4 @@
-//! Why a value could not be read as a type.
+//! Errors that say why a value can't be read as a type.
 ghost use Rattle.std.specs.Fmt.{WritesOnOk};
 ghost use Rattle.std.specs.List.{flat_map};
 ghost use Rattle.std.specs.Prelude.{◌≡◌, ◌++◌, [], IfOk, Some, codes, map, option_map, string_bytes};
@@ -28,7 +28,7 @@ pub enum Expected {
     Float,
     Character,
     String,
-    /// A string that can be borrowed, that is, whose value equals the text at its span.
+    /// A string that can be borrowed, because its value equals the text at its span.
     PlainString,
     Array,
     Table,
@@ -52,7 +52,7 @@ pub enum Found {
 }
 
 impl Expected {
-    /// Returns the name of the kind with its article: `an integer`.
+    /// Returns the name of the kind with its article, such as `an integer`.
     pub(crate) fn words(self) -> &'static str
         ensures { result.now ≡ words_of self }
     {
@@ -98,43 +98,44 @@ pub enum Reason {
         expected: Expected,
         found: Found,
     },
-    /// One of several other kinds was expected: no variant of an `untagged` enum accepts a value of this kind.
+    /// A value of one of several other kinds was expected. No variant of an `untagged` enum accepts this kind.
     WantedOneOf {
         expected: Vec<Expected>,
         found: Found,
     },
-    /// The type does not accept a value of this kind, or a variant of an `untagged` enum accepted the kind, but could
-    /// not read the rest of the value.
+    /// The type does not accept a value of this kind. In an `untagged` enum, a variant may accept the kind, but not the
+    /// rest of the value.
     Unexpected(Found),
     /// The table lacks the key of this field.
     MissingField(String),
-    /// Two keys of a table name this field. The misfit is at the later key, and `first` is the span of the earlier key,
-    /// if it is known.
+    /// Two keys of a table name this field. The misfit is at the later key. `first` is the span of the earlier key, if
+    /// known.
     DuplicateField {
         name: String,
         first: Option<Span>,
     },
-    /// The table has the key `name`, which names no field. `expected` are the keys of the fields.
+    /// The table has the key `name`, which is not the name of a field. `expected` are the names and aliases of the
+    /// fields.
     UnknownField {
         name: String,
         expected: Vec<String>,
     },
-    /// The text `name` is not the name of a variant. `expected` are the names of the variants.
+    /// The text `name` is not the name of a variant. `expected` are the names and aliases of the variants.
     UnknownVariant {
         name: String,
         expected: Vec<String>,
     },
-    /// The array has this number of elements, which is not the number that the type expects.
+    /// The array has this number of elements, and the type expects another number.
     Length(usize),
-    /// The array has more elements than this number, which the type expects.
+    /// The array has more elements than the type expects, which is this number.
     TooLong(usize),
     /// The type can't represent the number.
     OutOfRange,
     /// The number is negative, and the type is unsigned.
     Negative,
-    /// The type refuses the value.
+    /// The type does not accept the value.
     Invalid,
-    /// The type refuses the value with a message of its own.
+    /// The type does not accept the value, and gives this message.
     Custom(String),
 }
 
@@ -149,7 +150,7 @@ fn write_more<W: Write>(f: &mut Formatter<W>, names: &[String]) -> fmt::Result
     Ok(())
 }
 
-/// Writes the expected names, or the text `none` if there are none.
+/// Writes the expected names or, if `names` is empty, the argument `none`.
 fn write_expected<W: Write>(f: &mut Formatter<W>, none: &str, names: &[String]) -> fmt::Result
     ensures { WritesOnOk W.write_str_gives f.old result (expected_text none.now (map string_bytes names.now)) f.new }
 {
@@ -175,7 +176,7 @@ fn write_parted<W: Write>(f: &mut Formatter<W>, kinds: &[Expected]) -> fmt::Resu
     Ok(())
 }
 
-/// Writes `kinds`, the kinds after the first one: each after a comma, but the last one after "or".
+/// Writes the kinds after the first one: each after a comma, the last one after "or".
 fn write_more_kinds<W: Write>(f: &mut Formatter<W>, kinds: &[Expected]) -> fmt::Result
     ensures { WritesOnOk W.write_str_gives f.old result (more_kinds_text kinds.now) f.new }
 {
@@ -189,7 +190,7 @@ fn write_more_kinds<W: Write>(f: &mut Formatter<W>, kinds: &[Expected]) -> fmt::
     }
 }
 
-/// Writes the kinds, with "or" before the last one if there are several.
+/// Writes the kinds, with commas between them and "or" before the last one.
 fn write_kinds<W: Write>(f: &mut Formatter<W>, kinds: &[Expected]) -> fmt::Result
     ensures { WritesOnOk W.write_str_gives f.old result (kinds_text kinds.now) f.new }
 {
@@ -242,7 +243,7 @@ impl Display for Reason {
 }
 
 impl Reason {
-    /// Returns the kind of error that this reason becomes. Fails if an allocation fails.
+    /// Returns the kind of error for this reason.
     fn kind(&self, alloc: Global) -> Result<ErrorKind<'_>, AllocError>
         ensures { IfOk result (λ kind. kind_of kind ≡ kind_of_reason self.now) }
     {
@@ -260,15 +261,15 @@ impl Reason {
         })
     }
 
-    /// Returns a `Custom` kind of error with the text of this reason. Fails if an allocation fails.
+    /// Returns a `Custom` kind of error with the text of this reason.
     fn custom<'c>(&self, alloc: Global) -> Result<ErrorKind<'c>, AllocError>
         ensures { IfOk result (λ kind. kind_of kind ≡ custom (reason_text self.now)) }
     {
         Ok(ErrorKind::Custom(CowStr::Owned(self.to_string(alloc)?)))
     }
 
-    /// Returns the kind of error for a field that two keys name: `DuplicateKey` or, if `first`, the span of the earlier
-    /// key, is not known, `Custom`. Fails if an allocation fails.
+    /// Returns the kind of error for a field that two keys name: `DuplicateKey`, or `Custom` if `first`, the span of
+    /// the earlier key, is not known.
     fn twice<'c>(
         &self,
         alloc: Global,
@@ -286,7 +287,7 @@ impl Reason {
         }
     }
 
-    /// Returns a `Marked` kind of error with this code and the text of this reason. Fails if an allocation fails.
+    /// Returns a `Marked` kind of error with this code and the text of this reason.
     fn marked<'c>(&self, alloc: Global, code: &'c str) -> Result<ErrorKind<'c>, AllocError>
         ensures { IfOk result (λ kind. kind_of kind ≡ marked code.now (reason_text self.now) []) }
     {
@@ -298,7 +299,7 @@ impl Reason {
     }
 
     /// Returns the expected name that is nearest to an unknown key or variant. Returns `None` if no name is near enough
-    /// (`toml_span_report::nearest`), and for any other `Reason`. Fails only if an allocation fails.
+    /// (`toml_span_report::nearest`), and for any other reason. Fails if an allocation fails.
     pub fn meant(&self, alloc: Global) -> Result<Option<&str>, AllocError>
         ensures { IfOk result (λ found. option_map (λ name. name.now) found ≡ meant_by self.now) }
     {
@@ -320,16 +321,16 @@ impl Reason {
 #[derive(Debug, Drop)]
 pub struct Misfit {
     pub reason: Reason,
-    /// The span, in bytes, of the value at which the read stopped or of that value's key.
+    /// The span of the value or key at which the read stopped.
     pub span: Span,
-    /// The line and the column of `span.start`, both counted from 0, the column in bytes, if they are known.
+    /// The line and the column of `span.start`, if known. Both are counted from 0, the column in bytes.
     pub line_info: Option<(usize, usize)>,
-    /// The path from the root to the value.
+    /// The path to the value at which the read stopped or, for a key, to the value that the key names.
     pub path: Vec<Step>,
 }
 
 impl Misfit {
-    /// Converts the misfit to an error with the same span, line and column. Fails only if an allocation fails.
+    /// Converts the misfit to an error with the same span, line and column. Fails if an allocation fails.
     pub fn to_error(&self, alloc: Global) -> Result<toml_span_tree::Error<'_>, AllocError>
         ensures { IfOk result (λ error. content_of error ≡ content_of_misfit self.now) }
     {
@@ -350,7 +351,7 @@ pub enum Error<'s> {
     Misfit(Misfit),
 }
 
-/// Writes the steps after the first: `.` and a name, or a position in brackets.
+/// Writes the steps after the first: `.` and a name for a key, and a position in brackets.
 fn write_further<W: Write>(f: &mut Formatter<W>, steps: &[Step]) -> fmt::Result
     ensures { WritesOnOk W.write_str_gives f.old result (flat_map further_text steps.now) f.new }
 {
@@ -363,7 +364,7 @@ fn write_further<W: Write>(f: &mut Formatter<W>, steps: &[Step]) -> fmt::Result
     Ok(())
 }
 
-/// Writes a path and a colon, as in `servers[1].port: `. Writes nothing for the root.
+/// Writes a path and a colon, as in `servers[1].port: `, or nothing for the root.
 fn write_place<W: Write>(f: &mut Formatter<W>, path: &[Step]) -> fmt::Result
     ensures { WritesOnOk W.write_str_gives f.old result (place_text path.now) f.new }
 {
@@ -409,15 +410,15 @@ impl Error<'_> {
         self.place().0
     }
 
-    /// Returns the line and the column of the span's start, or `None` if they are not known. Both count from 0, and the
-    /// column counts bytes.
+    /// Returns the line and the column of the span's start, or `None` if they are not known. Both are counted from 0,
+    /// the column in bytes.
     pub fn line_info(&self) -> Option<(usize, usize)>
         ensures { result ≡ (content_of_error self.now).line_info }
     {
         self.place().1
     }
 
-    /// Returns the span, and the line and the column of its start, or `None` if these are not known.
+    /// Returns the span, and the line and the column of its start, if known.
     fn place(&self) -> (Span, Option<(usize, usize)>)
         ensures { (result.0 ≡ (content_of_error self.now).span) × (result.1 ≡ (content_of_error self.now).line_info) }
     {
@@ -428,7 +429,7 @@ impl Error<'_> {
     }
 
     /// Converts the error to a diagnostic that an editor or a terminal can show. `fid` identifies the file in the
-    /// labels. Fails only if an allocation fails.
+    /// labels. Fails if an allocation fails.
     pub fn to_diagnostic<F: Copy + PartialEq>(
         &self,
         alloc: Global,

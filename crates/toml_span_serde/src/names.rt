@@ -1,4 +1,4 @@
-//! The names of fields and variants, to compare keys and texts with.
+//! The names of fields and variants, with which keys and texts are compared.
 ghost use Rattle.std.specs.Prelude.{◌≡◌, ◌++◌, IfOk, OnOk, map, option_map, string_bytes};
 ghost use Rattle.toml_span_report.specs.Names.{nearest};
 ghost use Rattle.toml_span_serde.specs.Names.{text_of};
@@ -7,7 +7,7 @@ ghost use Rattle.toml_span_serde.specs.Names as spec;
 use serde::Name;
 use std::alloc::{AllocError, Global};
 
-/// Returns a name, converted to the case that `rename_all` asks for. Fails if an allocation fails.
+/// Returns a name, converted to the case that `rename_all` requires.
 fn text_of(alloc: Global, name: &Name<'_>) -> Result<String, AllocError>
     ensures { IfOk result (λ text. string_bytes text ≡ text_of name.now) }
 {
@@ -16,7 +16,7 @@ fn text_of(alloc: Global, name: &Name<'_>) -> Result<String, AllocError>
     Ok(text)
 }
 
-/// Appends all forms of a name: the name itself and its aliases. Fails if an allocation fails.
+/// Appends a name and its aliases.
 fn push_forms(alloc: Global, name: &Name<'_>, texts: &mut Vec<String>) -> Result<(), AllocError>
     ensures { OnOk result (map string_bytes texts.new.items
         ≡ map string_bytes texts.old.items ++ spec.forms_of name.now) }
@@ -25,7 +25,7 @@ fn push_forms(alloc: Global, name: &Name<'_>, texts: &mut Vec<String>) -> Result
     push_copies(alloc, name.aliases, texts)
 }
 
-/// Appends copies of the texts. Fails if an allocation fails.
+/// Appends copies of the texts.
 fn push_copies(alloc: Global, copied: &[&str], texts: &mut Vec<String>) -> Result<(), AllocError>
     ensures { OnOk result (map string_bytes texts.new.items
         ≡ map string_bytes texts.old.items ++ map (λ text. text.now) copied.now) }
@@ -36,7 +36,7 @@ fn push_copies(alloc: Global, copied: &[&str], texts: &mut Vec<String>) -> Resul
     Ok(())
 }
 
-/// Appends the name and its aliases, unless its field is skipped. Fails if an allocation fails.
+/// Appends a name and its aliases, or nothing if its field is skipped.
 fn push_read(alloc: Global, name: &Name<'_>, texts: &mut Vec<String>) -> Result<(), AllocError>
     ensures { OnOk result (map string_bytes texts.new.items
         ≡ map string_bytes texts.old.items ++ spec.forms_read name.now) }
@@ -47,7 +47,7 @@ fn push_read(alloc: Global, name: &Name<'_>, texts: &mut Vec<String>) -> Result<
     push_forms(alloc, name, texts)
 }
 
-/// Returns all forms of a name: the name itself and its aliases. Fails if an allocation fails.
+/// Returns a name and its aliases.
 pub(crate) fn forms_of(alloc: Global, name: &Name<'_>) -> Result<Vec<String>, AllocError>
     ensures { IfOk result (λ texts. map string_bytes texts.items ≡ spec.forms_of name.now) }
 {
@@ -56,7 +56,7 @@ pub(crate) fn forms_of(alloc: Global, name: &Name<'_>) -> Result<Vec<String>, Al
     Ok(texts)
 }
 
-/// Returns the names with their aliases, except those of skipped fields. Fails if an allocation fails.
+/// Returns the names and their aliases, without those of skipped fields.
 pub(crate) fn all_forms(alloc: Global, names: &[Name<'_>]) -> Result<Vec<String>, AllocError>
     ensures { IfOk result (λ texts. map string_bytes texts.items ≡ spec.all_forms names.now) }
 {
@@ -67,7 +67,7 @@ pub(crate) fn all_forms(alloc: Global, names: &[Name<'_>]) -> Result<Vec<String>
     Ok(texts)
 }
 
-/// Returns copies of the texts. Fails if an allocation fails.
+/// Returns copies of the texts.
 pub(crate) fn copied(alloc: Global, texts: &[String]) -> Result<Vec<String>, AllocError>
     ensures { IfOk result (λ copy. map string_bytes copy.items ≡ map string_bytes texts.now) }
 {
@@ -78,7 +78,7 @@ pub(crate) fn copied(alloc: Global, texts: &[String]) -> Result<Vec<String>, All
     Ok(copy)
 }
 
-/// Returns the texts, borrowed. Fails if an allocation fails.
+/// Returns the texts as borrowed strings.
 fn lent(alloc: Global, texts: &[String]) -> Result<Vec<&str>, AllocError>
     ensures { IfOk result (λ lent. map (λ text. text.now) lent.items ≡ map string_bytes texts.now) }
 {
@@ -89,8 +89,7 @@ fn lent(alloc: Global, texts: &[String]) -> Result<Vec<&str>, AllocError>
     Ok(lent)
 }
 
-/// Returns the name that is nearest to a word, or `None` if no name is near enough (`toml_span_report::nearest`). Fails
-/// if an allocation fails.
+/// Returns the name that is nearest to a word, or `None` if no name is near enough (`toml_span_report::nearest`).
 pub(crate) fn meant<'a>(
     alloc: Global,
     word: &str,

@@ -28,15 +28,15 @@ impl Display for Step {
     }
 }
 
-/// A step of a path, whose name is borrowed from the tree.
+/// A step of a path, with a name borrowed from the tree.
 #[derive(Clone, Copy, Drop)]
 enum Down<'v> {
     Key(&'v str),
     Position(usize),
 }
 
-/// Returns the path to the value of a piece or, if the piece is a key, to the value that the key names. `before` are
-/// all pieces before this piece. Fails if an allocation fails.
+/// Returns the path to the value of a piece or, for a key, to the value that the key names. `before` are all pieces
+/// before the piece, and `content` is its content.
 pub(crate) fn path_to<'v>(
     alloc: Global,
     before: &[Piece<'v>],
@@ -50,8 +50,8 @@ pub(crate) fn path_to<'v>(
     steps_of(alloc, downs.as_slice())
 }
 
-/// Returns how many elements of the innermost open array the pieces `before` contain. Returns 0 if no array is open, or
-/// if the value of a key inside that array has not ended yet. Fails if an allocation fails.
+/// Counts the elements that have ended in the innermost array that is open after the pieces `before`. Returns 0 if no
+/// array is open, or if an entry of a table in that array is open too.
 pub(crate) fn elements_in(alloc: Global, before: &[Piece<'_>]) -> Result<usize, AllocError>
     ensures { IfOk result (λ count. count ≡ elements_in (map piece_of before.now)) }
 {
@@ -62,7 +62,7 @@ pub(crate) fn elements_in(alloc: Global, before: &[Piece<'_>]) -> Result<usize, 
     }
 }
 
-/// Returns the path to the piece that follows the pieces `before`. Fails if an allocation fails.
+/// Returns the path to the piece after the pieces `before`.
 fn way_after<'v>(alloc: Global, before: &[Piece<'v>]) -> Result<Vec<Down<'v>>, AllocError>
     ensures { IfOk result (λ downs. way_of downs.items ≡ walked (map piece_of before.now) []) }
 {
@@ -73,8 +73,7 @@ fn way_after<'v>(alloc: Global, before: &[Piece<'v>]) -> Result<Vec<Down<'v>>, A
     Ok(downs)
 }
 
-/// Changes `downs`, the path to the piece with this content, into the path to the next piece. Fails if an allocation
-/// fails.
+/// Changes `downs` from the path to the piece with this content to the path to the next piece.
 fn pass<'v>(downs: &mut Vec<Down<'v>>, content: Content<'v>) -> Result<(), AllocError>
     ensures { OnOk result (way_of downs.new.items ≡ after (piece_content content.entry) (way_of downs.old.items)) }
 {
@@ -91,8 +90,8 @@ fn pass<'v>(downs: &mut Vec<Down<'v>>, content: Content<'v>) -> Result<(), Alloc
     Ok(())
 }
 
-/// Changes `downs`, the path to a piece, into the path to the piece's value or, if the piece is a key, to the value
-/// that the key names. Fails if an allocation fails.
+/// Changes `downs` from the path to a piece to the path to the piece's value or, for a key, to the value that the key
+/// names.
 fn turn_to<'v>(downs: &mut Vec<Down<'v>>, content: Content<'v>) -> Result<(), AllocError>
     ensures { OnOk result (way_of downs.new.items ≡ way_at (piece_content content.entry) (way_of downs.old.items)) }
 {
@@ -111,8 +110,7 @@ fn leave(downs: &mut Vec<Down<'_>>)
     downs.pop();
 }
 
-/// Changes the path to a value into the path to the piece that follows the value. A position is less than the number of
-/// pieces, so the next position fits into a `usize`. Fails if an allocation fails.
+/// Changes `downs` from the path to a value to the path to the piece after the value.
 fn end_value(downs: &mut Vec<Down<'_>>) -> Result<(), AllocError>
     ensures { OnOk result (way_of downs.new.items ≡ ended (way_of downs.old.items)) }
 {
@@ -125,7 +123,7 @@ fn end_value(downs: &mut Vec<Down<'_>>) -> Result<(), AllocError>
     Ok(())
 }
 
-/// Returns the path with owned names. Fails if an allocation fails.
+/// Returns the path with owned names.
 fn steps_of(alloc: Global, downs: &[Down<'_>]) -> Result<Vec<Step>, AllocError>
     ensures { IfOk result (λ path. path_of path.items ≡ map down_of downs.now) }
 {
@@ -136,7 +134,7 @@ fn steps_of(alloc: Global, downs: &[Down<'_>]) -> Result<Vec<Step>, AllocError>
     Ok(path)
 }
 
-/// Returns a step with an owned name. Fails if an allocation fails.
+/// Returns a step with an owned name.
 fn own(alloc: Global, down: Down<'_>) -> Result<Step, AllocError>
     ensures { IfOk result (λ step. step_of step ≡ down_of down.entry) }
 {

@@ -1,4 +1,5 @@
-//! Converts a tree to a row of pieces in the order of the text, the order in which a reader reads them.
+//! Converts a tree to a row of pieces, which a `Reader` reads. The entries of a table are in the order in which their
+//! keys' spans start.
 ghost use Rattle.std.specs.Prelude.{◌≡◌, ◌<◌, ◌≤◌, ◌-◌, ◌^◌, ◌++◌, ◌∷◌, IfOk, IfSome, List, OnOk, Some, length, map};
 ghost use Rattle.toml_span.specs.Ordered.{AreOrdered, IsOrdered, MembersOrdered};
 ghost use Rattle.toml_span.specs.code.Placing.{NamesAscend};
@@ -60,7 +61,7 @@ impl<'v> Content<'v> {
         }
     }
 
-    /// Returns how serde classifies the value or key before it is read.
+    /// Returns the kind of the value or key for serde.
     pub(crate) fn serde_kind(&self) -> Kind
         ensures { result ≡ kind_ahead (piece_content self.now) }
     {
@@ -76,7 +77,7 @@ impl<'v> Content<'v> {
         }
     }
 
-    /// Returns how many arrays and tables are open after this piece, if `depth` are open before it.
+    /// Returns the number of arrays and tables that are open after this piece, if `depth` are open before it.
     fn depth_after(&self, depth: usize) -> usize
         requires { depth < 2 ^ 64 - 1 }
         ensures { result ≡ depth_after (piece_content self.now) depth }
@@ -88,8 +89,7 @@ impl<'v> Content<'v> {
         }
     }
 
-    /// Returns the reason for which a type that has read the value does not accept it: `OutOfRange` for an integer,
-    /// otherwise `Invalid`.
+    /// Returns why a type that has read the value does not accept it: `OutOfRange` for an integer, otherwise `Invalid`.
     pub(crate) fn refusal(&self) -> Reason
         ensures { result ≡ refusal (piece_content self.now) }
     {
@@ -99,7 +99,7 @@ impl<'v> Content<'v> {
         }
     }
 
-    /// Returns the text of a string or a key, otherwise an empty text.
+    /// Returns the text of a string or key, otherwise an empty text.
     pub(crate) fn text(&self) -> &'v str
         ensures { result.now ≡ piece_text (piece_content self.now) }
     {
@@ -110,8 +110,8 @@ impl<'v> Content<'v> {
     }
 }
 
-/// Counts the pieces of the value with which `ahead` begins. A key counts as a value of one piece. Returns `None` if
-/// the value does not end in `ahead`.
+/// Returns the number of pieces of the value at the start of `ahead`, or 1 for a key. Returns `None` if the end of the
+/// value is missing.
 pub(crate) fn count_value(ahead: &[Piece<'_>]) -> Option<usize>
     ensures value { (n : Node) (rest : List Laid) → map piece_of ahead.now ≡ pieces n ++ rest
         → result ≡ Some (length (pieces n)) }
@@ -130,14 +130,14 @@ pub(crate) fn count_value(ahead: &[Piece<'_>]) -> Option<usize>
     None
 }
 
-/// A part of the tree that is not converted yet. The parts are converted from the last to the first.
+/// A part of the tree that has not been converted yet. Parts are converted from the last to the first.
 #[derive(Clone, Copy, Drop)]
 enum Task<'v, 'de> {
     Value(&'v Value<'de>),
     Piece(Piece<'v>),
 }
 
-/// Converts a tree to its pieces. Fails if an allocation fails.
+/// Returns the pieces of a tree, with the entries of each table in the order in which their keys' spans start.
 pub(crate) fn pieces_of<'v>(
     alloc: Global,
     root: &'v Value<'_>,
@@ -158,7 +158,7 @@ pub(crate) fn pieces_of<'v>(
     Err(AllocError)
 }
 
-/// Converts one part: adds its last piece to `made`, and its other parts to `tasks`. Fails if an allocation fails.
+/// Converts one part: appends its last piece to `made`, and its other parts to `tasks`.
 fn carry_out<'v, 'de>(
     alloc: Global,
     task: Task<'v, 'de>,
@@ -179,7 +179,7 @@ fn carry_out<'v, 'de>(
     }
 }
 
-/// Adds the last piece of a value to `made`, and its other parts to `tasks`. Fails if an allocation fails.
+/// Appends the last piece of a value to `made`, and its other parts to `tasks`.
 fn take_apart<'v, 'de>(
     alloc: Global,
     value: &'v Value<'de>,
@@ -218,7 +218,7 @@ fn take_apart<'v, 'de>(
     Ok(())
 }
 
-/// Adds the beginning of an array and its elements to `tasks`. Fails if an allocation fails.
+/// Appends the beginning of an array and its elements to `tasks`.
 fn push_elements<'v, 'de>(
     array: &'v Array<'de>,
     span: Span,
@@ -239,7 +239,7 @@ fn push_elements<'v, 'de>(
     Ok(())
 }
 
-/// Adds the beginning of a table and its entries, in the order of the text, to `tasks`. Fails if an allocation fails.
+/// Appends the beginning of a table and its entries, in the order of `sorted_entries`, to `tasks`.
 fn push_entries<'v, 'de>(
     alloc: Global,
     table: &'v Table<'de>,
@@ -266,8 +266,8 @@ fn push_entries<'v, 'de>(
     Ok(())
 }
 
-/// Lists the entries of a table in the order in which their keys start in the text. Entries whose keys start at the
-/// same offset stay in the order of their names. Fails if an allocation fails.
+/// Returns the entries of a table in the order in which their keys start in the text. Entries whose keys start at the
+/// same offset are in the order of their names.
 fn sorted_entries<'v, 'de>(
     alloc: Global,
     table: &'v Table<'de>,
@@ -280,7 +280,7 @@ fn sorted_entries<'v, 'de>(
     Ok(entries)
 }
 
-/// Lists the entries of a table in the order of their names. Fails if an allocation fails.
+/// Returns the entries of a table in the order of their names.
 fn listed<'v, 'de>(
     alloc: Global,
     table: &'v Table<'de>,

@@ -15,9 +15,11 @@ use toml_span_tree::Value;
 
 /// Reads a document as a type that derives `Deserialize`.
 ///
-/// A type such as `&str` borrows from the text. For such a type, a string whose value does not equal the text at its
-/// span, such as a string with an escape, is an error. Fails with `Error::Refused` if the text is not valid TOML, with
-/// `Error::Misfit` if a value does not fit the type, and with `Stop::Memory` if an allocation fails.
+/// Types such as `&str` borrow from the text. They can be read only from strings whose value equals the text at their
+/// span, so not from a string with an escape.
+///
+/// Fails with `Error::Refused` if the text is not valid TOML, and with `Error::Misfit` if a value does not fit the
+/// type. Fails with `Stop::Memory` if an allocation fails.
 pub fn from_str<'de, T: Deserialize<'de>>(
     alloc: Global,
     text: &'de str,
@@ -39,8 +41,8 @@ pub fn from_str<'de, T: Deserialize<'de>>(
     }
 }
 
-/// Reads a value as a type that derives `Deserialize` and borrows nothing. Fails with a misfit, which has no line and
-/// column, or with `Stop::Memory` if an allocation fails.
+/// Reads a value as a type that derives `Deserialize` and borrows nothing. Fails with a `Misfit` without line and
+/// column if the value does not fit the type. Fails with `Stop::Memory` if an allocation fails.
 #[tactic(auto, using(crate::proofs::Places::stopped_in_order))]
 pub fn from_value<T: DeserializeOwned>(alloc: Global, value: &Value<'_>) -> Result<T, Stop<Misfit>>
     ensures { IfErr result (IsAt (view value.now)) }
@@ -55,7 +57,7 @@ pub fn from_value<T: DeserializeOwned>(alloc: Global, value: &Value<'_>) -> Resu
     }
 }
 
-/// Reads the tree of the text as a type that may borrow from the text. Fails with a misfit, or if an allocation fails.
+/// Reads the tree `root` of the text as a type that may borrow from the text. Fails if a value does not fit the type.
 #[tactic(auto, using(crate::proofs::Places::stopped_in_order))]
 fn read_lent<'de, T: Deserialize<'de>>(
     alloc: Global,
@@ -74,19 +76,17 @@ fn read_lent<'de, T: Deserialize<'de>>(
     }
 }
 
-/// Reads the next value as a type that may borrow from the input. Fails if the value does not fit the type, or if an
-/// allocation fails. serde's trait promises nothing about the result of `deserialize`, so this function has no contract
-/// about its value or error. The tests of `toml_span_rows` cover each reason.
+/// Reads the next value as a type that may borrow from `input`. Fails if the value does not fit the type.
 fn read_by<'de, T: Deserialize<'de>>(
     alloc: Global,
     input: &'de [u8],
     reader: &mut Reader<'_, '_>,
 ) -> Result<T, Stop<Misread>> {
+    // serde's trait promises nothing about the result, so this function has no contract. The rows test each reason.
     T::deserialize(alloc, &mut Deserializer::new(input, reader))
 }
 
-/// Reads the next value as a type that borrows nothing. Fails if the value does not fit the type, or if an allocation
-/// fails. Like `read_by`, it has no contract about the value or error.
+/// Reads the next value as a type that borrows nothing. Fails if the value does not fit the type.
 fn read_owned<T: DeserializeOwned>(
     alloc: Global,
     reader: &mut Reader<'_, '_>,
@@ -94,8 +94,8 @@ fn read_owned<T: DeserializeOwned>(
     T::deserialize_owned(alloc, &mut Deserializer::new(&[], reader))
 }
 
-/// Sets the line and the column of a misfit to those at which its span starts in the text. Leaves them unset if the
-/// span starts after the end of the text.
+/// Sets the line and the column of a misfit from its span's start in the text. Leaves them unset if the start is after
+/// the end of the text.
 fn lined(text: &str, mut misfit: Misfit) -> Misfit
     ensures place { (result.span ≡ misfit.span) × (result.path ≡ misfit.path) }
     ensures line { HasLine text.now result }

@@ -44,33 +44,33 @@ pub struct Misread {
     pub(crate) at: usize,
 }
 
-/// Reads a tree piece by piece.
+/// Reads a tree piece by piece, for serde. `Row` makes readers.
 #[derive(Drop)]
 pub struct Reader<'p, 'v> {
     alloc: Global,
     pieces: &'p [Piece<'v>],
     /// The position of the next piece.
     next: usize,
-    /// The position of the piece that was looked at last.
+    /// The position of the piece that was looked at last or, after `rewind`, of the next piece.
     at: usize,
-    /// The position of the piece that was last read as the name of a variant.
+    /// The position that `next` had when the function `variant` was last called.
     variant: usize,
-    /// Whether the piece that was looked at last is a key that was read and has none of the names it was compared with.
+    /// Whether the piece that was looked at last was read as a key and has none of the expected names.
     is_unknown: bool,
-    /// The names, with their aliases, with which the last unknown key was compared.
+    /// The names and aliases with which the last unknown key was compared.
     fields: Vec<String>,
-    /// The names, with their aliases, with which the last unknown variant was compared.
+    /// The names and aliases with which the last unknown variant was compared.
     variants: Vec<String>,
     /// The last key whose name has aliases.
     key: KeyPlace,
-    /// The name of the field of `key`, and its aliases.
+    /// The name and aliases of the field of `key`.
     forms: Vec<String>,
-    /// The failed attempts to read a piece, with the kinds that they expected.
+    /// The failed attempts to read a piece.
     tried: Tried,
 }
 
 impl<'p, 'v> Reader<'p, 'v> {
-    /// Returns a reader at the first of these pieces.
+    /// Returns a reader at the first piece.
     pub(crate) fn new(alloc: Global, pieces: &'p [Piece<'v>]) -> Reader<'p, 'v>
         ensures { ahead result ≡ map piece_of pieces.now }
     {
@@ -92,7 +92,7 @@ impl<'p, 'v> Reader<'p, 'v> {
         }
     }
 
-    /// Returns the next piece without reading it. Fails if there is none.
+    /// Returns the next piece without reading it. Fails if no piece is left.
     fn look(&mut self) -> Result<Piece<'v>, Stop<Misread>>
         ensures next { IfOk result (λ p. ahead self.old
             ≡ piece_of p ∷ map piece_of (drop (self.old.next + 1) self.old.pieces.now)) }
@@ -113,7 +113,7 @@ impl<'p, 'v> Reader<'p, 'v> {
         }
     }
 
-    /// Reads the next piece, and returns it. Fails if there is none.
+    /// Reads the next piece. Fails if no piece is left.
     fn take(&mut self) -> Result<Piece<'v>, Stop<Misread>>
         ensures next { IfOk result (λ p. ahead self.old ≡ piece_of p ∷ ahead self.new) }
         ensures none { IfErr result (RunsOut self.old) }
@@ -127,7 +127,7 @@ impl<'p, 'v> Reader<'p, 'v> {
         Ok(piece)
     }
 
-    /// Returns the error for this reason at the piece that was looked at last.
+    /// Returns an error with this reason at the piece `at`: the one looked at last or, after `rewind`, the next one.
     fn misread(&self, reason: Reason) -> Stop<Misread>
         ensures { result ≡ stop.Fault (record { reason = reason; at = self.now.at }) }
     {
@@ -137,8 +137,7 @@ impl<'p, 'v> Reader<'p, 'v> {
         })
     }
 
-    /// Returns a copy of the text of the piece at the position `at`, and copies of the names. Fails if an allocation
-    /// fails.
+    /// Returns copies of the text of the piece at the position `at`, and of the names.
     fn named(&self, at: usize, names: &[String]) -> Result<(String, Vec<String>), AllocError>
         ensures { IfOk result (λ error. (string_bytes error.0 ≡ piece_text_in (slice_get (laid self.now) at))
             × (map string_bytes error.1.items ≡ map string_bytes names.now)) }
@@ -158,7 +157,7 @@ impl<'p, 'v> Reader<'p, 'v> {
         }
     }
 
-    /// Returns the names with which an unknown variant was compared.
+    /// Returns the names and aliases with which an unknown variant was compared.
     fn variant_names(&self) -> &[String]
         ensures { map string_bytes result.now ≡ variant_names self.now }
     {
@@ -169,16 +168,16 @@ impl<'p, 'v> Reader<'p, 'v> {
         }
     }
 
-    /// Returns the pieces before a position.
+    /// Returns the pieces before the position `at`, or all pieces if there are fewer than `at`.
     fn before(&self, at: usize) -> &[Piece<'v>]
         ensures { map piece_of result.now ≡ take at (laid self.now) }
     {
         self.pieces.get(..at).unwrap_or(self.pieces)
     }
 
-    /// Looks for an earlier-read key for the same field as `self.key`. If there is one, returns the position of
-    /// whichever key comes later in the text, and the span of the other. Otherwise, returns the position of the last
-    /// piece looked at, and `None`.
+    /// Looks for an earlier key for the field of `self.key`. Returns the position of the key that is later in the text,
+    /// and the span of the other key. If only one key is found, returns the position of the last piece looked at, and
+    /// `None`.
     fn twice(&self) -> (usize, Option<Span>)
         ensures { result ≡ twice self.now }
     {
@@ -190,9 +189,8 @@ impl<'p, 'v> Reader<'p, 'v> {
         }
     }
 
-    /// Records what a later error about the key at `span` needs. `found` is the position in `names` of the name that
-    /// the key has. If that name has aliases, records the key, the name and the aliases. If `found` is not a position
-    /// in `names`, the key has none of the names: records all of them with their aliases. Fails if an allocation fails.
+    /// Records a key for later errors. `found` is the position of its name in `names`. If the name has aliases, records
+    /// the key with the name and aliases. If `found` is out of range, the key is unknown: records `all_forms(names)`.
     fn note_key(
         &mut self,
         span: Span,
@@ -222,8 +220,8 @@ impl<'p, 'v> Reader<'p, 'v> {
         Ok(())
     }
 
-    /// Prepares to go back to the position `mark`. If the reader has read the piece there, records that an attempt has
-    /// read it and failed later.
+    /// Prepares to go back to the position `mark`. Unless the reader is at `mark`, records that an attempt has read the
+    /// piece there and failed later.
     fn note_back(&mut self, mark: usize)
         ensures stays { self.new ≡ record self.old { tried = self.new.tried } }
         ensures tried { tries self.new.tried ≡ tries_back_at mark self.old }
@@ -235,7 +233,7 @@ impl<'p, 'v> Reader<'p, 'v> {
     }
 
     /// Goes back to the piece that was looked at last, whose content is `found`, and records that the kind `expected`
-    /// was expected there. Returns the error, or `Stop::Memory` if an allocation fails.
+    /// was expected there. Returns the error `Wanted`.
     fn wanted(&mut self, expected: Expected, found: Content<'_>) -> Stop<Misread>
         ensures reported { IsMisread (λ why. why ≡ is.Wanted expected (found_of (piece_content found.entry)))
             self.old.at result }
@@ -256,9 +254,8 @@ impl<'p, 'v> Reader<'p, 'v> {
         }
     }
 
-    /// Returns the error for the piece that was looked at last, which is of the kind `found`. The error lists the kinds
-    /// that earlier, failed attempts to read this piece expected. Without such attempts, it is `Unexpected`. If an
-    /// allocation fails, returns `Stop::Memory`.
+    /// Returns the error for the piece that was looked at last, which is of the kind `found`. The error lists the
+    /// expected kinds that `tried` has for this piece. If `tried` has none, the error is `Unexpected`.
     fn other(&self, found: Found) -> Stop<Misread>
         ensures { IsMisread (IsOther (kinds_at self.now.at (tries self.now.tried)) found) self.now.at result }
     {
@@ -275,7 +272,7 @@ impl<'p, 'v> Reader<'p, 'v> {
         }
     }
 
-    /// Returns the text of the piece at a position if it is a string or a key, otherwise an empty text.
+    /// Returns the text of the piece at the position `at` if it is a string or key, otherwise an empty text.
     fn text_at(&self, at: usize) -> &'v str
         ensures { result.now ≡ piece_text_in (slice_get (laid self.now) at) }
     {
@@ -285,8 +282,8 @@ impl<'p, 'v> Reader<'p, 'v> {
         }
     }
 
-    /// Reads a string or key, and returns its text. Fails with `Wanted`, which expects `expected`, if the next piece is
-    /// of another kind. Also fails if no piece is left, or if an allocation fails.
+    /// Reads a string or key, and returns its text. Fails with `Wanted` and the kind `expected` if the next piece is of
+    /// another kind. Also fails if no piece is left.
     fn text(&mut self, expected: Expected) -> Result<&'v str, Stop<Misread>>
         ensures text { IfOk result (λ text. TakesPiece (IsText text.now) (ahead self.old) (ahead self.new)) }
         ensures misses { IfErr result (IsMisread (Misses IsAnyText expected (ahead self.old)) self.old.next) }
@@ -300,8 +297,7 @@ impl<'p, 'v> Reader<'p, 'v> {
         }
     }
 
-    /// Reads an integer. Fails with `Wanted` if the next piece is of another kind. Also fails if no piece is left, or
-    /// if an allocation fails.
+    /// Reads an integer. Fails with `Wanted` if the next piece is of another kind. Also fails if no piece is left.
     fn integer(&mut self) -> Result<i64, Stop<Misread>>
         ensures integer { IfOk result (λ z. TakesPiece (λ c. c ≡ value (integer z)) (ahead self.old) (ahead self.new)) }
         ensures misses { IfErr result (IsMisread (Misses IsAnyInteger expected.Integer (ahead self.old))
@@ -419,8 +415,10 @@ impl Format for Reader<'_, '_> {
     }
 
     /// Reads a string or key that can be borrowed from `input`. Returns the start and the end of its text in `input`,
-    /// in bytes; both are 0 if the text is empty. Fails if the next piece is neither a string nor a key, if its text
-    /// does not equal the text at its span, or if an allocation fails.
+    /// as byte offsets; both are 0 if the text is empty.
+    ///
+    /// Fails if the next piece is neither a string nor a key, if its text differs from the bytes of `input` at its
+    /// span, or if no piece is left. Fails if an allocation fails.
     fn plain_str(&mut self, input: &[u8]) -> Result<(usize, usize), Stop<Misread>>
         ensures gives { IfOk result (λ r. Reads (ahead self.old) (event.text (slice_range input.now r.0 r.1))
             (ahead self.new)) }
@@ -595,7 +593,7 @@ impl Format for Reader<'_, '_> {
         Ok(found)
     }
 
-    /// Skips a whole value, or a key. Fails with `Invalid` if no piece is left, or if the value does not end.
+    /// Skips a whole value, or a key. Fails with `Invalid` if no piece is left, or if the end of the value is missing.
     fn skip(&mut self, _input: &[u8]) -> Result<(), Stop<Misread>>
         ensures value { (n : Node) (rest : List Laid) → ahead self.old ≡ pieces n ++ rest
             → IsOk result × (ahead self.new ≡ rest) }
@@ -653,8 +651,7 @@ impl Format for Reader<'_, '_> {
         }
     }
 
-    /// Returns the error for two keys of a table that name the same field, or `Stop::Memory` if an allocation fails.
-    /// Two keys can name one field only if at least one of them is an alias.
+    /// Returns the error for two keys of a table that name the field `name`. At least one of the keys is an alias.
     fn duplicate(&self, name: &str) -> Stop<Misread>
         ensures { IsMisread (Says (λ s. is.DuplicateField s (twice self.now).1) name.now) (twice self.now).0 result }
     {
@@ -681,9 +678,8 @@ impl Format for Reader<'_, '_> {
         }
     }
 
-    /// Returns the error for the unknown name of a variant, or `Stop::Memory` if an allocation fails. The tag of an
-    /// enum is compared with the names of its variants before its table is read again from the start. So the reader
-    /// keeps the position of the tag and these names.
+    /// Returns the error for the unknown name of a variant. The name is the piece looked at last if this is an unknown
+    /// key, otherwise the piece that was last read as the name of a variant.
     fn unknown_variant(&self) -> Stop<Misread>
         ensures { IsMisread (Lists is.UnknownVariant
             (piece_text_in (slice_get (laid self.now) (variant_place self.now))) (variant_names self.now))
@@ -699,9 +695,9 @@ impl Format for Reader<'_, '_> {
         }
     }
 
-    /// Returns the error for an array of the wrong length. If the end of the array was read, this is `Length`, with the
-    /// number of all elements. Otherwise the array has more elements than the type expects, and this is `TooLong`. If
-    /// an allocation fails, returns `Stop::Memory`.
+    /// Returns the error for an array of the wrong length. If the end of the array was read, the error is `Length` with
+    /// the number of all elements. Otherwise the array is too long, and the error is `TooLong` with the number of
+    /// elements that the type expects.
     fn wrong_len(&self) -> Stop<Misread>
         ensures { IsMisread (λ why. why ≡ length_reason self.now) self.now.at result }
     {
@@ -712,9 +708,9 @@ impl Format for Reader<'_, '_> {
         }
     }
 
-    /// Returns the error for a value that the type does not accept. If an integer was read, it is out of the type's
-    /// range. If the piece was only looked at, the type does not accept its kind. The error then lists the kinds that
-    /// earlier, failed attempts to read this piece expected. If an allocation fails, returns `Stop::Memory`.
+    /// Returns the error for a value that the type does not accept. If the value was read, the error is `OutOfRange`
+    /// for an integer, otherwise `Invalid`. If the value was only looked at, returns the error of `other`. If no piece
+    /// is left, the error is `Invalid`.
     fn invalid(&self) -> Stop<Misread>
         ensures read { self.now.at < self.now.next → IsMisread (λ why. why
             ≡ refusal_in (slice_get (laid self.now) self.now.at)) self.now.at result }
@@ -747,7 +743,7 @@ impl Format for Reader<'_, '_> {
     }
 }
 
-/// Converts a failed allocation to an error of the reader.
+/// Converts a failed allocation to the error of a reader.
 fn owned(names: Result<Vec<String>, AllocError>) -> Result<Vec<String>, Stop<Misread>>
     ensures ok { IfOk result (λ all. names ≡ Ok all) }
     ensures memory { IfErr result IsMemory }

@@ -1,4 +1,4 @@
-//! A tree as a row of pieces, ready to be read.
+//! A tree as a row of pieces, which a `Reader` reads.
 ghost use Rattle.std.specs.Prelude.{◌≡◌, ◌<◌, [], IfOk, OnOk, Some, length, slice_get};
 ghost use Rattle.toml_span.specs.Ordered.{HasOneEach, IsOrdered};
 ghost use Rattle.toml_span_tree.specs.Node.{Node};
@@ -24,8 +24,8 @@ pub struct Row<'v> {
 }
 
 impl<'v> Row<'v> {
-    /// Lists the pieces of a tree: each array and table before the values inside it, and the entries of a table in the
-    /// order of the text. Fails if an allocation fails.
+    /// Converts a tree to a row of pieces: each array and table before the values inside, and the entries of a table in
+    /// the order in which their keys' spans start. Fails if an allocation fails.
     pub fn new(alloc: Global, root: &'v Value<'_>) -> Result<Row<'v>, AllocError>
         ensures pieces { IfOk result (λ row. pieces_in row ≡ pieces (in_text_order (view root.now))) }
         ensures ordered { OnOk result (IsOrdered (view root.now)) }
@@ -42,8 +42,9 @@ impl<'v> Row<'v> {
         Reader::new(alloc, self.pieces.as_slice())
     }
 
-    /// Converts an error of a reader to a misfit, with the span of the piece at which the read stopped and the path to
-    /// its value. If no piece was left to read, the misfit is at the root. Passes a failed allocation on.
+    /// Converts an error of a reader to a misfit. The misfit has the span of the piece at which the read stopped, and
+    /// the path to the value of that piece. If no piece was left to read, the misfit is at the root. `Stop::Memory`
+    /// stays as it is, and is also returned if an allocation fails.
     pub fn stopped(&self, alloc: Global, stop: Stop<Misread>) -> Stop<Misfit>
         ensures place { (n : Node) → pieces_in self.now ≡ pieces n → HasOneEach n → IsAt n result }
         ensures reported { (n : Node) → pieces_in self.now ≡ pieces n → IsStopOf n stop result }
@@ -57,8 +58,7 @@ impl<'v> Row<'v> {
         }
     }
 
-    /// Returns the misfit for an error of the reader, at its piece or, if there is none, at the root. Fails if an
-    /// allocation fails.
+    /// Converts an error of a reader to a misfit, at the piece of the error or, if no piece was left, at the root.
     fn placed(&self, alloc: Global, misread: Misread) -> Result<Misfit, AllocError>
         ensures place { IfOk result (λ m. (n : Node) → pieces_in self.now ≡ pieces n → HasOneEach n
             → Names (path_of m.path.items) m.span n) }
@@ -73,7 +73,7 @@ impl<'v> Row<'v> {
         self.misfit_at(alloc, misread.reason, 0)
     }
 
-    /// Returns the misfit for this reason at the piece with this position. Fails if an allocation fails.
+    /// Returns the misfit with this reason at the piece with the position `at`.
     fn misfit_at(&self, alloc: Global, reason: Reason, at: usize) -> Result<Misfit, AllocError>
         requires { at < length self.now.pieces.items }
         ensures place { IfOk result (λ m. (n : Node) → pieces_in self.now ≡ pieces n → HasOneEach n

@@ -1,4 +1,4 @@
-//! Makes reports of errors.
+//! Prints errors as reports.
 ghost use Rattle.std.specs.Prelude.{◌≡◌, IfOk, option_map, string_bytes};
 ghost use Rattle.toml_span_report.specs.Report.{report_content};
 ghost use Rattle.toml_span_serde.specs.Shown.{IsErrorText, IsMisfitText, with_meant};
@@ -8,9 +8,10 @@ use std::alloc::{AllocError, Global};
 use toml_span_lex::stop::Stop;
 use toml_span_report::{Report, Style, render, render_error};
 
-/// Returns an error of `from_str` as the text of a report: a message, the source line with marks, and, for an unknown
-/// key or variant, the name that was probably meant. `name` is the name of the file, `text` the source. Fails if `stop`
-/// is `Stop::Memory`, or if an allocation fails.
+/// Returns an error of `from_str` as the text of a report: a message, and the source line with marks. For an unknown
+/// key or variant, the report suggests the expected name that is nearest, if one is near enough.
+///
+/// `text` is the source of the file `name`. Fails if `stop` is `Stop::Memory`, or if an allocation fails.
 pub fn render_stop(
     alloc: Global,
     style: Style,
@@ -27,7 +28,7 @@ pub fn render_stop(
     }
 }
 
-/// Returns the text of the report of a misfit. Fails if an allocation fails.
+/// Returns the text of the report on a misfit.
 fn render_misfit(
     alloc: Global,
     style: Style,
@@ -43,7 +44,7 @@ fn render_misfit(
     render(alloc, style, &report, name, text)
 }
 
-/// Adds a line of help that suggests the name `meant`, if there is one. Fails if an allocation fails.
+/// Adds help that suggests the name `meant` to the report, if there is one.
 fn helped(alloc: Global, meant: Option<&str>, report: Report) -> Result<Report, AllocError>
     ensures { IfOk result (λ made. report_content made
         ≡ with_meant (option_map (λ name. name.now) meant.entry) (report_content report)) }

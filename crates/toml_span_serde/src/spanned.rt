@@ -7,15 +7,15 @@ use std::alloc::Global;
 use toml_span_lex::span::Span;
 use toml_span_lex::spanned;
 
-/// The name of a variant by which a type asks a reader for the start of the next value.
+/// The name of a variant by which `Spanned` asks a reader for the start of the next value's span.
 pub(crate) const START: &str = "$toml_span::start";
 
-/// The name of a variant by which a type asks a reader for the end of the next value.
+/// The name of a variant by which `Spanned` asks a reader for the end of the next value's span.
 pub(crate) const END: &str = "$toml_span::end";
 
-/// A value, or the key of a map, with its span in bytes. Comparisons ignore the span.
+/// A value, or the key of a map, with its span. Comparisons ignore the span.
 ///
-/// Only a `Reader` of this crate knows spans: reading a `Spanned` from any other format fails.
+/// Only a `Reader` of this crate knows spans. Reading a `Spanned` from another format fails.
 #[derive(Debug, Drop)]
 #[derive_where(PartialEq, Eq, PartialOrd, Ord; T)]
 pub struct Spanned<T> {

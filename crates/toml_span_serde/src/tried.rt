@@ -1,4 +1,4 @@
-//! Records failed attempts to read a piece, with the kinds that they expected.
+//! Records failed attempts to read a piece, such as the attempts for each variant of an `untagged` enum.
 ghost use Rattle.std.specs.List.{list_any};
 ghost use Rattle.std.specs.Prelude.{◌≡◌, [], false, OnErr, OnOk};
 ghost use Rattle.std.specs.Str.{bytes_eq};
@@ -11,11 +11,11 @@ use std::alloc::{AllocError, Global};
 /// The failed attempts to read one piece.
 #[derive(Drop)]
 pub(crate) struct Tried {
-    /// The position of the piece.
+    /// The position of the piece among all pieces.
     at: usize,
-    /// Whether one of the attempts has read the piece, and failed later.
+    /// Whether an attempt has read the piece, and failed at a later piece.
     is_taken: bool,
-    /// The kinds that the other attempts expected, each once.
+    /// The kinds that other attempts expected, each once.
     kinds: Vec<Expected>,
 }
 
@@ -31,7 +31,7 @@ impl Tried {
         }
     }
 
-    /// Records an attempt that expected this kind at the piece with this position. Fails if an allocation fails.
+    /// Records an attempt that expected this kind at the position `at`. Forgets attempts at any other position.
     pub(crate) fn miss(&mut self, at: usize, expected: Expected) -> Result<(), AllocError>
         ensures { OnOk result (tries self.new ≡ missed at expected (tries self.old)) }
     {
@@ -45,7 +45,7 @@ impl Tried {
         Ok(())
     }
 
-    /// Adds a kind, unless it is there already. Fails if an allocation fails.
+    /// Adds a kind, unless it is there already.
     fn add(&mut self, expected: Expected) -> Result<(), AllocError>
         ensures kinds { OnOk result (self.new.kinds.items ≡ with_kind expected self.old.kinds.items) }
         ensures stays { (self.new.at ≡ self.old.at) × (self.new.is_taken ≡ self.old.is_taken) }
@@ -57,7 +57,7 @@ impl Tried {
         Ok(())
     }
 
-    /// Records an attempt that has read the piece with this position, and failed later.
+    /// Records an attempt that has read the piece at the position `at`, and failed later. Forgets all other attempts.
     pub(crate) fn take(&mut self, at: usize)
         ensures { tries self.new ≡ taken at }
     {
@@ -66,7 +66,8 @@ impl Tried {
         self.kinds.clear();
     }
 
-    /// Returns the kinds that were expected at the piece with this position, or none if an attempt has read it.
+    /// Returns the kinds that attempts expected at the position `at`. The list is empty if an attempt has read the
+    /// piece there.
     pub(crate) fn kinds_at(&self, at: usize) -> &[Expected]
         ensures { result.now ≡ kinds_at at (tries self.now) }
     {

@@ -1,8 +1,8 @@
-//! Types that together use each attribute and each way to read a value.
+//! Types that together use every attribute, and every way to read a value.
 use serde::{Deserialize, Deserializer, Format};
 use std::alloc::Global;
 
-/// How a device is reached. The tag is among the other fields.
+/// The way to reach a device. The tag is among the other fields.
 #[derive(Debug, Drop, Deserialize)]
 #[serde(tag = "kind", rename_all = "lowercase")]
 pub enum Transport<'a> {
@@ -10,7 +10,7 @@ pub enum Transport<'a> {
     Unix { path: &'a str },
 }
 
-/// What a device measures. The tag is beside the content.
+/// A measurement of a device. The tag is next to the content.
 #[derive(Debug, Drop, Deserialize)]
 #[serde(tag = "t", content = "c")]
 pub enum Reading<'a> {
@@ -54,7 +54,7 @@ pub struct Device {
     pub max_body: Option<u64>,
 }
 
-/// Reads a string that spells a number.
+/// Reads a number that is written as a string.
 mod spelled {
     use serde::{Deserializer, Format};
     use std::alloc::Global;
@@ -95,7 +95,7 @@ pub enum Kind<'a> {
     Unknown,
 }
 
-/// Fields with attributes that no other type in this file has. A missing field has its default value.
+/// Fields with attributes that no other type in this file has. Missing fields have default values.
 #[derive(Debug, Drop, Default, Deserialize)]
 #[serde(default, rename_all = "kebab-case")]
 pub struct Attributes<'a> {

@@ -1,4 +1,4 @@
-//! Settings, whose types derive `Deserialize`.
+//! Settings whose types derive `Deserialize`.
 use serde::Deserialize;
 use std::alloc::{AllocError, Global};
 use toml_span_serde::{Spanned, Style, from_str, render_stop};
@@ -27,7 +27,7 @@ pub struct Settings<'a> {
     pub servers: Vec<Server<'a>>,
 }
 
-/// Returns the settings, or the error with its source lines. Fails if an allocation fails.
+/// Reads a text as settings. Returns the settings, or the error with its source lines.
 pub fn shown(alloc: Global, text: &str) -> Result<String, AllocError> {
     match from_str::<Settings<'_>>(alloc, text) {
         Ok(settings) => format!(in alloc; "{settings:?}"),

@@ -1,12 +1,12 @@
-//! `again`: cuts numbers, booleans, dates, arrays and inline tables out of a document, and parses them after `x = `.
+//! `again`: parses numbers, booleans, dates, arrays and inline tables of a document again, each after `x =`.
 use crate::told::Out;
 use crate::trees::shown::push_lines;
 use std::alloc::Global;
 use toml_span::parse;
 use toml_span::value::{Value, nodes};
 
-/// Parses `piece`, which begins at the offset `start` of the document, and prints the lines of its value. If `start` is
-/// at least 3, blanks before the piece make the spans the same as in the document.
+/// Parses `piece`, which begins at the offset `start` of the document, and prints the lines of its value. Blanks before
+/// the piece make the spans the same as in the document, if `start` is at least 3.
 fn push_reread(alloc: Global, piece: &str, start: usize, out: &mut Out) {
     let width = start.saturating_sub(3);
     let Some(text) = out.kept(format!(in alloc; "x ={:1$}{piece}", "", width)) else {
@@ -33,9 +33,8 @@ fn is_read_again(alloc: Global, piece: &str, value: &Value<'_>, out: &mut Out) -
     lines.text == again.text
 }
 
-/// Returns whether a value is written in one piece. A string is not, since its span does not include the quotes. Nor is
-/// the table of a dotted key, which begins where its first value does, nor an array of tables, which begins where its
-/// first table does.
+/// Returns whether a value is written in one piece: a number, boolean or date, an array in brackets, or a table in
+/// braces.
 fn is_piece(text: &str, value: &Value<'_>) -> bool {
     let start = value.span.start;
     let (bracket, inner) = match (value.as_array(), value.as_table()) {
@@ -50,7 +49,7 @@ fn is_piece(text: &str, value: &Value<'_>) -> bool {
     is_outer && text.as_bytes().get(start).copied() == Some(bracket)
 }
 
-/// Prints each piece of a document, and whether it is parsed as the same value.
+/// Prints each piece of a document, and whether it has the same lines when it is parsed again.
 pub fn push_again(alloc: Global, text: &str, root: &Value<'_>, out: &mut Out) {
     let Some(list) = out.kept(nodes(alloc, root)) else {
         return;

@@ -5,8 +5,8 @@ use std::borrow::CowStr;
 use toml_span::Error;
 use toml_span::value::{Step, Value, ValueInner, nodes};
 
-/// Prints a path, which is empty at the root. In a name, a space, a slash, a percent sign, and each byte that is not
-/// printable ASCII are written as `%` and two hexadecimal digits.
+/// Prints a path, which is empty for the root. In names, spaces, slashes, percent signs and bytes other than printable
+/// ASCII are written as `%` and two hexadecimal digits.
 fn push_path(steps: &[Step<'_>], out: &mut Out) {
     for step in steps {
         out.push_str("/");
@@ -26,7 +26,7 @@ fn push_path(steps: &[Step<'_>], out: &mut Out) {
     }
 }
 
-/// Prints the kind and span of a value.
+/// Prints the kind and the span of a value.
 pub fn push_kind(value: &Value<'_>, out: &mut Out) {
     out.push_str(if value.is_taken() {
         "taken"
@@ -37,7 +37,7 @@ pub fn push_kind(value: &Value<'_>, out: &mut Out) {
     out.span(value.span);
 }
 
-/// Prints whether a text is owned, that is, not borrowed from the document.
+/// Prints `owned` if a text is not borrowed from the document.
 pub fn push_owned(text: &CowStr<'_>, out: &mut Out) {
     if let CowStr::Owned(_) = text {
         out.push_str(" owned");
@@ -51,7 +51,7 @@ pub fn push_string(text: &CowStr<'_>, out: &mut Out) {
     push_owned(text, out);
 }
 
-/// Prints the content of a value, unless it is an array or a table, or has been taken.
+/// Prints the content of a value. Prints nothing for an array, a table or a taken value.
 fn push_scalar(value: &Value<'_>, out: &mut Out) {
     if value.is_taken() {
         return;
@@ -73,7 +73,7 @@ fn push_scalar(value: &Value<'_>, out: &mut Out) {
     }
 }
 
-/// Prints the lines of a value, and of all values inside it.
+/// Prints the lines of a value and of all values inside.
 pub fn push_lines(alloc: Global, value: &Value<'_>, out: &mut Out) {
     let Some(list) = out.kept(nodes(alloc, value)) else {
         return;
@@ -93,7 +93,7 @@ pub fn push_lines(alloc: Global, value: &Value<'_>, out: &mut Out) {
     }
 }
 
-/// Prints the kind, the span and the content of a value, or `none`.
+/// Prints the kind and the span of a value and, for a scalar, its content. Prints `none` if there is no value.
 pub fn push_named(value: Option<&Value<'_>>, out: &mut Out) {
     match value {
         Some(value) => {
@@ -104,14 +104,14 @@ pub fn push_named(value: Option<&Value<'_>>, out: &mut Out) {
     }
 }
 
-/// Prints words and a value, and drops the value.
+/// Prints `said` and a value, and drops the value.
 pub fn push_back(said: &str, value: Value<'_>, out: &mut Out) {
     out.push_str(said);
     push_named(Some(&value), out);
     drop(value);
 }
 
-/// Prints the code, the span, and the line and column of an error.
+/// Prints an error: the code, the span, and the line and column.
 pub fn push_stand(fault: &Error<'_>, out: &mut Out) {
     out.shown(&fault.kind);
     out.push_str(" ");
@@ -127,7 +127,7 @@ pub fn push_stand(fault: &Error<'_>, out: &mut Out) {
     }
 }
 
-/// Prints an error of `parse`: its place and its kind.
+/// Prints an error of `parse`: the code, the span, the line and column, and the kind.
 pub fn push_fault(fault: &Error<'_>, out: &mut Out) {
     out.push_str("error ");
     push_stand(fault, out);

@@ -17,18 +17,18 @@ use crate::trees::shown::{push_back, push_lines, push_named, push_string};
 use std::alloc::Global;
 use toml_span::value::{Pointer, Value, ValueInner};
 
-/// A call on a tree, as a word spells it.
+/// A call on a tree, as a word describes it.
 #[derive(Clone, Copy)]
 struct Operation<'w> {
     name: &'w str,
-    /// The pointer or the name.
+    /// The pointer or the name of a key.
     place: &'w str,
     /// The number or the message.
     rest: Option<&'w str>,
 }
 
-/// Takes the content of a value, unless it has been taken, and prints the result. Returns false for an unknown
-/// operation.
+/// Takes the content of a value, and prints the result. If it has been taken before, prints `taken` for any operation.
+/// Otherwise returns `false` for an unknown operation.
 fn push_taken(value: &mut Value<'_>, operation: Operation<'_>, out: &mut Out) -> bool {
     if value.is_taken() {
         out.push_str("taken");
@@ -48,8 +48,8 @@ fn push_taken(value: &mut Value<'_>, operation: Operation<'_>, out: &mut Out) ->
     operation.name == "take_string"
 }
 
-/// Makes a call on the value that `pointer_mut` returns, and prints the result, or `none` if this is `None`. Returns
-/// false for an unknown operation.
+/// Makes a call on the value at a pointer, and prints the result. If the value does not exist, prints `none` for any
+/// operation. Otherwise returns `false` for an unknown operation, as `push_taken` does.
 fn push_lent<'t>(
     root: &mut Value<'t>,
     operation: Operation<'t>,
@@ -68,7 +68,7 @@ fn push_lent<'t>(
     true
 }
 
-/// Prints the value that the `Pointer` of a text names, if the text is a pointer.
+/// Prints the value at the `Pointer` of a text, or `no pointer` if the text is not a pointer.
 fn push_at(alloc: Global, root: &Value<'_>, text: &str, out: &mut Out) {
     match Pointer::new(alloc, text) {
         Ok(Some(pointer)) => push_named(root.at(&pointer), out),
@@ -77,7 +77,7 @@ fn push_at(alloc: Global, root: &Value<'_>, text: &str, out: &mut Out) {
     }
 }
 
-/// Makes a call, and prints the result. Returns false for an unknown operation.
+/// Makes a call, and prints the result. Returns `false` for an unknown operation, as `push_lent` does.
 fn push_operation<'t>(
     alloc: Global,
     root: &mut Value<'t>,
@@ -106,8 +106,8 @@ fn push_operation<'t>(
     true
 }
 
-/// Makes the calls that the words name, and prints their results and then the lines of the tree. Stops and returns
-/// false at a word that names no operation.
+/// Makes the calls that the words describe, and prints their results and then the lines of the tree. Stops and returns
+/// `false` at a word that is not a call.
 pub fn push_writes<'t>(
     alloc: Global,
     words: &'t [String],

@@ -15,7 +15,8 @@ use toml_span::de_helpers::{TableHelper, Unfinished};
 use toml_span::value::{Key, Value};
 use toml_span::{Deserialize, Error, Spanned, Stop};
 
-/// Prints the answer to `fields`. Returns false if no helper can be made for the root, or at an unknown call.
+/// Prints the answer to `fields`. Returns `false` if no helper can be made for the root, if `calls` is empty, or at an
+/// unknown call.
 pub fn push_fields<'de>(
     alloc: Global,
     calls: &'de [String],
@@ -31,8 +32,8 @@ pub fn push_fields<'de>(
     push_calls(&mut helper, calls, out) && push_last(helper, last.as_str(), root, out)
 }
 
-/// Makes a helper for the root of a document. Returns `None` if something has been taken from the root, or if the root
-/// is not a table.
+/// Makes a helper for the root of a document. Returns `None` if the root is not whole or not a table, or if an
+/// allocation fails.
 fn opened<'de>(alloc: Global, root: &mut Value<'de>) -> Option<TableHelper<'de>>
     ensures { IfSome result (λ helper. AllWhole (state_of helper)) }
 {
@@ -45,7 +46,7 @@ fn opened<'de>(alloc: Global, root: &mut Value<'de>) -> Option<TableHelper<'de>>
     }
 }
 
-/// Makes these calls on a helper, and prints each call with its result. Returns false at an unknown call.
+/// Makes calls on a helper, and prints each with its result. Returns `false` at an unknown call.
 fn push_calls<'de>(helper: &mut TableHelper<'de>, calls: &'de [String], out: &mut Out) -> bool
     requires { AllWhole (state_of helper.old) }
 {
@@ -60,7 +61,7 @@ fn push_calls<'de>(helper: &mut TableHelper<'de>, calls: &'de [String], out: &mu
     true
 }
 
-/// Makes one call, and prints the result. Returns false for an unknown call.
+/// Makes one call, and prints the result. Returns `false` for an unknown call.
 fn push_call<'de>(helper: &mut TableHelper<'de>, call: &'de str, out: &mut Out) -> bool
     requires { AllWhole (state_of helper.old) }
     ensures { AllWhole (state_of helper.new) }
@@ -76,7 +77,7 @@ fn push_call<'de>(helper: &mut TableHelper<'de>, call: &'de str, out: &mut Out) 
     true
 }
 
-/// Prints an entry that was taken, if there was one.
+/// Prints an entry that was taken, or that there was none.
 fn push_entry(entry: Result<Option<(Key<'_>, Value<'_>)>, AllocError>, out: &mut Out) {
     match entry {
         Ok(Some((key, value))) => {
@@ -89,7 +90,7 @@ fn push_entry(entry: Result<Option<(Key<'_>, Value<'_>)>, AllocError>, out: &mut
     }
 }
 
-/// Reads a field as a type, and prints the result. Returns false for an unknown call or type.
+/// Reads a field as a type, and prints the result. Returns `false` for an unknown call or type.
 fn push_field<'de>(
     helper: &mut TableHelper<'de>,
     how: &str,
@@ -112,7 +113,7 @@ fn push_field<'de>(
     }
 }
 
-/// Reads a field as `T`, and prints the result. Returns false for an unknown call.
+/// Reads a field as `T`, and prints the result. Returns `false` for an unknown call.
 #[tactic(auto, using(toml_span_typed::proofs::Whole::found_whole))]
 fn push_as<'de, T: Deserialize<'de> + Debug>(
     helper: &mut TableHelper<'de>,
@@ -145,7 +146,7 @@ fn push_spanned<T: Debug + Drop>(read: Result<Spanned<T>, Stop<Error<'_>>>, out:
 }
 
 /// Makes the last call, and prints the errors that it returns. If an allocation fails, calls `finalize` on the helper
-/// that is returned. Returns false for an unknown call.
+/// that is returned. Returns `false` for an unknown call.
 fn push_last<'de>(
     helper: TableHelper<'de>,
     call: &str,

@@ -5,14 +5,15 @@ use std::str::FromStr;
 use toml_span::de_helpers::TableHelper;
 use toml_span::{DeserError, Deserialize, Error, ErrorKind, Span, Stop, Value};
 
-/// Returns a `DeserError` with one error, which has this message.
+/// Returns a `DeserError` with one error that has this message and span.
 fn custom<'de>(message: &'de str, span: Span) -> DeserError<'de> {
     let kind = ErrorKind::Custom(CowStr::Borrowed(message));
     Error::from((kind, span)).into()
 }
 
-/// A type whose read succeeds for a boolean, which stays as it is. For a table, the read takes one entry, puts the
-/// others back, and fails. It takes any other value, and fails with two errors.
+/// A type whose read succeeds only for a boolean, which is not taken. For a table, the read takes the entry `a` and, if
+/// this is a `u8`, puts the others back; it always fails. For any other value, it takes the value, and fails with two
+/// errors.
 #[derive(Debug, Drop)]
 pub struct Odd;
 
@@ -38,7 +39,7 @@ impl<'de> Deserialize<'de> for Odd {
     }
 }
 
-/// A type that can't be parsed from any string.
+/// A type that no string can be parsed as.
 #[derive(Debug, Drop)]
 pub struct Never;
 

@@ -12,8 +12,7 @@ use toml_span_load::{LoadError, TextFile};
 #[derive(Debug, Drop)]
 pub struct Name(String);
 
-/// Returns a name with this text. Fails with a message if the text is empty, and with `Stop::Memory` if an allocation
-/// fails.
+/// Returns a name with this text. Fails with a message if the text is empty.
 fn name_of(alloc: Global, text: &str) -> Result<Name, Stop<&'static str>> {
     if text.is_empty() {
         return Err(Stop::Fault("a name must not be empty"));
@@ -27,7 +26,7 @@ impl<'de> Deserialize<'de> for Name {
     }
 }
 
-/// A listener: its host, its port, its load and its weight.
+/// A listener with its host, port, load and weight.
 #[derive(Debug, Drop)]
 pub struct Listener {
     pub host: Name,
@@ -50,8 +49,7 @@ impl<'de> Deserialize<'de> for Listener {
     }
 }
 
-/// Reads the listener from a file. Fails if the file can't be read, if its content does not fit, or if an allocation
-/// fails.
+/// Reads a listener from a file. Fails if the file can't be read, or if its content does not fit.
 fn load(rt: &HostRuntime, name: &str) -> Result<Listener, LoadError> {
     let file = TextFile::open(rt, name)?;
     file.read::<Listener>(rt.alloc())

@@ -11,8 +11,8 @@ use std::fmt::Debug;
 use toml_span::value::{DateText, FloatText, Value};
 use toml_span::{DeserError, Deserialize, Parsed, Spanned, Stop};
 
-/// Reads a value as a type, if nothing has been taken from it, and prints the result. If an allocation fails and
-/// nothing has been taken, reads the value again. Returns false if something had been taken before.
+/// Reads a value as a type, and prints the result. If an allocation fails and the value is still whole, reads the value
+/// once more. Returns `false` if the value is not whole.
 fn push_as<'de, T: Deserialize<'de> + Debug>(
     alloc: Global,
     value: &mut Value<'de>,
@@ -31,8 +31,8 @@ fn push_as<'de, T: Deserialize<'de> + Debug>(
     true
 }
 
-/// Reads a value as the type with this name, and prints the result. Returns false if there is no such type, or if
-/// something had been taken from the value.
+/// Reads a value as the type with this name, and prints the result. Returns `false` for an unknown name, or if the
+/// value is not whole.
 pub fn push_read<'de>(alloc: Global, name: &str, value: &mut Value<'de>, out: &mut Out) -> bool {
     match name {
         "u8" => push_as::<u8>(alloc, value, out),
@@ -56,8 +56,8 @@ pub fn push_read<'de>(alloc: Global, name: &str, value: &mut Value<'de>, out: &m
     }
 }
 
-/// Reads a value as the type with this name, which this crate defines, and prints the result. Returns false if this
-/// crate has no such type, or if something had been taken from the value.
+/// Reads a value as the type of this crate with this name, and prints the result. Returns `false` for an unknown name,
+/// or if the value is not whole.
 fn push_own<'de>(alloc: Global, name: &str, value: &mut Value<'de>, out: &mut Out) -> bool {
     match name {
         "Vec<Odd>" => push_as::<Vec<Odd>>(alloc, value, out),
@@ -73,8 +73,7 @@ fn push_own<'de>(alloc: Global, name: &str, value: &mut Value<'de>, out: &mut Ou
     }
 }
 
-/// Reads a value as a `CowStr`, if nothing has been taken from it. Prints the string, and whether it is owned. Returns
-/// false if something had been taken.
+/// Reads a value as a `CowStr`. Prints the string, and whether it is owned. Returns `false` if the value is not whole.
 fn push_cow(alloc: Global, value: &mut Value<'_>, out: &mut Out) -> bool {
     if !value.is_whole() {
         return false;
@@ -90,8 +89,8 @@ fn push_cow(alloc: Global, value: &mut Value<'_>, out: &mut Out) -> bool {
     true
 }
 
-/// Reads a value as `T`, and returns the errors. Returns `None` if there are no errors, or without a read if something
-/// has been taken from the value.
+/// Reads a value as `T`, and returns the errors. Returns `None` if the read succeeds, if the value is not whole, or if
+/// an allocation fails.
 fn errors_as<'de, T: Deserialize<'de>>(
     alloc: Global,
     value: &mut Value<'de>,
@@ -106,8 +105,8 @@ fn errors_as<'de, T: Deserialize<'de>>(
     }
 }
 
-/// Reads the value at `place` as the type with this name, and returns the errors. Returns `None` if there is no such
-/// type or place, or if there are no errors.
+/// Reads the value at `place` as the type with this name, and returns the errors. Returns `None` for an unknown type or
+/// place, and in the cases of `errors_as`.
 pub fn errors_at<'de>(
     alloc: Global,
     name: &str,

@@ -6,7 +6,7 @@ use toml_span::{
     DeserError, Deserialize, Error, ErrorKind, Span, Spanned, Stop, Value, read_table, read_tagged,
 };
 
-/// A server. Its table may have no other keys.
+/// A server. Its table must not have other keys.
 #[derive(Debug, Drop)]
 pub struct Server<'de> {
     pub host: CowStr<'de>,
@@ -27,7 +27,7 @@ impl<'de> Deserialize<'de> for Server<'de> {
     }
 }
 
-/// Fields with old names, a string with its span, and the keys of another struct.
+/// Fields with old names, a number that is parsed from a string, and the keys of another struct.
 #[derive(Debug, Drop)]
 pub struct Upload {
     pub max_body: u64,
@@ -47,7 +47,7 @@ impl<'de> Deserialize<'de> for Upload {
     }
 }
 
-/// Fields that are an `Option`, strings read by `FromStr`, and an array of two. Other keys stay in the value.
+/// Fields that are an `Option`, strings read by `FromStr`, and an array of two. Other keys stay in the table.
 #[derive(Debug, Drop)]
 pub struct Holders {
     some: Option<u8>,
@@ -89,7 +89,7 @@ impl<'de> Deserialize<'de> for Range {
     }
 }
 
-/// Returns the range of two bounds, which are 0 and 255 if they are missing. Fails if they are not in order.
+/// Returns the range from `low` to `high`. A missing bound is 0 or 255. Fails if `low` is above `high`.
 fn range_of<'s>(
     low: Option<u8>,
     high: Option<u8>,
@@ -103,7 +103,7 @@ fn range_of<'s>(
     Ok(Range { low, high })
 }
 
-/// Where to write something.
+/// The target of output.
 #[derive(Debug, Drop)]
 pub enum Target {
     File { path: String, append: bool },

@@ -28,7 +28,7 @@ impl<'de> DeserializeWithWarnings<'de> for Limits {
     }
 }
 
-/// Fields whose types warn, and one with a deprecated name.
+/// Fields whose types warn, and a field with a deprecated name.
 #[derive(Debug, Drop)]
 pub struct Service {
     pub level: u8,
@@ -52,7 +52,7 @@ impl<'de> DeserializeWithWarnings<'de> for Service {
     }
 }
 
-/// Prints the answer to `warned`. Returns whether there is such a type.
+/// Prints the answer to `warned`. Returns `false` for an unknown type.
 pub fn push_warned(alloc: Global, name: &str, text: &str, out: &mut Out) -> bool {
     let mut warnings = Vec::new(alloc);
     match name {

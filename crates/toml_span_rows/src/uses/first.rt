@@ -3,8 +3,7 @@ use std::alloc::{AllocError, Global};
 use toml_span::parse;
 use toml_span_report::{Style, render_stop};
 
-/// Returns a sentence that says where the port of a server is, or what is wrong with the text. Fails if an allocation
-/// fails.
+/// Returns a sentence that says where the port of a server is, or what is wrong with the text.
 pub fn describe_port(alloc: Global, text: &str) -> Result<String, AllocError> {
     match parse(alloc, text) {
         Ok(root) => match root.pointer("/server/port") {
