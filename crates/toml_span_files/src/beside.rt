@@ -128,9 +128,9 @@ pub(crate) fn waited(rt: &HostRuntime, file: &File, wait: u64) -> bool {
     false
 }
 
-/// Creates the new file with the path `name`, and locks it if the system has locks. Waits up to `wait` seconds if that is
-/// not possible yet, and then fails with `Busy` or `Left`. Fails with `Unwritten` if the file can't be created, or if a file that
-/// a killed run has left can't be removed.
+/// Creates the new file with the path `name`, and locks it if the system has locks. Waits up to `wait` seconds if that
+/// is not possible yet, and then fails with `Busy` or `Left`. Fails with `Unwritten` if the file can't be created, or
+/// if a file that a killed run has left can't be removed.
 pub(crate) fn lock(rt: &HostRuntime, name: String, wait: u64) -> Result<Beside, Failure> {
     let mut is_left = false;
     for _ in 0..wait.saturating_mul(TRIES).saturating_add(1) {

@@ -6,9 +6,9 @@ ghost use Rattle.toml_span_read.specs.Grammar.{SpellsDocument};
 ghost use Rattle.toml_span_read.specs.Read.{document};
 ghost use Rattle.toml_span_laws.specs.Reported.{EndsReported, ahead};
 
-/// Nothing after a fault matters. Take the bytes up to the end of what the fault reports (`EndsReported`), and up to two
-/// more, depending on the kind of the fault (`ahead`). Every other text that begins with these bytes has the same fault.
-/// If the text ends before that, the law says nothing about other texts.
+/// Nothing after a fault matters. Take the bytes up to the end of what the fault reports (`EndsReported`), and up to
+/// two more, depending on the kind of the fault (`ahead`). Every other text that begins with these bytes has the same
+/// fault. If the text ends before that, the law says nothing about other texts.
 pub fn nothing_after_a_fault_matters()
     ensures { (text : List ℕ) (limit : ℕ) (fault : Fault) → document text limit (Err fault)
         → (end : ℕ) × EndsReported text fault end

@@ -48,8 +48,8 @@ pub(crate) struct Site<'v, 'a> {
     pub(crate) beside: bool,
 }
 
-/// The place that a reference names. If the reference's fragment is the name of an anchor, `anchor` is the index of this
-/// anchor in `Sources::anchors`.
+/// The place that a reference names. If the reference's fragment is the name of an anchor, `anchor` is the index of
+/// this anchor in `Sources::anchors`.
 #[derive(Drop)]
 pub(crate) struct Target {
     source: usize,
@@ -546,8 +546,8 @@ impl<'v, 'a> Compiler<'v, 'a> {
     }
 
     /// Resolves `text`, the value of a `$dynamicRef` or `$recursiveRef` in the schema `site`. Returns the index of the
-    /// compiled schema. If `text` names a dynamic anchor, and the scope of `site` binds an anchor of the same name, that
-    /// is the schema of the bound anchor, otherwise the schema that `text` names. Fails like `reference`.
+    /// compiled schema. If `text` names a dynamic anchor, and the scope of `site` binds an anchor of the same name,
+    /// that is the schema of the bound anchor, otherwise the schema that `text` names. Fails like `reference`.
     pub(crate) fn dynamic_reference(
         &mut self,
         site: &Site<'v, 'a>,

@@ -172,7 +172,8 @@ pub(crate) fn no_value<'a>(found: &str, text: &'a str, at: usize) -> Option<Find
     }
 }
 
-/// Returns the finding for a header that begins at `bracket`, and is not closed on its line. The `]` is expected at `at`.
+/// Returns the finding for a header that begins at `bracket`, and is not closed on its line. The `]` is expected at
+/// `at`.
 #[tactic(auto, unfolding(crate::specs::found::Lists::open_header))]
 fn open_header<'a>(text: &'a str, at: usize, bracket: usize) -> Finding<'a>
     ensures { finding_content result ≡ spec.open_header text.now at bracket }
@@ -236,8 +237,8 @@ pub(crate) fn word<'a>(text: &'a str, at: usize) -> Finding<'a>
     }
 }
 
-/// Returns the finding for a comma that is missing before the value or pair at `at`. The finding has no replacement if a
-/// `#` is before the comma on its line, since the comma may then be in a comment.
+/// Returns the finding for a comma that is missing before the value or pair at `at`. The finding has no replacement if
+/// a `#` is before the comma on its line, since the comma may then be in a comment.
 #[tactic(auto, unfolding(crate::specs::found::Lists::missing_comma))]
 fn missing_comma<'a>(mistake: Mistake, text: &'a str, at: usize) -> Finding<'a>
     ensures { finding_content result ≡ spec.missing_comma (texts mistake.entry) text.now at }

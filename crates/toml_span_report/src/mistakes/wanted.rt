@@ -239,8 +239,8 @@ pub(crate) fn wanted<'a>(
     }
 }
 
-/// Recognizes a decimal integer, at `span`, where a typed read expects a float, and a number or boolean where it expects
-/// a string. `expected` and `found` are the fields of the error `Wanted`.
+/// Recognizes a decimal integer, at `span`, where a typed read expects a float, and a number or boolean where it
+/// expects a string. `expected` and `found` are the fields of the error `Wanted`.
 #[tactic(auto, unfolding(crate::specs::found::Wanted::other_kind))]
 fn other_kind<'a>(expected: &str, found: &str, text: &'a str, span: Span) -> Option<Finding<'a>>
     ensures { option_map finding_content result ≡ spec.other_kind expected.now found.now text.now span }
