@@ -1,9 +1,10 @@
-/* Edits: reads the paths into segments, for the proved call that makes the changes. Part of libtoml_span, not proved. */
+/* toml_span_edit: splits the paths into segments, and calls toml_span_edit_paths, which makes the changes. That call is
+ * proved, but this file is not. */
 #include "paths.h"
 
 #include <stdlib.h>
 
-/* The records of crates/toml_span_c/src/edits.rt, and its call. */
+/* The structs and the function of crates/toml_span_c/src/edits.rt. */
 typedef struct {
     const char *bytes;
     size_t length;
@@ -27,13 +28,13 @@ extern "C"
 uint32_t toml_span_edit_paths(const char *text, size_t length, const change_record *changes, size_t count, char *out,
                               size_t room, size_t *needed, size_t *refused, toml_span_fault *fault);
 
-/* Where the next segments and their bytes are written. */
+/* Where the next segment and its bytes are to be written. */
 typedef struct {
     segment *next;
     char *bytes;
 } pen;
 
-/* Writes the bytes of the name that a step has; returns 0 if it is not valid. */
+/* Writes a step as a segment: the bytes of its name or position. Returns 0 if the step is not valid, otherwise 1. */
 static int put_step(path_step step, pen *at) {
     segment *written = at->next++;
     written->bytes = at->bytes;
@@ -50,7 +51,7 @@ static int put_step(path_step step, pen *at) {
     return 1;
 }
 
-/* Reads a path; returns 0 if it is not one. */
+/* Splits a path into segments, and stores them in `read`. Returns 0 if the path is not valid, otherwise 1. */
 static int read_path(const char *path, pen *at, segments *read) {
     int is_pointer = *path == '/';
     read->at = at->next;
@@ -69,7 +70,7 @@ static const char *or_empty(const char *words) { return words ? words : ""; }
 uint32_t toml_span_edit(const char *text, size_t length, const toml_span_change *changes, size_t count, char *out,
                         size_t room, size_t *needed, size_t *refused, toml_span_fault *fault) {
     size_t bytes = 0;
-    /* (a path has at most one segment more than bytes, each of which takes no more bytes than it has there) */
+    /* (a path has at most one segment more than it has bytes, and a segment takes no more bytes than its step) */
     for (size_t at = 0; at < count; at++)
         bytes += strlen(or_empty(changes[at].path)) + strlen(or_empty(changes[at].value)) + 2;
     char *block = (char *)malloc(count * sizeof(change_record) + bytes * (sizeof(segment) + 1) + 1);
@@ -79,7 +80,7 @@ uint32_t toml_span_edit(const char *text, size_t length, const toml_span_change 
     at.bytes = (char *)(at.next + bytes);
     for (size_t number = 0; number < count; number++) {
         const char *value = or_empty(changes[number].value);
-        /* (0 is for a path that is not valid) */
+        /* (0 marks a path that is not valid) */
         uint32_t change = changes[number].change ? changes[number].change : UINT32_MAX;
         change_record record = {change, {at.next, 0}, {at.next, 0}, value, strlen(value)};
         int is_read = read_path(or_empty(changes[number].path), &at, &record.path);

@@ -1,4 +1,5 @@
-/* The steps of a path: those of a JSON Pointer or of a dotted key. Without allocation, and not proved. */
+/* Reads the steps of a path, which is a JSON Pointer or a dotted key. The functions allocate nothing, and are not
+ * proved. */
 #ifndef TOML_SPAN_PATHS_H
 #define TOML_SPAN_PATHS_H
 
@@ -6,14 +7,15 @@
 
 #include <string.h>
 
-/* A step of a path: the bytes of a name or a position, and how it is written: '/' as a step of a JSON Pointer; of a
- * dotted key 'k' bare, '"' or '\'' between quotes, or '[' between brackets. */
+/* A step of a path: the bytes of a name or a position, and how they are written. `written` is '/' in a JSON Pointer. In
+ * a dotted key, it is 'k' for a bare key, '"' or '\'' for a quoted key, and '[' for a position in brackets. */
 typedef struct {
     const char *at, *end;
     char written;
 } path_step;
 
-/* Writes a character as UTF-8; returns how many bytes it has, or 0 if it is not a character. */
+/* Writes the character with this code point as UTF-8. Returns the number of its bytes, or 0 if there is no such
+ * character. */
 static size_t encode(unsigned long code, char bytes[4]) {
     if (code > 0x10FFFF || (code >= 0xD800 && code < 0xE000)) return 0;
     size_t length = code < 0x80 ? 1 : code < 0x800 ? 2 : code < 0x10000 ? 3 : 4;
@@ -22,7 +24,8 @@ static size_t encode(unsigned long code, char bytes[4]) {
     return length;
 }
 
-/* Reads an escape of TOML after its backslash, and writes its bytes; returns how many, or 0 if it is not valid. */
+/* Reads the part of a TOML escape after its backslash, and writes the character as UTF-8. Returns the number of its
+ * bytes, or 0 if the escape is not valid. */
 static size_t unescape(path_step *step, char bytes[4]) {
     static const char letters[] = "btnfre\"\\", meant[] = "\b\t\n\f\r\033\"\\";
     char letter = step->at < step->end ? *step->at++ : 'u';
@@ -40,7 +43,8 @@ static size_t unescape(path_step *step, char bytes[4]) {
     return encode(code, bytes);
 }
 
-/* Reads the next character of a step; returns how many bytes of a name it stands for, or 0 if it is not valid. */
+/* Reads the next byte or escape of a step, and writes the bytes of the name that it means. Returns their number, or 0
+ * if the escape is not valid. */
 static size_t next_bytes(path_step *step, char bytes[4]) {
     bytes[0] = *step->at++;
     if (step->written == '"' && bytes[0] == '\\') return unescape(step, bytes);
@@ -49,7 +53,8 @@ static size_t next_bytes(path_step *step, char bytes[4]) {
     return 1;
 }
 
-/* Returns the position that a step has: decimal digits without a leading zero; for any other step TOML_SPAN_NONE. */
+/* Returns the position that a step spells in decimal digits without leading zeros, or TOML_SPAN_NONE for any other
+ * step. */
 static size_t position_of(path_step step) {
     size_t position = 0;
     if (step.written != '/' && step.written != '[') return TOML_SPAN_NONE;
@@ -72,8 +77,8 @@ static const char *closing(const char *at) {
     return at;
 }
 
-/* Takes the first step of a dotted key, after a dot or, with is_first, at its start; returns what follows, or NULL if
- * there is none. */
+/* Reads the first step of `path`, the rest of a dotted key. Before the step there must be a dot, unless `is_first` is
+ * set or the step is a position in brackets. Returns the text after the step, or NULL if there is no valid step. */
 static const char *dotted_step(const char *path, int is_first, path_step *step) {
     static const char blanks[] = " \t";
     static const char bare[] = "ABCDEFGHIJKLMNOPQRSTUVWXYZabcdefghijklmnopqrstuvwxyz0123456789_-";
@@ -93,7 +98,7 @@ static const char *dotted_step(const char *path, int is_first, path_step *step) 
     return path + strspn(path, blanks);
 }
 
-/* Takes the first step off a path; returns what follows, or NULL if the path has no valid first step. */
+/* Reads the first step of `path`. Returns the text after the step, or NULL if there is no valid step. */
 static const char *take_step(const char *path, int is_pointer, int is_first, path_step *step) {
     if (!is_pointer) return dotted_step(path, is_first, step);
     step->written = '/';

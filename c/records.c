@@ -1,4 +1,4 @@
-/* The calls that need only the records of a document: part of libtoml_span, without allocation, and not proved. */
+/* The calls that need only the records of a document. They allocate nothing, and are not proved. */
 #include "paths.h"
 
 const char *toml_span_kind_name(uint32_t kind) {
@@ -15,7 +15,7 @@ toml_span_place toml_span_line_column(const char *text, size_t length, size_t of
     return place;
 }
 
-/* Returns whether a name is the one in a step. */
+/* Returns whether `name` is the name that a step spells. */
 static int is_named(const char *name, size_t length, path_step step) {
     while (step.at < step.end) {
         char bytes[4];
@@ -50,9 +50,10 @@ size_t toml_span_find(const toml_span_node *nodes, size_t count, const char *con
     return from;
 }
 
-/* While records are sorted, the fields of `sorted` are scratch. At a record's old number, `integer` has where the text
- * names it first, `position` its new number, `parent` its new position among its siblings. After the record whose
- * children are being sorted, `children` and `next` have where each child is named first, and its old number. */
+/* While records are sorted, the fields of `sorted` hold other things. At the old index of a record, `integer` is the
+ * offset at which the text first names the record, `position` is its new index, and `parent` is its new position among
+ * its siblings. In the elements after the record whose children are being sorted, `children` is the offset at which a
+ * child is first named, and `next` is the child's old index. This function exchanges these two fields. */
 static void exchange(toml_span_node *one, toml_span_node *other) {
     size_t first = one->children, number = one->next;
     one->children = other->children;
@@ -61,7 +62,7 @@ static void exchange(toml_span_node *one, toml_span_node *other) {
     other->next = number;
 }
 
-/* Sorts children by where they are named first: a heap sort, unless they are sorted already. */
+/* Sorts children by the offsets at which they are first named. This is a heap sort, unless they are sorted already. */
 static void sort_children(toml_span_node *children, size_t count) {
     size_t left = count / 2, end = count, at = 1;
     while (at < count && children[at - 1].children < children[at].children) at++;
@@ -77,8 +78,8 @@ static void sort_children(toml_span_node *children, size_t count) {
     }
 }
 
-/* Finds where each record is named first. That may be before its key: in `a.b = 1` LF `c = 2` LF `[a.d]` the key of `a`
- * is that of the header, but its child `b` is named before `c`. */
+/* Finds the offset at which each record is first named. It may be before the record's key: in `a.b = 1` LF `c = 2` LF
+ * `[a.d]`, the key of `a` is the one in the header, but its child `b` is named before `c`. */
 static void find_first(const toml_span_node *nodes, size_t count, toml_span_node *sorted) {
     for (size_t at = 0; at < count; at++) sorted[at].integer = (int64_t)nodes[at].key_span.start;
     for (size_t at = count; --at > 0;) {
@@ -89,7 +90,7 @@ static void find_first(const toml_span_node *nodes, size_t count, toml_span_node
     }
 }
 
-/* Gives the children of a record their new numbers. */
+/* Sets the new indices and positions of a record's children. */
 static void number_children(const toml_span_node *nodes, size_t at, toml_span_node *sorted) {
     size_t held = 0, number = sorted[at].position + 1;
     TOML_SPAN_EACH(nodes, at, child) {
@@ -112,7 +113,7 @@ void toml_span_sort(const toml_span_node *nodes, size_t count, toml_span_node *s
     sorted[0].position = 0;
     sorted[0].parent = 0;
     for (size_t at = 0; at < count; at++) number_children(nodes, at, sorted);
-    /* the old number and the new place of a record go into the other fields of the record at its new place */
+    /* at the new index of a record: its old index, the new index of its parent, and its new position */
     for (size_t at = 0; at < count; at++) {
         toml_span_node *place = &sorted[sorted[at].position];
         place->children = at;
@@ -128,7 +129,7 @@ void toml_span_sort(const toml_span_node *nodes, size_t count, toml_span_node *s
     }
 }
 
-/* Bytes that are written as far as there is room, and counted in full. */
+/* Output whose bytes are written as far as there is room. `length` counts all of them. */
 typedef struct {
     char *bytes;
     size_t room, length;
@@ -140,7 +141,7 @@ static void put(output *out, const void *bytes, size_t size) {
     out->length += size;
 }
 
-/* Writes an opcode and a number of `size` bytes, the lowest first. */
+/* Writes an opcode and a number of `size` bytes, the lowest byte first. */
 static void put_number(output *out, int opcode, uint64_t number, size_t size) {
     unsigned char bytes[9] = {(unsigned char)opcode};
     for (size_t at = 1; at <= size; at++, number >>= 8) bytes[at] = (unsigned char)number;

@@ -63,21 +63,22 @@ enum {
  * nothing. */
 #define TOML_SPAN_NONE SIZE_MAX
 
-/* Bytes of the text, from `start` to before `end`. */
+/* A range of bytes of the text, from `start` to `end`, exclusive. */
 typedef struct {
     size_t start, end;
 } toml_span_range;
 
 /* The bytes of a name or of a value's text. With `const char *sources[] = {text, strings};` they begin at
  * `sources[source] + at`, and no zero byte follows them. They are in the document (source 0) if it has them unchanged
- * at the span. Otherwise they are in `strings` (source 1): the text of a string with escapes, or of a float with `+`,
- * `_` or `e`, which is written here without `+` and `_`, and with `E` instead of `e`. */
+ * at the span. Otherwise they are in `strings` (source 1). This is so for a name or string with escapes, for a string
+ * with CRLF line ends, which become LF, and for a float with `+`, `_` or `e`. Such a float has neither `+` nor `_` in
+ * `strings`, and `E` instead of `e`. */
 typedef struct {
     size_t source, at, length;
 } toml_span_text;
 
-/* A value. The root comes first, each value before those inside it, the elements of an array in order, and the entries
- * of a table in the order of their names, by bytes (toml_span_sort changes that). */
+/* A value. The root comes first, and each value comes before those inside it. The elements of an array are in order.
+ * The entries of a table are in the order of their names, by bytes (toml_span_sort changes that). */
 typedef struct {
     uint32_t kind;            /* TOML_SPAN_STRING and so on */
     uint32_t truth;           /* 1 for `true`; otherwise 0 */
@@ -101,7 +102,7 @@ typedef struct {
 
 /* Why a text is not valid TOML. */
 typedef struct {
-    uint32_t code;         /* the kind of error, from 1 on: toml_span_code returns its name */
+    uint32_t code;         /* the kind of error, from 1 on: toml_span_code writes its name */
     uint32_t has_first;    /* 1 if `first` is set: the error is also about an earlier key, table or value; else 0 */
     toml_span_range span;  /* the bytes that are wrong */
     toml_span_range first; /* the bytes of the earlier key, table or value; otherwise 0..0 */
@@ -118,8 +119,8 @@ typedef struct {
  * it again with room for the counts. With room for 2 * length + 1 records and `length` bytes of strings, one call is
  * enough.
  *
- * With READ it writes the records, the strings and the counts, with REFUSED the fault, and nothing else. The rest of
- * the arrays is unchanged. */
+ * If the status is READ, it writes the records, the strings and the counts. If it is REFUSED, it writes the fault. It
+ * writes nothing else; the rest of the arrays is unchanged. */
 uint32_t toml_span_parse(const char *text, size_t length, toml_span_node *nodes, size_t room, char *strings,
                          size_t strings_room, toml_span_counts *counts, toml_span_fault *fault);
 
@@ -139,22 +140,22 @@ uint32_t toml_span_message(const char *text, size_t length, char *out, size_t ro
 uint32_t toml_span_report(const char *text, size_t length, const char *name, size_t name_length, char *out, size_t room,
                           size_t *needed);
 
-/* ---- The calls that write a new text. With READ, they set `needed` to its length, and write it to `out` if it fits;
- * otherwise call again with that much room. With REFUSED, they write the fault. They write nothing else, except for the
- * reason of a refused change (see toml_span_edit). */
+/* ---- The calls that write a new text. If the status is READ, they set `needed` to its length, and write it to `out`
+ * if it fits; otherwise call again with that much room. If the status is REFUSED, they write the fault. They write
+ * nothing else, except for the reason of a refused change (see toml_span_edit). */
 
 /* What a change does at its path. A value is written as TOML, such as 8080, "text" with its quotes, or [1, 2]. */
 enum {
-    TOML_SPAN_SET = 1,        /* replaces the value, unless it is a table that headers or dotted keys define */
-    TOML_SPAN_REPLACE = 2,    /* replaces the value, even such a table */
+    TOML_SPAN_SET = 1,        /* replaces the value, unless headers or dotted keys define it */
+    TOML_SPAN_REPLACE = 2,    /* replaces the value, even if headers or dotted keys define it */
     TOML_SPAN_SET_OR_ADD = 3, /* replaces the value, or adds it with the missing tables on the way */
     TOML_SPAN_RENAME = 4,     /* renames the key to `value`, which has no quotes */
     TOML_SPAN_REMOVE = 5,     /* removes the value with its key, or the element */
-    TOML_SPAN_ADD = 6,        /* adds the value to an existing table, under a new key, the last of the path */
-    TOML_SPAN_ADD_TABLE = 7,  /* adds an empty table */
+    TOML_SPAN_ADD = 6,        /* adds the value to an existing table; the last step of the path is the new key */
+    TOML_SPAN_ADD_TABLE = 7,  /* adds an empty table, with the missing tables on the way */
     TOML_SPAN_APPEND = 8,     /* adds the value at the end of an array, or adds an array with it */
     TOML_SPAN_INSERT = 9,     /* adds the value before the element at the path, or at the end of the array */
-    TOML_SPAN_MOVE = 10       /* moves the value to the path `value`, where there is none */
+    TOML_SPAN_MOVE = 10       /* moves the value to the path `value`: where no value is, or into an array */
 };
 
 /* A change. Both strings end with a zero byte. The path is written as for toml_span_find; `[0]` is the same as `.0`.
@@ -171,7 +172,7 @@ uint32_t toml_span_edit(const char *text, size_t length, const toml_span_change 
 
 /* Formats a text. An array is written on one line if the line then has at most `width` columns (usually 80). Otherwise
  * each element is on a line of its own, indented by `indent` spaces (usually 4, at most 64) per level, but never by
- * more than `width`. UNMADE would be a bug. */
+ * more than `width`. The status UNMADE is only possible through a bug. */
 uint32_t toml_span_format(const char *text, size_t length, size_t width, size_t indent, char *out, size_t room,
                           size_t *needed, toml_span_fault *fault);
 
@@ -181,9 +182,9 @@ uint32_t toml_span_format(const char *text, size_t length, size_t width, size_t 
 #define TOML_SPAN_EACH(nodes, parent, child) \
     for (size_t child = (parent) + 1; child < (nodes)[parent].next; child = (nodes)[child].next)
 
-/* Finds a value by its path from the record `from` on, which is 0 for the root. A path that begins with a slash is a
- * JSON Pointer (RFC 6901), such as "/server/ports/0"; any other is a dotted key with positions in brackets, such as
- * "server.ports[0]" or "dependencies.\"a/b\"". Returns the index of the record, or TOML_SPAN_NONE. `sources` is
+/* Finds a value by its path from the record with the index `from`, which is 0 for the root. A path that begins with a
+ * slash is a JSON Pointer (RFC 6901), such as "/server/ports/0"; any other is a dotted key with positions in brackets,
+ * such as "server.ports[0]" or "dependencies.\"a/b\"". Returns the index of the record, or TOML_SPAN_NONE. `sources` is
  * {text, strings}, and `count` the number of records in the array: those that did not fit are not found. */
 size_t toml_span_find(const toml_span_node *nodes, size_t count, const char *const sources[2], size_t from,
                       const char *path);
@@ -193,9 +194,10 @@ size_t toml_span_find(const toml_span_node *nodes, size_t count, const char *con
  * `count` is counts.nodes. */
 void toml_span_sort(const toml_span_node *nodes, size_t count, toml_span_node *sorted);
 
-/* Writes the value of the record `from`, with all values inside it, as a Python pickle (protocol 4): tables as dicts,
- * arrays as lists. A datetime and, if `floats` is not 0, a float is a persistent id: the index of its record. It writes
- * to `out` as toml_span_code does. The arrays must have all records and strings. */
+/* Writes the value of the record with the index `from`, and all values inside it, as a Python pickle (protocol 4):
+ * tables as dicts, arrays as lists. A datetime is written as a persistent id, the index of its record, and so is a
+ * float if `floats` is not 0. The call writes to `out` as toml_span_code does. The arrays must have all records and
+ * strings. */
 void toml_span_pickle(const toml_span_node *nodes, size_t from, const char *const sources[2], int floats, char *out,
                       size_t room, size_t *needed);
 

@@ -62,8 +62,8 @@ std::optional<std::string> made(std::string_view text, std::string *why, Write w
 
 } // namespace detail
 
-/* Makes changes, one after the other, and leaves all other bytes as they are. Returns the new text. If the text is not
- * valid or a change is refused, returns nothing, and sets `why` to the reason, unless `why` is null. */
+/* Makes changes, one after the other, and leaves all other bytes as they are. Returns the new text. If there is none,
+ * for example because a change is refused, returns nothing, and sets `why` to the reason, unless `why` is null. */
 inline std::optional<std::string> edit(std::string_view text, const std::vector<toml_span_change> &changes,
                                        std::string *why = nullptr) {
     toml_span_change none = {0, nullptr, nullptr};
@@ -75,8 +75,8 @@ inline std::optional<std::string> edit(std::string_view text, const std::vector<
     });
 }
 
-/* Formats a text, as toml_span_format does. Returns the new text. If the text is not valid, returns nothing, and sets
- * `why` to the reason, unless `why` is null. */
+/* Formats a text, as toml_span_format does. Returns the new text. If there is none, for example because the text is not
+ * valid, returns nothing, and sets `why` to the reason, unless `why` is null. */
 inline std::optional<std::string> format(std::string_view text, size_t width = 80, size_t indent = 4,
                                          std::string *why = nullptr) {
     return detail::made(text, why, [&](const char *from, char *out, size_t room, size_t *needed) {
@@ -134,7 +134,7 @@ public:
 
     inline value root() const;
     inline value operator[](std::string_view name) const;
-    inline value find(const char *pointer) const; /* by JSON Pointer, such as "/server/ports/0" */
+    inline value find(const char *pointer) const; /* by a path, as toml_span_find does */
 
 private:
     const char *sources_[2];

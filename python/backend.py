@@ -19,7 +19,7 @@ import zipfile
 HERE = os.path.dirname(os.path.abspath(__file__))
 PACKAGE = os.path.join(HERE, "src", "toml_span")
 LIBRARY = "libtoml_span.so.0"
-# the date of each member, so that the same sources make the same file
+# the date of each file in an archive, so that the same sources make the same archive
 MOMENT = (1980, 1, 1, 0, 0, 0)
 
 
@@ -97,7 +97,7 @@ def build_wheel(wheel_directory, config_settings=None, metadata_directory=None):
 
 
 def build_sdist(sdist_directory, config_settings=None):
-    """The source distribution has the library too, since only Rattle's toolchain can make it."""
+    """The source distribution has the library too, since only Rattle's toolchain can build it."""
     folder = f"toml_span-{version()}"
     members = [("PKG-INFO", metadata())]
     members += [(name, read(name)) for name in ("LICENSE-APACHE", "LICENSE-MIT", "backend.py", "pyproject.toml")]

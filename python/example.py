@@ -1,4 +1,4 @@
-"""Prints the place of each value of a TOML file, and the file with an edit: python3 example.py FILE"""
+"""Prints the line, column and path of each value of a TOML file, and then the edited file: python3 example.py FILE"""
 
 import sys
 

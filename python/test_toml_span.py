@@ -1,7 +1,7 @@
 """Tests of the module: python3 test_toml_span.py FOLDER
 
-FOLDER has the stored runs of `toml-span`, crates/toml_span_cli/runs: a run tagged_NAME has a document, `stdin`, and what
-it says, `stdout`, each scalar with its type.
+FOLDER has the stored runs of `toml-span`, as in crates/toml_span_cli/runs. A run tagged_NAME has a document in `stdin`,
+and its values as JSON, each scalar with its type, in `stdout`.
 """
 
 import ast
@@ -39,7 +39,7 @@ def text_of(path):
 
 
 def tagged(value):
-    """A value with the types of its scalars, as the JSON has it, but for the texts of floats and dates."""
+    """A value with the types of its scalars, as in the JSON, except for the texts of floats and dates."""
     if isinstance(value, dict):
         return {name: tagged(held) for name, held in value.items()}
     if isinstance(value, list):
@@ -56,7 +56,7 @@ def tagged(value):
 
 
 def moment_of(kind, text):
-    """A date or time of the JSON, by Python's own reader."""
+    """A date or time of the JSON, as Python's own parser reads it."""
     text = text.upper().replace("Z", "+00:00")
     # (older versions of Python want three or six digits)
     text = re.sub(r"\.(\d+)", lambda found: "." + found[1][:6].ljust(6, "0"), text)

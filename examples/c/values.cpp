@@ -1,4 +1,4 @@
-// Prints the place of each value of a TOML file, with the names and positions that lead to it.
+// Prints the line, column, path and kind of each value of a TOML file.
 #include <fstream>
 #include <iostream>
 #include <iterator>

@@ -1,6 +1,6 @@
--- Which strings and keys of a tree are borrowed: those that equal the text where they are written, and no others. A
--- string is written at its span. A key is written where its path is first claimed: a table or an array keeps that name,
--- even if a later claim determines the span of its key.
+-- Which strings and keys of a tree are borrowed: those that equal the text at the span where they are written, empty
+-- single-line strings, and no others. A string is written at its span. A key is written where its path is first
+-- claimed: a table or an array keeps that name, even if a later claim determines the span of its key.
 use Rattle.std.specs.Global.{Global}
 use Rattle.std.specs.declared.borrow.CowStr.{CowStr}
 use Rattle.std.specs.Prelude.{ℕ, suc, List, [], ◌∷◌, ◌++◌, Option, Some, option_map, IsSomeAnd, filter}
@@ -28,7 +28,7 @@ StringOrKey = CowStr Global × Option Span
 abbrev pub KeySpans : Type 0
 KeySpans = Path → Option Span
 
--- the strings and keys in a value, given where the keys of the paths below it are written
+-- the strings and keys in a value, given the spans where the keys of the paths below it are written
 abbrev pub StringsAndKeys : Type 0
 StringsAndKeys = KeySpans → List StringOrKey
 
@@ -42,8 +42,8 @@ entries_strings (e ∷ es) spans =
     let name = cow_str_bytes e.0.name in
     (e.0.name, spans (key name ∷ [])) ∷ (e.1 (λ p. spans (key name ∷ p)) ++ entries_strings es spans)
 
--- one level of the value, in which the values inside are converted already; a string is written at the span of its
--- value
+-- The strings and keys in the content of a value, given those in the values inside it. A string is written at the span
+-- of its value.
 abbrev pub inner_step : ValueInner-F (Span → StringsAndKeys) StringsAndKeys → Span → StringsAndKeys
 inner_step (ValueInner-F.String s) span spans = (s, Some span) ∷ []
 inner_step (ValueInner-F.Array v) span spans = elements_strings 0 v.items spans
@@ -63,7 +63,8 @@ strings_and_keys = fold-Value (Span → StringsAndKeys) StringsAndKeys inner_ste
 abbrev pub first_key : Claims → KeySpans
 first_key cs p = option_map (λ c. c.info.key) (slice_get (filter (λ c. same_path c.path p) (all_claims cs)) 0)
 
--- It is known where the string or key is written, and it is borrowed if and only if it equals the text there.
+-- The span where the string or key is written is known. It is borrowed if and only if it equals the text there or is an
+-- empty single-line string.
 abbrev pub IsBorrowedRight : List ℕ → StringOrKey → Type 0
 IsBorrowedRight text x = IsSomeAnd x.1 (λ span. BorrowsWhereSame text span x.0)
 

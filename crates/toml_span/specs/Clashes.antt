@@ -1,4 +1,5 @@
--- Which claims clash, and how a clash is reported.
+-- Which claims clash, and how a clash is reported. Only claims in the same scope clash; the scopes are the document and
+-- each inline table.
 use Rattle.std.specs.Prelude.{◌≡◌, ℕ, if◌then◌else◌, List, [], ◌∷◌, ◌++◌, Option, Some, None, option_map}
 use Rattle.std.specs.Option.{option_or}
 use Rattle.toml_span_tree.specs.Error.{Kind, duplicate_table, duplicate_key, redefine_as_array, ErrorContent}
@@ -12,10 +13,11 @@ use Rattle.toml_span.specs.declared.claims.ClashInfo.{ClashInfo}
 use Rattle.toml_span.specs.Paths.{same_path}
 use Rattle.toml_span.specs.Claims.{Claim, Claims, no_claims, claimed, scope}
 
--- How two claims on a path clash, the first of them made earlier, or None if they do not. A table may be passed through
--- any number of times, and opened once. An array of tables is claimed once, and is then entered through its elements.
--- An element is claimed once, and is then passed through. A dotted key that goes through a value is a fault if both are
--- in the same section or inline table; otherwise another clash comes first.
+-- How two claims on the same path clash, or None if they do not. The first argument is the earlier claim. Headers may
+-- pass through a table any number of times, but open it once. An array of tables is claimed once, by its first header;
+-- later headers lead to its elements. Each element is claimed once, and headers may then pass through it. A dotted key
+-- through a value (`Assigned`, then `Dotted`) is never reported as a clash: it is a fault if both are in the same
+-- section or inline table, and otherwise another clash comes first.
 abbrev pub clash_kind : ClaimKind → ClaimKind → Option ClashKind
 clash_kind Passed ArrayOfTables = Some RedefineAsArray
 clash_kind Passed Assigned = Some DuplicateKey
@@ -36,7 +38,8 @@ clash_kind Assigned Dotted = Some DuplicateKey
 clash_kind Assigned Assigned = Some DuplicateKey
 clash_kind _ _ = None
 
--- A clash of two tables has the spans of the headers, a clash of two keys the spans of the keys.
+-- the clash of two claims, whose kind is given: with the spans of the two keys for `DuplicateKey`, otherwise with those
+-- of the two header lines
 abbrev pub clash_info : ClaimInfo → ClaimInfo → ClashKind → ClashInfo
 clash_info earlier later DuplicateTable = record { kind = DuplicateTable; first = earlier.line; span = later.line }
 clash_info earlier later DuplicateKey = record { kind = DuplicateKey; first = earlier.key; span = later.key }
@@ -47,19 +50,20 @@ pub record NamedClash : Type 0 where
   pub info : ClashInfo
   pub name : List ℕ
 
--- the clash of an earlier and a later claim, if they clash; they may be on different paths
+-- the clash of an earlier and a later claim, or None if they are on different paths or do not clash
 unfoldable pub clash : Claim → Claim → Option NamedClash
 clash earlier later =
     if same_path earlier.path later.path
     then option_map (λ kind. record { info = clash_info earlier.info later.info kind; name = later.name })
     (clash_kind earlier.info.kind later.info.kind) else None
 
--- the clash of a claim with the first of these claims that it clashes with
+-- the clash of the claim `later` with the first of these claims with which it clashes, or None if it clashes with none
+-- of them
 unfoldable pub clash_among : List Claim → Claim → Option NamedClash
 clash_among [] later = None
 clash_among (c ∷ earlier) later = option_or (clash c later) (clash_among earlier later)
 
--- The first clash in the order of the text. The list has the earlier claims in the same scope. The later claim of the
+-- The first clash in the order of the text. `earlier` has the earlier claims in the same scope. The later claim of the
 -- clash is the first one that clashes with an earlier claim of its scope, and the other is the earliest claim with
 -- which it clashes.
 unfoldable pub clash_after : List Claim → Claims → Option NamedClash
@@ -75,12 +79,13 @@ first_clash cs = clash_after [] cs
 abbrev pub Resolves : Claims → Type 0
 Resolves cs = first_clash cs ≡ None
 
--- the kind of the error that reports a clash over a name
+-- the kind of the error that reports a clash, where `name` is the name of the key
 abbrev pub kind_of_clash : ClashKind → List ℕ → ClashInfo → Kind
 kind_of_clash DuplicateTable name m = duplicate_table name m.first
 kind_of_clash DuplicateKey name m = duplicate_key name m.first
 kind_of_clash RedefineAsArray name m = redefine_as_array
 
+-- the error that reports a clash, with the line and the column at which the clash's span starts
 abbrev pub content_of_clash : ClashInfo → List ℕ → ℕ × ℕ → ErrorContent
 content_of_clash m name line_info =
     record { kind = kind_of_clash m.kind name m; span = m.span; line_info = Some line_info }

@@ -21,13 +21,14 @@ by_header Dotted = false
 by_header Assigned = false
 by_header _ = true
 
--- Of the claims on a path, the one that determines the place there: that of the first header that reaches or passes
--- through it, or, if there is none, the first claim. If no claims clash, all of them belong to one scope.
+-- The claim that determines the place at a path, out of all claims on the path: the claim of the first header that
+-- reaches or passes through it or, if no header does, the first claim. If no claims clash, all claims on a path belong
+-- to one scope.
 abbrev pub deciding_claim : List Claim → Option Claim
 deciding_claim cs = option_or (find (λ c. by_header c.info.kind) cs) (slice_get cs 0)
 
--- The place at each path of a document that is `size` bytes long: at the empty path the root, elsewhere what the
--- deciding claim says.
+-- The place at each path of a document that is `size` bytes long: at the empty path the root, elsewhere the place of
+-- the claim that determines it.
 unfoldable pub flat : ℕ → Claims → Path → Option Place
 flat size cs [] = Some (record { shape = shape_table; key_span = None; span = record { start = 0; end = size } })
 flat size cs (s ∷ p) =

@@ -6,8 +6,8 @@ use Rattle.std.specs.declared.cmp.Ordering.TheVariants as orderings
 use Rattle.toml_span_tree.specs.Node.{Members, no_members, member, Node, node, Inner, taken, scalar, array, table}
 use Rattle.toml_span_tree.specs.Node.{Items, no_items, item, entry_at}
 
--- the lexicographic order of names: the first two bytes that differ decide, and a name comes before a longer one that
--- begins with it
+-- The name is before the other one in lexicographic order. The bytes at the first position where the two differ decide.
+-- A name is before a longer one that begins with it.
 abbrev pub IsNameBefore : List ℕ → List ℕ → Type 0
 IsNameBefore name other = slice_cmp nat_cmp name other ≡ orderings.Less
 

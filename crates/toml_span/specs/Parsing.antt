@@ -18,15 +18,15 @@ use Rattle.toml_span.specs.Flat.{flat, ShowsExactly}
 use Rattle.toml_span.specs.Ordered.{IsOrdered}
 use Rattle.toml_span.specs.Borrowed.{AreBorrowedRight, first_key, strings_and_keys}
 
--- The tree shows the flat document of these sections, which is `size` bytes long. The names in each table ascend, so
--- none occurs twice.
+-- The tree has exactly the places of the flat document of these sections, and the document is `size` bytes long. The
+-- names in each table ascend, so none occurs twice.
 pub record IsTreeOf (sections : List ParsedSection) (size : ℕ) (root : Value) : Type 0 where
   pub shows : ShowsExactly (view root) (flat size (claims sections))
   pub ordered : IsOrdered (view root)
 
--- The result of parsing a text within the limit. A tree: the text is read as sections that do not clash, and the tree
--- is theirs. An error: it reports the fault of the text or, if the text is read as sections, their first clash, and its
--- span starts inside the text. A failed allocation is a result for any text.
+-- The possible results of parsing a text with this limit. A tree: the text is read as sections that do not clash, and
+-- this is their tree. An error: it reports the fault of the text or, if the text is read as sections, their first
+-- clash. Its span starts inside the text or at its end. A failed allocation is possible for any text.
 abbrev pub IsParseResult : List ℕ → ℕ → Result Value (Stop Error) → Type 0
 IsParseResult text limit (Ok root) =
     (sections : List ParsedSection) × (document text limit (Ok sections) × (first_clash (claims sections) ≡ None))
@@ -40,7 +40,7 @@ IsParseResult text limit (Err (stops.Fault error)) =
     × (StartsInside text clash.info.span
     × (content_of error ≡ content_of_clash clash.info clash.name (line_info text clash.info.span.start))))
 
--- The same for a result that is a tree, and for one that is an error.
+-- Parsing the text with this limit can return this tree. `IsRefusal`: it can fail with this error or failed allocation.
 abbrev pub IsTree : List ℕ → ℕ → Value → Type 0
 IsTree text limit root = IsParseResult text limit (Ok root)
 
@@ -49,12 +49,13 @@ IsRefusal text limit stop = IsParseResult text limit (Err stop)
 
 -- ---- properties of the tree
 
--- a table that spans the whole document, which is `size` bytes long
+-- The value is a table that spans the whole document, which is `size` bytes long.
 abbrev pub IsRoot : ℕ → Value → Type 0
 IsRoot size root = (members : Members) × (view root ≡ node (table members) (record { start = 0; end = size }))
 
--- Each string in the tree is borrowed if and only if it equals the text at its span or is empty on a single line. Each
--- key is borrowed if and only if it equals the text of the first key that claims its path.
+-- Each string in the tree is borrowed if and only if it equals the text at its span or is an empty single-line string.
+-- Each key is borrowed if and only if it equals the text at the span of the first key that claims its path, or that key
+-- is an empty single-line string.
 abbrev pub IsBorrowedTree : List ℕ → ℕ → Value → Type 0
 IsBorrowedTree text limit root =
     (sections : List ParsedSection) × document text limit (Ok sections)

@@ -17,11 +17,11 @@ same_path [] (t ∷ q) = false
 same_path (s ∷ p) [] = false
 same_path (s ∷ p) (t ∷ q) = same_step s t && same_path p q
 
--- a path with a key at its end
+-- the path p, followed by the key k
 abbrev pub with_key : Path → SimpleKey → Path
 with_key p k = p ++ (key k.name ∷ [])
 
--- a path with a position at its end
+-- the path p, followed by the position i
 abbrev pub with_position : Path → ℕ → Path
 with_position p i = p ++ (position i ∷ [])
 
@@ -29,27 +29,29 @@ with_position p i = p ++ (position i ∷ [])
 abbrev pub elements_added : List Path → Path → ℕ
 elements_added opened p = length (filter (λ q. same_path q p) opened)
 
--- the path of the latest of n elements, or the path itself if there are none
+-- the path of the latest element of an array of tables at p that has n elements, or p itself if n is 0
 unfoldable pub enter : ℕ → Path → Path
 enter zero p = p
 enter (suc latest) p = with_position p latest
 
--- The path of a header, which begins at p. The position of an element that the header adds is not part of it. `counts`
--- is the number of elements that each array of tables has so far.
+-- The path of a header, whose parts lead on from the path p. It leads through the latest element of each array of
+-- tables on the way, but does not include the position of an element that the header adds. `counts` is the number of
+-- elements that each array of tables has so far.
 unfoldable pub target : (Path → ℕ) → Path → List SimpleKey → Path
 target counts p [] = p
 target counts p (k ∷ []) = with_key p k
 target counts p (k ∷ l ∷ more) = target counts (enter (counts (with_key p k)) (with_key p k)) (l ∷ more)
 
--- for each section with double brackets, the path of the array to which it adds an element, the latest first
+-- For each section whose header has double brackets, the path of the array to which it adds an element. Both lists have
+-- the latest section first.
 unfoldable pub opened_by : List ParsedSection → List Path
 opened_by [] = []
 opened_by (b ∷ earlier) =
     let before = opened_by earlier in
     if b.array then target (elements_added before) [] b.header ∷ before else before
 
--- The path of the table that a section fills: that of its header and, with double brackets, the position of its own
--- element.
+-- The path of the table that a section fills: the path of its header, followed by the position of the new element if
+-- the header has double brackets.
 abbrev pub section_path : (Path → ℕ) → ParsedSection → Path
 section_path counts b =
     let p = target counts [] b.header in

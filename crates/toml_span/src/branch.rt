@@ -54,7 +54,7 @@ fn by_header(kind: ClaimKind) -> bool
 }
 
 /// Returns the claim that determines the spans of a branch: the claim of the first header or, if no header claims the
-/// branch, the first claim. Returns `None` if there are no claims.
+/// branch, the first claim. Returns `None` if `infos` is empty.
 fn deciding(infos: &[ClaimInfo]) -> Option<ClaimInfo>
     ensures { result ≡ code.deciding infos.now }
 {

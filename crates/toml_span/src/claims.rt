@@ -13,9 +13,9 @@ use toml_span_lex::span::Span;
 use toml_span_lex::stop::Stop;
 use toml_span_tree::{Error, ErrorKind};
 
-// Toolchain: `SmallVec` fills unused places ("the trait bound `Key: Default` is not satisfied"), so `Key`, `ClaimInfo`
-// and `ClaimKind` have a default.
-/// The kind of a claim: what a header or key says a path is.
+// Toolchain: `SmallVec` fills unused slots with defaults ("the trait bound `Key: Default` is not satisfied"), so `Key`,
+// `ClaimInfo` and `ClaimKind` have a default.
+/// The kind of a claim: what a header or key declares a path to be.
 #[derive(Clone, Copy, Default)]
 pub enum ClaimKind {
     /// A table through which a header passes: `a` in `[a.b]`.
@@ -23,26 +23,27 @@ pub enum ClaimKind {
     Passed,
     /// The table that a header in single brackets opens.
     StandardTable,
-    /// The array to which a header in double brackets adds a table.
+    /// The array to which a header in double brackets adds a table. Only the first such header makes this claim.
     ArrayOfTables,
     /// A table that is an element of an array of tables.
     TableElement,
     /// A table through which a dotted key passes: `a` in `a.b = 1`.
     Dotted,
-    /// A value that is assigned.
+    /// A value: the value of an assignment, or an element of an array in brackets.
     Assigned,
 }
 
-/// A claim on a branch, as the branch keeps it.
+/// A claim, without its path and the name of its key.
 #[derive(Clone, Copy, Default)]
 pub struct ClaimInfo {
     pub kind: ClaimKind,
-    /// The span of the part of the header or dotted key that names the path.
+    /// The span of the part of the header or key that makes the claim.
     pub key: Span,
-    /// The line of the header, from its first bracket to the end of the line, including the line end. For the parts of
-    /// an assignment's key, the span of the value; no clash reports it.
+    /// The line of the header, from its first bracket to the end of the line, including the line end. For a part of an
+    /// assignment's key, the span of the value, which no clash reports.
     pub line: Span,
-    /// The span of the branch if this claim determines it: the section of the header, or the assigned value.
+    /// The span that the table, array or value at the path has if this claim determines it: that of the header's
+    /// section or of the assigned value.
     pub extent: Span,
 }
 
@@ -102,8 +103,8 @@ pub struct ClashInfo {
     pub span: Span,
 }
 
-/// Returns a clash of this kind between two claims. Its spans are the two keys for a duplicate key, otherwise the lines
-/// of the two headers.
+/// Returns the clash of two claims, whose kind is `kind`. Its spans are those of the two keys for a `DuplicateKey`,
+/// otherwise those of the two header lines.
 fn clash_info_of(earlier: ClaimInfo, later: ClaimInfo, kind: ClashKind) -> ClashInfo
     ensures { result ≡ clashes.clash_info earlier later kind }
 {

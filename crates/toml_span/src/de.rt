@@ -24,8 +24,8 @@ use toml_span_tree::{Error, Value};
 /// The limit of `parse` on the depth of values and on the number of parts of a key.
 const LIMIT: usize = 128;
 
-/// Reads the sections of a text into an assembly. Fails with the first fault. Reading goes on after a clash; the
-/// assembly keeps the first clash.
+/// Reads the sections of `text` into an assembly. `limit` is as in `parse_with_limit`. Fails with the first fault. A
+/// clash does not stop the reading; the assembly keeps the first clash.
 fn assemble<'de>(alloc: Global, text: &'de str, limit: usize) -> Result<Assembly<'de>, Stop<Fault>>
     requires some { 1 ≤ limit }
     requires small { limit ≤ depth_limit }
@@ -49,7 +49,8 @@ fn assemble<'de>(alloc: Global, text: &'de str, limit: usize) -> Result<Assembly
     Ok(assembly)
 }
 
-/// Returns the finished tree of `text`. Fails with the error of the assembly's clash, if there is a clash.
+/// Returns the finished tree of `assembly`, which was read from `text`. If the assembly has a clash, fails with the
+/// error that reports it.
 fn tree_of<'de>(assembly: Assembly<'de>, text: &'de str) -> Result<Value<'de>, Stop<Error<'de>>>
     requires inside { IsAssemblyInside (length text.now) assembly }
     ensures answers { (bs : List ParsedSection) (limit : ℕ) → document text.now limit (Ok bs)
@@ -74,7 +75,7 @@ fn tree_of<'de>(assembly: Assembly<'de>, text: &'de str) -> Result<Value<'de>, S
 
 /// Parses a TOML 1.1 document into a tree. Does the same as `parse_with_limit` with the limit 128.
 ///
-/// Fails with the first fault, that is, the first thing in the text that can't be read. If there is no fault, fails
+/// Fails with the first fault, that is, the first thing in the text that can't be read. If the text has no fault, fails
 /// with the first clash of two keys or headers, such as a table that is defined twice. Fails with `Stop::Memory` if an
 /// allocation fails.
 pub fn parse<'de>(alloc: Global, s: &'de str) -> Result<Value<'de>, Stop<Error<'de>>>
@@ -90,9 +91,10 @@ pub fn parse<'de>(alloc: Global, s: &'de str) -> Result<Value<'de>, Stop<Error<'
 
 /// Parses a TOML 1.1 document into a tree. Spans are byte offsets in `s`, the end exclusive.
 ///
-/// Values may be nested at most `limit` levels deep. Each bracket, brace and part of an assignment's key around a value
-/// is one level. A header or dotted key may have at most `limit` parts. Beyond these limits, the error is
-/// `ExceededDepthLimit`. The other errors are those of `parse`.
+/// Values may be nested at most `limit` levels deep. Each array or inline table around a value counts as one level, and
+/// so does each part of the value's key and of the keys around it. Headers do not count. A header or dotted key may
+/// have at most `limit` parts. Beyond these limits, the error is `ExceededDepthLimit`. The other errors are those of
+/// `parse`.
 ///
 /// Callers must prove that `limit` is from 1 to 128. The limit is not checked at run time.
 pub fn parse_with_limit<'de>(

@@ -29,8 +29,8 @@ pub fn from_str<'de, T: Deserialize<'de>>(
     T::deserialize(alloc, &mut root)
 }
 
-/// Does the same as `from_str` for a type that warns, and appends its warnings to `warnings`, even if the read fails.
-/// If the text can't be parsed, `warnings` is unchanged.
+/// Does the same as `from_str` for a type whose reads can warn, and appends the warnings to `warnings`, even if the
+/// read fails. If the text can't be parsed, `warnings` is unchanged.
 pub fn from_str_with_warnings<'de, T: DeserializeWithWarnings<'de>>(
     alloc: Global,
     text: &'de str,

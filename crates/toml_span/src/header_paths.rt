@@ -16,9 +16,9 @@ use toml_span_tree::{Array, Table, Value, ValueInner};
 /// Places `value`, the table of a section, in `table` at the path `parts`, the remaining parts of the section's header.
 /// `array` says whether the header has double brackets.
 ///
-/// Returns `None` if the path goes through anything but tables that headers made, or if there is a value at the path to
-/// which the header does not append an element. Also returns `None` if an allocation fails. `table` is then
-/// unspecified.
+/// Returns `None` if `parts` is empty, or if the path goes through anything except tables that headers made. Also
+/// returns `None` if the path has a value already, unless the header appends an element to that value, or if an
+/// allocation fails. The contents of `table` are then unspecified.
 #[cycle(header_paths)]
 #[inline(always)]
 pub(crate) fn place_table<'de>(
@@ -56,7 +56,8 @@ pub(crate) fn place_table<'de>(
 }
 
 /// Places `value`, the table of a section, at the path `rest` below `child`, a value that headers made. If `rest` is
-/// empty, appends `value` to the array `child`. Returns `None` like `place_table`; `child` is then unspecified.
+/// empty, appends `value` to the array `child`. Returns `None` in the same cases as `place_table`; the contents of
+/// `child` are then unspecified.
 #[cycle(header_paths)]
 fn pass_value<'de>(
     alloc: Global,

@@ -1,4 +1,4 @@
-//! Reads the assignments of a section and places each one as soon as it is read.
+//! Reads the assignments of a section and places each one as soon as it is read. `limit` is as in `parse_with_limit`.
 ghost use Rattle.std.specs.Prelude.{◌≤◌, IfSome};
 ghost use Rattle.std.specs.Str.{IsCharBoundary};
 ghost use Rattle.toml_span_read.specs.Data.{depth_limit};
@@ -12,7 +12,7 @@ use toml_span_read::sections::{assignment, extent_of, next_line};
 use toml_span_tree::Table;
 
 /// Reads the assignments from `from` up to the next header or the end of the text, and places them in `node`. Returns
-/// the end of the last assignment (`from` if there is none), and the offset of the header or of the end of the text.
+/// the end of the last assignment (`from` without assignments), and the offset of the header or of the end of the text.
 ///
 /// Returns `None` at the first fault or clash, or if an allocation fails; `node` is then incomplete.
 pub(crate) fn place_lines<'de>(
@@ -51,7 +51,7 @@ pub(crate) fn place_lines<'de>(
 #[derive(Drop)]
 pub(crate) struct Lines<'de> {
     pub table: Table<'de>,
-    /// The end of the last assignment or, if there is none, the offset from which the section was read.
+    /// The end of the last assignment or, without assignments, the offset from which the section was read.
     pub end: usize,
     /// The offset of the next header, or of the end of the text.
     pub next: usize,

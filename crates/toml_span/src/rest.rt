@@ -9,8 +9,9 @@ const SMALL_BLOCK: usize = 4096;
 
 /// An iterator over the items of a list. It frees memory on the way.
 ///
-/// A `Vec` keeps its buffer until it is dropped. A `Rest` shrinks a large buffer when more than a quarter of it is
-/// unused. Shrinking may move the remaining items, but there are fewer than four moves per item of the list in total.
+/// A `Vec` keeps its buffer until it is dropped. A `Rest` shrinks a large buffer when more than a quarter of the buffer
+/// is unused. Shrinking may move the remaining items, but there are fewer than four moves per item of the list in
+/// total.
 #[derive(Drop)]
 pub struct Rest<T> {
     /// The items in reverse order: the next item is the last of this vector.

@@ -27,7 +27,7 @@ use toml_span_lex::stop::Stop;
 use toml_span_read::{Assignment, Section};
 use toml_span_tree::{Value, ValueInner};
 
-/// Returns the claim of this kind that a part of a header makes.
+/// Returns the claim of this kind that the part `key` of a header makes.
 fn part_info(head: HeaderInfo, kind: ClaimKind, key: &Key<'_>) -> ClaimInfo
     ensures { result ≡ claims.part_info head kind key.now.span }
 {

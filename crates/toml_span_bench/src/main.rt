@@ -37,8 +37,8 @@ fn is_read(alloc: Global, text: &str, in_tokens: bool) -> bool {
     false
 }
 
-/// Parses a text `passes` times, or for about a second if `passes` is 0, and prints the line for the file. If
-/// `in_tokens`, splits the text into tokens instead. Fails if the clock or the output fails.
+/// Parses a text `passes` times, or for about a second if `passes` is 0, and prints a line with the shortest and the
+/// mean time. If `in_tokens`, splits the text into tokens instead. Fails if the clock or the output fails.
 fn measure(
     rt: &HostRuntime,
     file: &str,

@@ -58,8 +58,8 @@ Fills out out' needed text = (out' ≡ filled text out) × (needed ≡ length te
 
 -- ---- the calls that write a new text
 
--- The status is 2 if the bytes are not valid UTF-8 or too long (see `IsText`). Otherwise it is 0, 1 or 4, or 3 if the
--- call makes no new text from a document.
+-- The status is 2 if the bytes are not valid UTF-8 or too long (see `IsText`). Otherwise it is 0 or 1, or 3 if the
+-- bytes are a document but the call makes no new text, or 4 if an allocation failed.
 pub record IsNewStatus (bytes : List ℕ) (status : ℕ) : Type 0 where
   pub unread : ¬ IsText bytes → status ≡ 2
   pub read : IsText bytes → (status ≡ 0) ⊎ ((status ≡ 1) ⊎ ((status ≡ 3) ⊎ (status ≡ 4)))
@@ -69,10 +69,10 @@ abbrev pub Holds : List ℕ → List ℕ → ℕ → List ℕ → Type 0
 Holds out out' needed text =
     (out' ≡ (if nat_le (length text) (length out) then filled text out else out)) × (needed ≡ length text)
 
--- The bytes are a document, from which the changes make the new text.
+-- The bytes are a document, and the changes turn it into the text `new`.
 abbrev pub IsEdited : List ℕ → List ChangeRecord → List ℕ → Type 0
 IsEdited bytes changes new = IsDocument bytes × ChangesMade changes bytes new
 
--- The bytes are a document. The new text has its sections and its comments.
+-- The bytes are a document. The text `new` has the same sections and the same comments.
 abbrev pub IsFormatted : List ℕ → List ℕ → Type 0
 IsFormatted bytes new = IsDocument bytes × SameDocument bytes new

@@ -30,7 +30,7 @@ code_number (dotted_key_invalid_type first) = 16
 code_number unquoted_string = 17
 code_number _ = 0
 
--- the name of the kind with this number, or an empty string
+-- the name of the kind of error with the number `code`, or an empty string
 abbrev pub code_name : ℕ → List ℕ
 code_name code =
     if code == 1 then codes "unexpected-eof"

@@ -25,7 +25,7 @@ scalar_number (float x) = 3
 scalar_number (boolean b) = 4
 scalar_number (datetime d) = 5
 
--- the number of a kind
+-- the number of a value's kind, and 0 for a value that has been taken
 abbrev pub kind_number : Inner → ℕ
 kind_number taken = 0
 kind_number (scalar s) = scalar_number s
@@ -45,7 +45,7 @@ abbrev pub scalar_integer : Scalar → ℤ
 scalar_integer (integer z) = z
 scalar_integer _ = pos 0
 
--- an integer, and 0 for any other value
+-- the value of an integer, and 0 for any other value
 abbrev pub integer_of : Inner → ℤ
 integer_of (scalar s) = scalar_integer s
 integer_of _ = pos 0
@@ -86,8 +86,8 @@ children_of _ = 0
 
 -- ---- the order of the values
 
--- A value with its name and the span of its key, if it has one, and two indices of records: that of its parent, and
--- that of the first one after the values inside it.
+-- A value with the name and span of its key, if it has one, its position in its parent, and two indices of records:
+-- that of its parent, and that of the first one after the values inside it.
 pub record Entry : Type 0 where
   pub parent : ℕ
   pub position : ℕ
@@ -99,8 +99,9 @@ pub record Entry : Type 0 where
 abbrev pub no_span : Span
 no_span = record { start = 0; end = 0 }
 
--- The entries of a value: its own, which has the index `at`, and then those of the values inside it, elements in order,
--- and entries of a table in the order of their names. A value that has been taken has none.
+-- The entries of a value: first its own, which has the index `at`, and then those of the values inside it. The elements
+-- of an array are in order, the values of a table in the order of their names. A value that has been taken has no
+-- entries.
 abbrev mutual
   pub node_entries : ℕ → ℕ → ℕ → Option (List ℕ) → Span → Node → List Entry
   node_entries at parent i name key (node inner span) =
@@ -138,14 +139,14 @@ tree_entries n = node_entries 0 NONE 0 None no_span n
 
 -- ---- texts
 
--- whether the document has this text at the span
+-- whether the bytes of the document at the span are the text `s`
 abbrev pub is_written_at : List ℕ → Span → List ℕ → Bool
 is_written_at document span s =
     nat_le span.start span.end && nat_le span.end (length document)
     && bytes_eq (slice_range document span.start span.end) s
 
--- The place of a text: in the document, if this has the text at the span, otherwise in the string array, after `after`
--- bytes. The place is empty for `None`.
+-- The place of a text: in the document, if the document has the text at the span, otherwise in the string array, after
+-- `after` bytes. For `None`, a place without bytes.
 abbrev pub place_of : List ℕ → ℕ → Span → Option (List ℕ) → Text
 place_of document after span None = record { source = 0; at = 0; length = 0 }
 place_of document after span (Some s) =
@@ -210,6 +211,6 @@ tree_counts document n = record {
 
 -- ---- arrays
 
--- the array with the list written over its beginning, as much of the list as fits
+-- the array `room` with the list `xs` written over its beginning, as much of the list as fits
 abbrev pub filled : {A : Type 0} → List A → List A → List A
 filled xs room = take (length room) xs ++ drop (length xs) room

@@ -9,7 +9,7 @@ use toml_span::{Error, Stop};
 /// The maximum length of a document, in bytes.
 pub const BOUND: usize = 16_777_216;
 
-/// The result for the bytes of a document: the text with the tree or the error.
+/// The result of parsing the bytes of a document: the text with the tree or the error.
 #[derive(Drop)]
 pub(crate) enum Answer<'de> {
     Tree(&'de str, Value<'de>),

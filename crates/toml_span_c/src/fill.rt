@@ -23,7 +23,7 @@ pub(crate) struct Site<'a> {
     position: usize,
 }
 
-/// Returns whether the document has exactly this text at the span.
+/// Returns whether the bytes of the document at `span` are exactly `text`.
 fn is_written_at(document: &str, span: Span, text: &str) -> bool
     ensures { result ≡ spec.is_written_at document.now span text.now }
 {
@@ -40,8 +40,8 @@ fn room_of<T>(array: &[T]) -> usize
     array.len()
 }
 
-/// Writes the bytes to `strings` from the index `count` on, as far as they fit. Adds the number of all bytes to
-/// `count`.
+/// Writes the bytes to `strings` from the index `count` on, as far as they fit. Adds the length of `bytes` to `count`,
+/// even if they don't fit.
 fn put_bytes(strings: &mut [u8], count: &mut usize, bytes: &[u8])
     ensures { (m : ℕ) → count.old ≡ m → m + length bytes.now ≤ NONE
         → PutsBytes m bytes.now strings.old strings.new count.new }
@@ -56,7 +56,7 @@ fn put_bytes(strings: &mut [u8], count: &mut usize, bytes: &[u8])
 }
 
 /// Returns where C finds a text: in the document, if the document has exactly this text at `span`, otherwise in
-/// `strings`. Writes a text that is not at `span` with `put_bytes`. Returns an empty place for `None`.
+/// `strings`. Writes a text that is not at `span` with `put_bytes`. Returns a place without bytes for `None`.
 #[inline(always)]
 fn put_text(
     document: &str,
@@ -105,7 +105,7 @@ fn put_record(nodes: &mut [Record], at: usize, added: Record)
     }
 }
 
-/// Returns the record of a value without the index `next`, and writes the texts of the record (see `put_text`).
+/// Returns the record of a value, with 0 as its `next`, and writes the texts of the record (see `put_text`).
 #[inline(never)]
 fn begin_record(
     document: &str,
@@ -149,8 +149,8 @@ fn begin_record(
     }
 }
 
-/// Writes the record of a value, and then those of the values inside, as far as they fit. Does nothing for a taken
-/// value.
+/// Writes the record of a value, followed by those of the values inside, as far as they fit. Adds the numbers of all
+/// records and bytes to `counts`. Does nothing for a taken value.
 #[cycle(put_value)]
 fn put_value(
     document: &str,
@@ -175,7 +175,7 @@ fn put_value(
     put_record(nodes, at, record);
 }
 
-/// Writes the records of the values inside a value. `at` is the index of the record of the value itself.
+/// Writes the records of the values inside `value`. `at` is the index of the record of `value` itself.
 #[cycle(put_value)]
 fn put_held(
     document: &str,

@@ -8,7 +8,7 @@ use toml_span_tree::ValueInner;
 /// The index of a record that does not exist: the parent of the root.
 pub const NONE: usize = usize::MAX;
 
-/// The field `number` in the record of a value that is not a float.
+/// The value of the field `number` in the record of a value that is not a float.
 pub const NO_NUMBER: f64 = 0.0;
 
 /// A range of byte offsets in the document, end exclusive.

@@ -9,7 +9,7 @@ leads_more text copy mid n field new before same next is =
     (subst (λ (m : List ℕ). NextFix m (Some (string_bytes new))) same
     (subst (λ (f : Option (String Global)). NextFix copy (option_map string_bytes f)) is next))
 
--- there is none
+-- no further fix is possible
 pub leads_none : (copy mid : List ℕ) (field : Option (String Global)) → copy ≡ mid → NextFix copy (option_map string_bytes field) → field ≡ None →
     NextFix mid None
 leads_none copy mid field same next is =

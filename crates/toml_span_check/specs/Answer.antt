@@ -35,7 +35,7 @@ use Rattle.toml_span_read.specs.Data.{depth_limit}
 abbrev pub Answer : Type 0
 Answer = ℕ × List ℕ × List ℕ
 
--- the text of a report that marks no place in the file
+-- the text of an error report about the file as a whole, without a source line
 abbrev pub plain_fault : Format → List ℕ → List ℕ → List ℕ → List ℕ
 plain_fault format code message name = fault_text format (bare severity.Error code message) name []
 
@@ -51,25 +51,25 @@ formed Items n = tree_lines n
 formed Raw n = raw n ++ codes "\n"
 formed Toml n = value_text n ++ codes "\n"
 
--- the answer for a document that is printed
+-- the answer if a value is to be printed: the value in this form, or an error if the path `pointer` names no value
 abbrev pub found : Format → Form → List ℕ → List ℕ → Option Node → Answer
 found format form pointer name (Some n) = (0, formed form n, [])
 found format form pointer name None = nothing_there format pointer name
 
--- the text of reports
+-- the text of one report, or of several, about a file with this name and source text
 abbrev pub report_text : Format → List ℕ → List ℕ → ReportContent → List ℕ
 report_text format name text r = fault_text format r name text
 
 abbrev pub reports_text : Format → List ℕ → List ℕ → List ReportContent → List ℕ
 reports_text format name text rs = flat_map (report_text format name text) rs
 
--- the number of all errors of a text, and the text of their reports
+-- `answer` has the number of all errors of `text`, and the text of their reports
 abbrev pub AreReported : Format → List ℕ → List ℕ → Answer → Type 0
 AreReported format name text answer =
     (rs : List ReportContent) × Checks text rs × (answer ≡ (length rs, reports_text format name text rs, []))
 
--- The answer for a valid text. Its errors are the uses of syntax that the version lacks, the errors that the schema of
--- the file reports, and a complaint if the schema can't be used. The reports of the schema come last.
+-- The answer for a valid text. Its errors are syntax that the version lacks, errors that the schema of the file
+-- reports, and a complaint if the schema can't be used. The reports of the schema come last.
 abbrev pub AreChecked : Says → Format → Version → Chooser → List ℕ → List ℕ → Node → Answer → Type 0
 AreChecked says format version chooser name text root answer =
     (rs more : List ReportContent) × (complaint : List ℕ) × Lacks version name text rs
@@ -80,14 +80,14 @@ AreChecked says format version chooser name text root answer =
       complaint,
     ))
 
--- the answer for a document
+-- the answer for the document `text`, whose tree is `n`: its errors, or the value at `pointer`
 abbrev pub Given : Says → Format → Task → List ℕ → List ℕ → List ℕ → Node → Answer → Type 0
 Given says format (Check version chooser) pointer name text n answer =
     AreChecked says format version chooser name text n answer
 Given says format (Show form) pointer name text n answer =
     (place : Option Node) × Locates pointer n place × (answer ≡ found format form pointer name place)
 
--- the answer for a text: the answer for its document or, if it is not valid TOML, all its errors
+-- the answer for a text: the answer for a document or, if the text is not valid TOML, all its errors
 abbrev pub IsRead : Says → Format → Task → List ℕ → List ℕ → List ℕ → Answer → Type 0
 IsRead says format task pointer name text answer =
     ((root : Value) × IsTree text depth_limit root × Given says format task pointer name text (view root) answer)

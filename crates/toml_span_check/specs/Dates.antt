@@ -3,7 +3,7 @@ use Rattle.std.specs.Prelude.{ℕ, ◌==◌, ◌||◌, nat_lt, Bool, List, ◌++
 use Rattle.std.specs.Prelude.{slice_index, if◌then◌else◌}
 use Rattle.std.specs.List.{list_any}
 
--- whether a byte can begin an offset
+-- whether a byte can begin a time offset: `Z`, `z`, `+` or `-`
 abbrev pub begins_offset : ℕ → Bool
 begins_offset byte = (byte == 90 || byte == 122) || (byte == 43 || byte == 45)
 
@@ -18,11 +18,11 @@ date_type date =
     else if list_any begins_offset (drop 11 date) then codes "datetime"
     else codes "datetime-local"
 
--- the offset after the minutes of a time
+-- the position after the minutes in a date text with a time
 abbrev pub minutes_end : List ℕ → ℕ
 minutes_end date = if is_time date then 5 else 16
 
--- whether a time has no seconds: it ends after the minutes, or an offset begins there
+-- whether a date text has a time without seconds: the text ends after the minutes, or a time offset begins there
 abbrev pub lacks_seconds : List ℕ → ℕ → Bool
 lacks_seconds date at = length date == at || begins_offset (slice_index date at)
 

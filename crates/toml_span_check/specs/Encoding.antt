@@ -8,9 +8,9 @@ use Rattle.toml_span_check.specs.Sarif.{hex_digit}
 use Rattle.toml_span_check.specs.declared.encoding.Encoding.{Encoding}
 use Rattle.toml_span_check.specs.declared.encoding.Encoding.TheVariants.{LittleEndian, BigEndian, Windows1252, Latin1}
 
--- The encoding that a file seems to have. The offset is where the first invalid byte of the file is. A byte order mark
--- decides for UTF-16. Otherwise a byte below 0xA0, which is not a printable character of Latin-1, decides for
--- Windows-1252.
+-- The encoding that a file seems to have. `at` is the offset of the first byte that is not valid UTF-8. A byte order
+-- mark means UTF-16. Otherwise a byte below 0xA0 at this offset means Windows-1252, since such a byte is not a
+-- printable character of Latin-1.
 abbrev pub encoding_of : List ℕ → ℕ → Encoding
 encoding_of bytes at =
     if slice_index bytes 0 == 255 && slice_index bytes 1 == 254 then LittleEndian
@@ -34,12 +34,12 @@ repair_of Latin1 = codes "convert it with `iconv -f ISO-8859-1 -t UTF-8`"
 abbrev pub byte_text : ℕ → List ℕ
 byte_text byte = codes "0x" ++ hex_digit (byte / 16) ∷ hex_digit (byte % 16) ∷ []
 
--- the message that the byte at an offset is not UTF-8
+-- the message that the byte at the offset `at` is not valid UTF-8
 unfoldable pub not_utf8_text : List ℕ → ℕ → List ℕ
 not_utf8_text bytes at =
     codes "the file is not valid UTF-8: byte " ++ byte_text (slice_index bytes at) ++ codes " at offset " ++ decimal at
 
--- the report that the byte at an offset, which the report marks, is not UTF-8
+-- the report that the byte at the offset `at` is not valid UTF-8, with a label at this offset
 abbrev pub not_utf8_report : List ℕ → ℕ → ReportContent
 not_utf8_report bytes at =
     with_help (with_help (with_primary (bare severity.Error (codes "not-utf-8") (not_utf8_text bytes at))

@@ -42,7 +42,7 @@ AddsReport report place old new =
     (new.reports ≡ with_new old.reports old.places report place) × (new.places ≡ old.places ++ place ∷ [])
     × (new.kept ≡ old.kept)
 
--- The second state is the first after one more error.
+-- `new` is `old` after one more error.
 pub record Adds (report : ReportContent) (place : ℕ) (old new : Progress) : Type 0 where
   pub reports : new.reports ≡ with_new old.reports old.places report place
   pub places : new.places ≡ old.places ++ place ∷ []
@@ -56,7 +56,7 @@ AddsError text old new =
     × Adds report error.span.start old new)
 
 -- The first error is the one that `parse` returns for the text. Each further error is the one that `parse` returns for
--- the text with spaces up to an offset, or for the text with spaces in place of the statements with errors so far.
+-- a copy of the text. The copy has spaces between two offsets, or in place of the statements with errors so far.
 pub data Finds (text : List ℕ) : Progress → Type 0 where
   first : (p : Progress) → AddsError text (nothing text) p → Finds text p
   reading : (p q : Progress) (copy : List ℕ) → Finds text p → IsBlanked text copy → AddsError copy p q → Finds text q
@@ -69,7 +69,7 @@ most len = max (min (134217728 / max len 1) 100) 1
 abbrev pub too_many : ReportContent
 too_many = bare severity.Error (codes "too-many-errors") (codes "too many errors")
 
--- If the text is a document, there is no report. Otherwise either all errors are reported, and the text with spaces in
+-- If the text is a document, the list is empty. Otherwise either all errors are reported, and the text with spaces in
 -- place of their statements is a document; or the maximum number of errors has been found, there is at least one more
 -- error, and the last report says so.
 pub data Checks (text : List ℕ) : List ReportContent → Type 0 where

@@ -1,4 +1,4 @@
--- The safe replacements of errors.
+-- How the safe replacements of reports fix errors.
 use Rattle.std.specs.Prelude.{◌≡◌, ◌<◌, ◌≤◌, ◌⊎◌, ℕ, ◌+◌, ◌-◌, Bool, true, false, List, [], ◌∷◌, map, length}
 use Rattle.std.specs.Prelude.{Option, Some, None}
 use Rattle.std.specs.List.{list_all}
@@ -29,7 +29,7 @@ abbrev pub reach : List Repair → ℕ
 reach [] = 0
 reach (first ∷ more) = first.span.start + length first.text
 
--- whether a source is valid, or its first error is at or after an offset, with fewer than `left` bytes from there on
+-- whether a source is valid, or its first error starts at or after `at`, and fewer than `left` bytes before the end
 unfoldable pub Improves : List ℕ → ℕ → ℕ → Bool → Type 0
 Improves text at left true =
     ((root : Value) × IsTree text depth_limit root)
@@ -39,9 +39,8 @@ Improves text at left false =
     (error : Error) × IsRefusal text depth_limit (stops.Fault error)
     × ((error.span.start < at) ⊎ (left ≤ length text - error.span.start))
 
--- The source with these replacements. `None` if the list is empty, if a replacement is not safe, if they don't fit the
--- source, or if the first error of the result is before the end of the first replacement or has `left` bytes or more
--- from there on.
+-- The source with these replacements, or `None` if the list is empty, if a replacement is not safe, or if they don't
+-- fit the source. Also `None` if the first error of the new source does not start late enough (`Improves`).
 abbrev pub Repairs : List ℕ → List Repair → ℕ → Option (List ℕ) → Type 0
 Repairs text repairs left (Some new) =
     (is_safe repairs ≡ true) × (first_fault text 0 0 (edits repairs) ≡ None) × (new ≡ edited text 0 (edits repairs))
@@ -62,11 +61,11 @@ NextFix text new =
     ((root : Value) × IsTree text depth_limit root × (new ≡ None))
     ⊎ ((error : Error) × IsRefusal text depth_limit (stops.Fault error) × FixesError text (content_of error) new)
 
--- this many fixes, one after the other, change the first source to the second
+-- this many fixes, one after the other, change the source `text` to another source
 pub data Leads (text : List ℕ) : ℕ → List ℕ → Type 0 where
   no_fix : (new : List ℕ) → new ≡ text → Leads text 0 new
   one_more : (n : ℕ) (mid new : List ℕ) → Leads text n mid → NextFix mid (Some new) → Leads text (n + 1) new
 
--- the second source is the first one after this many fixes, and either no further fix is possible or there were 100
+-- `new` is `text` after `n` fixes, and either no further fix is possible or `n` is 100
 abbrev pub Fixes : List ℕ → ℕ → List ℕ → Type 0
 Fixes text n new = Leads text n new × ((n ≡ 100) ⊎ NextFix new None)

@@ -11,6 +11,6 @@ with_slash folder = if slice_index folder (length folder - 1) == 47 then folder 
 abbrev pub path_of : List ℕ → List ℕ → List ℕ
 path_of folder name = with_slash folder ++ word_text name
 
--- directories of these names are searched only if they are arguments themselves
+-- whether a search leaves out directories of this name, except for those that are arguments themselves
 abbrev pub is_passed_over : List ℕ → Bool
 is_passed_over name = slice_index name 0 == 46 || bytes_eq name (codes "target") || bytes_eq name (codes "node_modules")

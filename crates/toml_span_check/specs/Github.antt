@@ -34,7 +34,7 @@ escaped_message text = flat_map message_char (chars text)
 unfoldable pub escaped_property : List ℕ → List ℕ
 escaped_property text = flat_map property_char (chars text)
 
--- any other hidden character is escaped as elsewhere, as in `\u001b`
+-- a message, escaped for GitHub and then as in all other reports, which show U+001B as `\u001b`
 abbrev pub message : List ℕ → List ℕ
 message text = visible (escaped_message text)
 
@@ -43,14 +43,14 @@ property text = visible (escaped_property text)
 
 -- ---- places
 
--- where the mark of a span ends: before a line feed at the end of the span; a span whose end is before its start is
--- empty
+-- the end of a span or, if the span ends with a line feed, the offset of the line feed; if the span ends before its
+-- start, the start
 abbrev pub marked_end : List ℕ → Span → ℕ
 marked_end text span =
     if nat_lt span.start span.end && (nat_le span.end (length text) && slice_index text (span.end - 1) == 10)
     then span.end - 1 else max span.start span.end
 
--- the line and the column of an offset, both from 1
+-- the line and the column of an offset, both counted from 1
 abbrev pub line_column : List ℕ → ℕ → ℕ × ℕ
 line_column text at = (line_number text (place text at), column text (place text at))
 
@@ -66,7 +66,7 @@ lines start end =
 abbrev pub region : List ℕ → Span → List ℕ
 region text span = lines (line_column text span.start) (line_column text (marked_end text span))
 
--- the lines and columns of the first primary label
+-- the line numbers of the first primary label and, if it is on one line, its columns; nothing if no label is primary
 abbrev pub primary_region : List ℕ → List Place → List ℕ
 primary_region text [] = []
 primary_region text (label ∷ labels) = if label.primary then region text label.span else primary_region text labels

@@ -55,7 +55,7 @@ abbrev pub four_digits : List ℕ → ℕ → List ℕ
 four_digits text end =
     codes "\\u00" ++ encode_utf8 (slice_index text (end - 2)) ++ encode_utf8 (slice_index text (end - 1))
 
--- the report with a replacement that means the same in TOML 1.0, if there is one
+-- the report, with a replacement for `form` that means the same in TOML 1.0, if there is one
 abbrev pub repaired : ReportContent → List ℕ → NewerForm → NewerKind → ReportContent
 repaired r text form kinds.EscapeEscape = with_replacement r form.span (codes "\\u001B") true
 repaired r text form kinds.HexEscape = with_replacement r form.span (four_digits text form.span.end) true
@@ -71,14 +71,14 @@ repaired r text form kinds.CommentAtEquals = r
 abbrev pub with_older : ReportContent → List ℕ → NewerForm → ReportContent
 with_older r text form = repaired r text form form.kind
 
--- the report, with a note if the name of the file decided to check it as TOML 1.0
+-- the report, with a note if the file is checked as TOML 1.0 because of its name
 abbrev pub with_reason : ReportContent → Bool → ReportContent
 with_reason r is_default =
     if is_default
     then with_note r (codes "pip reads TOML 1.0; the option `--toml 1.1` (setting `toml`) allows TOML 1.1")
     else r
 
--- the report on a newer form, without replacements and notes
+-- the report on a newer form, without replacements or notes
 abbrev pub plain_report : NewerForm → ReportContent
 plain_report form =
     with_help
@@ -88,7 +88,7 @@ plain_report form =
 abbrev pub newer_report : List ℕ → Bool → NewerForm → ReportContent
 newer_report text is_default form = with_reason (with_older (plain_report form) text form) is_default
 
--- The reports on all newer forms. There are none if the text can't be read.
+-- The reports on all newer forms in `text`. If the text can't be read, the list is empty.
 abbrev pub AreNewer : List ℕ → Bool → List ReportContent → Type 0
 AreNewer text is_default rs =
     ((bs : List ParsedSection) × document text depth_limit (Ok bs)
@@ -100,7 +100,7 @@ is_auto Auto = true
 is_auto Toml10 = false
 is_auto Toml11 = false
 
--- The reports on the syntax of a valid document that this version of TOML lacks. The file has this name.
+-- The reports on syntax in `text` that this version of TOML lacks. `name` is the name of the file.
 abbrev pub Lacks : Version → List ℕ → List ℕ → List ReportContent → Type 0
 Lacks version name text rs =
     ((is_older version name ≡ true) × AreNewer text (is_auto version) rs)
@@ -111,8 +111,8 @@ Lacks version name text rs =
 abbrev pub all_edits : List ReportContent → List Edit
 all_edits rs = flat_map (λ r. edits r.replacements) rs
 
--- The source with the replacements of all reports, and their number. If the replacements don't fit the source, it is
--- unchanged, and the number is 0.
+-- `new` is `text` with the replacements of all reports, and `n` is their number. If the replacements can't be made,
+-- `new` is `text`, and `n` is 0.
 abbrev pub Replaces : Version → List ℕ → List ℕ → ℕ → List ℕ → Type 0
 Replaces version name text n new =
     (rs : List ReportContent) × Lacks version name text rs

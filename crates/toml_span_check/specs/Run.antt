@@ -26,7 +26,7 @@ use Rattle.toml_span_check.specs.declared.run.Tally.{Tally}
 abbrev pub Search : Type 0
 Search = List (List ℕ) × List ℕ × List (List ℕ)
 
--- a read: the name of the file, and its bytes or the message why it can't be read
+-- a read: the name of the file, and its bytes or a message that says why it can't be read
 abbrev pub Reading : Type 0
 Reading = List ℕ × Result (List ℕ) (List ℕ)
 
@@ -39,13 +39,13 @@ pub record Asked : Type 0 where
   pub searches : List Search
   pub readings : List Reading
 
--- The result of reading a file: the whole input, or more than 16 MiB of it. Or a read failed, and the result is a
+-- The result of reading a file is the whole input, or more than 16 MiB of it. If a read failed, the result is a
 -- message.
 abbrev pub HasReadOrNot : Option (List ℕ) → Option (List ℕ) → Result (List ℕ) (List ℕ) → Type 0
 HasReadOrNot old new (Ok bytes) = HasReadAll old new bytes
 HasReadOrNot old new (Err words) = (bytes : List ℕ) × HasRead old new bytes
 
--- the message why a file can't be read: for some common kinds of errors a fixed one, otherwise the system's
+-- a message that says why a file can't be read: for some common kinds of errors a fixed one, otherwise the system's
 abbrev pub IsReason : ErrorKind → List ℕ → Type 0
 IsReason kind.NotFound words = words ≡ codes "no such file"
 IsReason kind.PermissionDenied words = words ≡ codes "permission denied"
@@ -101,7 +101,8 @@ pub data Gathered (says : Says) (format : Format) (task : Task) (pointer : List 
       → Gathered says format task pointer (rs ++ (name, Err reason) ∷ []) out
       (errors ++ complaint (shown_word name) reason) 2 (counted wrong 1)
 
--- The files with these names were read in order, and this is the output for them.
+-- The files `names` were read in order. `out`, `errors`, `status` and `wrong` are the output, the exit status and the
+-- counts for them.
 pub record Collects (says : Says) (format : Format) (task : Task) (pointer : List ℕ) (names : List (List ℕ))
     (old new : Option Asked) (out errors : List ℕ) (status : ℕ) (wrong : Tally) : Type 0 where
   pub readings : List Reading
@@ -141,7 +142,7 @@ whole format (Check version chooser) stdout = together format stdout
 abbrev pub said : Bool → List ℕ → List ℕ
 said is_quiet text = if is_quiet then [] else text
 
--- The output of a run, which is empty if it is quiet.
+-- The output and the exit status of a run. The output of a quiet run is empty.
 pub record IsOutput (says : Says) (format : Format) (task : Task) (pointer : List ℕ) (excludes names : List (List ℕ))
     (is_watched is_quiet : Bool)
     (old new : Option Asked) (out errors : List ℕ) (status : ℕ) : Type 0 where
@@ -182,8 +183,9 @@ pub record Begins (says : Says) (format : Format) (task : Task) (pointer : List 
   pub found : FindsAll excludes names old mid files
   pub prints : CollectsFirst says format task pointer files mid new stdout stdout'
 
--- A run. The arguments have standard output before and after, and whether a write to it failed; the same for standard
--- error; and the exit status.
+-- A run with this exit status. `stdout` and `stdout'` are the texts on standard output before and after the run, and
+-- `out_failed` says whether a write to standard output failed. `stderr`, `stderr'` and `err_failed` are the same for
+-- standard error.
 pub record Runs (says : Says) (format : Format) (task : Task) (pointer : List ℕ) (excludes names : List (List ℕ))
     (is_watched is_quiet : Bool)
     (old new : Option Asked) (stdout stdout' : Option (List ℕ)) (out_failed : Bool) (stderr stderr' : Option (List ℕ))

@@ -121,7 +121,7 @@ front r =
     codes ",\n{\"ruleId\":" ++ quoted r.code ++ codes ",\"level\":\"" ++ level_of r.severity
     ++ codes "\",\"message\":{\"text\":" ++ quoted r.message ++ codes "}"
 
--- a report as a result, after a comma
+-- a report as a result, after a comma and a line feed
 abbrev pub sarif : ReportContent → List ℕ → List ℕ → List ℕ
 sarif r name text = front r ++ places name text r.labels ++ fixes name text r.replacements ++ codes "}"
 

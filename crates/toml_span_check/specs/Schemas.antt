@@ -6,16 +6,16 @@ use Rattle.toml_span_report.specs.declared.report.Severity.{Severity}
 use Rattle.toml_span_report.specs.declared.report.Severity.TheVariants.{Error, Warning, Note}
 use Rattle.toml_span_tree.specs.Node.{Node}
 
--- A relation between who chooses the schema of a document, the name of the file, its text, its tree, the reports of the
--- check, and the lines that say why the schema can't be used.
+-- Relates who chooses the schema, the file's name, text and tree, the reports of the check, and the lines that say why
+-- the schema can't be used.
 abbrev pub Says : Type 1
 Says = Chooser → List ℕ → List ℕ → Node → List ReportContent → List ℕ → Type 0
 
--- No document has a schema: there are no reports and no complaint.
+-- No document has a schema, so there are neither reports nor a complaint.
 abbrev pub no_schema : Says
 no_schema chooser name text root reports complaint = (reports ≡ []) × (complaint ≡ [])
 
--- only errors count as errors
+-- the number of errors that a report of this severity counts as
 abbrev pub weight : Severity → ℕ
 weight Error = 1
 weight Warning = 0

@@ -41,8 +41,7 @@ own_text is_tagged (table ms) = []
 abbrev pub comma_if : Bool → List ℕ
 comma_if later = if later then codes "," else []
 
--- a value as JSON without spaces, `null` for one that has been taken; the first `Bool` says whether scalars have their
--- types
+-- a value as JSON without spaces, `null` for one that has been taken; `is_tagged` says whether scalars have their types
 abbrev mutual
   pub shown : Bool → Node → List ℕ
   shown is_tagged (node i span) = inner_shown is_tagged i
@@ -53,7 +52,7 @@ abbrev mutual
   inner_shown is_tagged (array ns) = codes "[" ++ items_shown is_tagged false ns
   inner_shown is_tagged (table ms) = codes "{" ++ members_shown is_tagged false ms
 
-  -- the elements with the closing bracket; the second `Bool` says whether an element precedes them
+  -- the elements with the closing bracket; `later` says whether an element precedes them
   pub items_shown : Bool → Bool → Items → List ℕ
   items_shown is_tagged later no_items = codes "]"
   items_shown is_tagged later (item n ns) = comma_if later ++ shown is_tagged n ++ items_shown is_tagged true ns
@@ -63,7 +62,7 @@ abbrev mutual
   members_shown is_tagged later (member name key n ms) =
       comma_if later ++ quoted name ++ codes ":" ++ shown is_tagged n ++ members_shown is_tagged true ms
 
--- the text of a string, float or date, and any other value as JSON
+-- a string, float, date or time as its text, and any other value as JSON
 abbrev pub raw_inner : Inner → List ℕ
 raw_inner (scalar (text s)) = s
 raw_inner (scalar (float x)) = float_text x

@@ -1,4 +1,4 @@
--- How the functions share the work. Nothing else in `specs/` cites it.
+-- Definitions that only inner functions need. Nothing else in `specs/` cites them.
 pub mod Every
 pub mod Judged
 pub mod Collected

@@ -68,7 +68,7 @@ impl Verdict {
     }
 }
 
-/// Returns the text of an error report that marks no place in the file `name`.
+/// Returns the text, in this format, of an error report about the file `name` as a whole. It shows no source line.
 fn plain_fault(
     alloc: Global,
     format: Format,
@@ -119,8 +119,8 @@ fn errors_text(
     Ok((reports.len(), out.into_bytes()))
 }
 
-/// Returns the verdict on the source `text`, whose tree is `root`, and the text of its reports: first on syntax that
-/// this version of TOML lacks, then those of `schemas`.
+/// Returns the verdict on the source `text`, whose tree is `root`, and the text of its reports: first those on syntax
+/// that this version of TOML lacks, then those from `schemas`.
 fn document_text<S: Schemas>(
     alloc: Global,
     format: Format,
@@ -201,7 +201,7 @@ fn not_utf8_fault(
 
 /// The result for one file.
 pub(crate) enum Judged<'t> {
-    /// The verdict and the text of the reports, for a file that has errors or was only to be checked.
+    /// The verdict and the text of the reports, for a file that has errors or is only to be checked.
     Text(Verdict, Vec<u8>),
     /// A document to print in this form.
     Document(Form, Value<'t>),

@@ -24,7 +24,7 @@ fn has_offset(bytes: &[u8]) -> bool
     false
 }
 
-/// Returns whether the text of a date is a time alone, such as `07:32:00`.
+/// Returns whether the text of a date or time is a time alone, such as `07:32:00`.
 fn is_time(bytes: &[u8]) -> bool
     ensures { result ≡ spec.is_time bytes.now }
 {
@@ -50,7 +50,8 @@ pub(crate) fn date_type(date: &str) -> &'static str
     }
 }
 
-/// Returns whether a time has no seconds. `at` is the byte offset after its minutes.
+/// Returns whether a date or time has a time without seconds. A date alone has no time. `at` is the byte offset after
+/// the minutes of the time.
 fn lacks_seconds(bytes: &[u8], at: usize) -> bool
     ensures { result ≡ spec.lacks_seconds bytes.now at }
 {

@@ -62,9 +62,9 @@ pub(crate) fn place_of<'v, 'de>(
     }
 }
 
-/// Writes the bytes of `held`, and then `place`, the value at the path `pointer`. If `place` is `None`, appends the
-/// report that `pointer` names no value to `held`. The last bytes may stay in `held`. Returns the number of errors, 0
-/// or 1. Fails if a write fails.
+/// Writes the bytes of `held`, and then `place`, the value at the path `pointer`. The last bytes may stay in `held`. If
+/// `place` is `None`, writes nothing, and appends to `held` the report that `pointer` names no value. Returns the
+/// number of errors, 0 or 1. Fails if a write fails.
 pub(crate) fn show<W: Sink>(
     alloc: Global,
     format: Format,

@@ -98,8 +98,8 @@ fn next_error(alloc: Global, text: &str, from: usize) -> Result<Option<ErrorAt>,
     }
 }
 
-/// Adds `report`, unless an error was found at the offset `place` before. Adds `place` to `found.places` in either
-/// case.
+/// Adds `report`, unless an error has already been found at the offset `place`. Adds `place` to `found.places` in
+/// either case.
 fn push_new(found: &mut Found, report: Report, place: usize) -> Result<(), AllocError>
     ensures { OnOk result (AddsReport (report_content report) place (progress found.old) (progress found.new)) }
 {
@@ -217,7 +217,7 @@ pub(crate) fn errors_from(
 /// After a statement that can't be read, reading continues at the next statement. If the unreadable statement is not
 /// closed, reading continues at the first header, or key and `=`, that is on a later line and not indented further.
 /// Only the first side of a merge conflict is read. Then the statements with errors are replaced with spaces, and the
-/// rest is parsed as a whole. If two keys or headers clash, the later one is reported, and its statement is replaced
+/// rest is parsed as a whole. If two keys or headers clash, the later one is reported. Its statement is then replaced
 /// with spaces as well, a header together with its section. This is repeated until the rest is valid.
 ///
 /// No offset is reported twice. At most 100 errors are looked for. In a text of more than 1.28 MiB, the number is

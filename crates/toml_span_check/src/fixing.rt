@@ -15,7 +15,7 @@ use toml_span_report::{Replacement as Repair, Report};
 /// The maximum number of errors to fix in a source.
 const MOST: usize = 100;
 
-/// A source with fixes, or with replacements of newer syntax, and their number.
+/// A source in which errors have been fixed or newer syntax has been replaced, with the number of changes.
 #[derive(Drop)]
 pub struct Fixed {
     pub text: String,
@@ -70,8 +70,8 @@ fn edits_of<'r>(alloc: Global, repairs: &'r [Repair]) -> Result<Vec<Replacement<
     Ok(edits)
 }
 
-/// Returns whether a source has no error, or its first error starts at or after `from + length` and fewer than `left`
-/// bytes before the end of the source.
+/// Returns whether a source has no error, or its first error starts late enough: at or after `from + length`, and fewer
+/// than `left` bytes before the end.
 #[tactic(auto, unfolding(crate::specs::Fixing::Improves))]
 fn improves(
     alloc: Global,
@@ -95,9 +95,9 @@ fn improves(
 }
 
 /// Makes the replacements of `report`, and returns the new source. Returns `None` if `report` has no replacements, or
-/// if one of them is not safe or does not fit the source. Returns `None` also if the first error of the new source
-/// starts before the end of the text that the first replacement inserted, or at least `left` bytes before the end of
-/// the source.
+/// if one of them is not safe or does not fit the source. Returns `None` also if the new source has an error that
+/// starts too early. Its first error must start after the text that the first replacement inserted, and fewer than
+/// `left` bytes before the end.
 fn repaired(
     alloc: Global,
     text: &str,
@@ -157,9 +157,9 @@ fn next_fix(alloc: Global, text: &str) -> Result<Option<String>, AllocError>
 /// Fixes errors of a source, one after the other. Returns the new source with the number of fixes.
 ///
 /// An error is fixed if its report has replacements, and all of them are safe. The first error of the new source must
-/// then start after the text that the first replacement inserts, and nearer to the end of the source than the old
-/// error. Stops at the first error that can't be fixed, or after 100 fixes. Each fix takes time linear in the length of
-/// the source. Fails if an allocation fails.
+/// then start after the text that the first replacement inserts. It must also start nearer to the end of the source
+/// than the old error. Stops at the first error that can't be fixed, or after 100 fixes. Each fix takes time linear in
+/// the length of the source. Fails if an allocation fails.
 pub fn with_fixes(alloc: Global, text: &str) -> Result<Fixed, AllocError>
     ensures { IfOk result (λ made. Fixes text.now made.count (string_bytes made.text)) }
 {

@@ -14,16 +14,17 @@ use std::{fs, io};
 use toml_span_lines::run::{Cut, read_bytes};
 use toml_span_lines::tracked::Tracked;
 
-/// The name of files with patterns of files to ignore.
+/// The name of files that contain patterns of files to ignore.
 const IGNORE: &str = ".gitignore";
 
 /// The patterns of a `.gitignore` file.
 #[derive(Drop)]
 struct Ignore {
     patterns: Vec<Pattern>,
-    /// The length in bytes of the directory's path, including the slash after it.
+    /// The length in bytes of the path of the file's directory, including the slash at its end.
     length: usize,
-    /// The position in `Below::ignores` of the next `.gitignore` file in a directory above, if there is one.
+    /// The position in `Below::ignores` of the nearest `.gitignore` file in a directory above that of this file, if
+    /// there is one.
     above: Option<usize>,
 }
 
@@ -31,7 +32,8 @@ struct Ignore {
 #[derive(Drop)]
 struct Folder {
     path: String,
-    /// The position in `Below::ignores` of the nearest `.gitignore` file in a directory above, if there is one.
+    /// The position in `Below::ignores` of the nearest `.gitignore` file in a directory above this one, if there is
+    /// one.
     ignore: Option<usize>,
 }
 
@@ -84,7 +86,7 @@ fn names_in(rt: &HostRuntime, folder: &str) -> io::Result<Vec<Vec<u8>>> {
     Ok(names)
 }
 
-/// Returns the path of the file `name` in the directory `folder`. `word_text` converts the name.
+/// Returns the path of the file `name` in the directory `folder`. The bytes of `name` are converted with `word_text`.
 fn path_of(alloc: Global, folder: &str, name: &[u8]) -> Result<String, AllocError>
     ensures { IfOk result (λ path. string_bytes path ≡ spec.path_of folder.now name.now) }
 {
@@ -176,8 +178,8 @@ impl Below {
         self.is_ignored(alloc, path, is_directory, ignore)
     }
 
-    /// Adds the directory `path` to the directories to search, unless `is_left_out` says otherwise. `ignore` is the
-    /// position in `ignores` of the nearest `.gitignore` file, if there is one.
+    /// Adds the directory `path` to the directories to search, unless `is_left_out` returns `true` for it. `ignore` is
+    /// the position in `ignores` of the nearest `.gitignore` file, if there is one.
     fn push_folder(
         &mut self,
         alloc: Global,

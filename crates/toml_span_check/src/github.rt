@@ -1,4 +1,5 @@
-//! Prints a report as a command for GitHub workflows, which annotates source lines.
+//! Prints a report as a command for GitHub workflows, which annotates source lines. A command has properties, such as
+//! `file=a.toml`, and a message.
 ghost use Rattle.std.specs.Prelude.{◌≡◌, ◌++◌, OnOk, IfOk, map, string_bytes};
 ghost use Rattle.std.specs.Fmt.{decimal};
 ghost use Rattle.toml_span_tree.specs.Diagnostic.{label_content};
@@ -104,8 +105,8 @@ fn marked_end(text: &str, span: Span) -> usize
     }
 }
 
-/// Appends the columns of a region, or nothing if the region has several lines. `start` and `end` are pairs of a line
-/// and a column, counted from 1.
+/// Appends the first and last column of a region, or nothing if the region has several lines. `start` and `end` are
+/// pairs of a line and a column, counted from 1. The region ends before `end`.
 #[tactic(auto, unfolding(crate::specs::Github::columns))]
 fn push_columns(
     out: &mut String,
@@ -121,8 +122,8 @@ fn push_columns(
     push_number(out, ",endColumn=", end.1)
 }
 
-/// Appends the lines of a region and, if it has only one line, its columns. `start` and `end` are pairs of a line and a
-/// column, counted from 1.
+/// Appends the line numbers of a region and, if it has only one line, its columns. `start` and `end` are pairs of a
+/// line and a column, counted from 1. The region ends before `end`.
 #[tactic(auto, unfolding(crate::specs::Github::lines))]
 fn push_lines(
     out: &mut String,
@@ -136,7 +137,7 @@ fn push_lines(
     push_columns(out, start, end)
 }
 
-/// Appends the lines and columns of a span in the source `text`.
+/// Appends the line numbers of a span in the source `text` and, if the span is on one line, its columns.
 fn push_region(out: &mut String, text: &str, span: Span) -> Result<(), AllocError>
     ensures { OnOk result (string_bytes out.new ≡ string_bytes out.old ++ spec.region text.now span) }
 {
@@ -145,7 +146,8 @@ fn push_region(out: &mut String, text: &str, span: Span) -> Result<(), AllocErro
     push_lines(out, start, end)
 }
 
-/// Appends the lines and columns of the first primary label in the source `text`, or nothing if no label is primary.
+/// Appends the line numbers of the first primary label in the source `text` and, if the label is on one line, its
+/// columns. Appends nothing if no label is primary.
 fn push_place(out: &mut String, text: &str, labels: &[Label<()>]) -> Result<(), AllocError>
     ensures { OnOk result (string_bytes out.new ≡ string_bytes out.old
         ++ spec.primary_region text.now (map label_content labels.now)) }

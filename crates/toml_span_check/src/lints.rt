@@ -69,7 +69,7 @@ pub fn sarif_document(alloc: Global, tool: &str, results: &str) -> Result<String
     Ok(out)
 }
 
-/// Returns a text without a comma at its start.
+/// Returns `text` without the comma at its start, if there is one.
 fn without_comma(text: &str) -> &str
     ensures { result.now ≡ spec.without_comma text.now }
 {

@@ -78,7 +78,7 @@ fn help_of(kind: NewerKind) -> &'static str
     }
 }
 
-/// Returns `\u00` and the two digits before the byte offset `end`.
+/// Returns `\u00` and the two hexadecimal digits before the byte offset `end` in `text`.
 fn four_digits(alloc: Global, text: &str, end: usize) -> Result<String, AllocError>
     ensures { IfOk result (λ out. string_bytes out ≡ spec.four_digits text.now end) }
 {
@@ -88,7 +88,7 @@ fn four_digits(alloc: Global, text: &str, end: usize) -> Result<String, AllocErr
     Ok(out)
 }
 
-/// Adds a replacement of `form` that means the same in TOML 1.0, if there is one, and returns the report.
+/// Adds to `report` a replacement for `form` that means the same in TOML 1.0, if there is one. Returns the report.
 fn with_older(
     alloc: Global,
     report: Report,
@@ -123,7 +123,7 @@ fn plain_report(alloc: Global, form: NewerForm) -> Result<Report, AllocError>
         .help(help_of(form.kind))
 }
 
-/// Adds a note on why the file is checked as TOML 1.0, if `is_default`, and returns the report.
+/// If `is_default`, adds a note to `report` that says why the file is checked as TOML 1.0. Returns the report.
 fn with_reason(report: Report, is_default: bool) -> Result<Report, AllocError>
     ensures { IfOk result (λ made. report_content made ≡ spec.with_reason (report_content report) is_default) }
 {

@@ -91,7 +91,8 @@ fn parts_of<'t>(alloc: Global, path: &'t str) -> Result<Vec<&'t str>, AllocError
     Ok(parts)
 }
 
-/// Splits a pattern at its slashes, without a slash at its start. Puts `**` first if the pattern has no slash.
+/// Removes a slash at the start of a pattern, and splits the rest at its slashes. Puts `**` first if the pattern has no
+/// slash.
 fn pattern_parts(alloc: Global, text: &str) -> Result<Vec<String>, AllocError> {
     let mut parts = Vec::new(alloc);
     if !text.contains('/') {
@@ -122,8 +123,8 @@ fn without_slash<'t>(text: &'t str) -> (bool, &'t str) {
 /// Parses a pattern. A `!` at the start negates the pattern. With a slash at the end, the pattern matches only
 /// directories. With any other slash, it matches whole paths, otherwise names at any depth.
 ///
-/// Returns `None` if the rest is empty, or contains `[` or a backslash, which are not supported. Fails if an allocation
-/// fails.
+/// Returns `None` if nothing is left without the `!` and the slash at the end. Returns `None` also for a pattern with
+/// `[` or a backslash, which are not supported. Fails if an allocation fails.
 pub fn pattern_of(alloc: Global, text: &str) -> Result<Option<Pattern>, AllocError> {
     let (is_negated, text) = without_mark(text);
     let (is_directory, text) = without_slash(text);
@@ -163,8 +164,8 @@ fn is_match(pattern: &Pattern, path: &[&str], is_directory: bool) -> bool {
     path_matches(&mut steps, pattern.parts.as_slice(), path).unwrap_or(false)
 }
 
-/// Returns whether to leave out `path`, as the last pattern that matches it decides. Returns `None` if no pattern
-/// matches.
+/// Returns whether to leave out `path`: `false` if the last pattern that matches it begins with `!`, otherwise `true`.
+/// Returns `None` if no pattern matches.
 ///
 /// `path` is relative to the directory of the patterns. `is_directory` says whether `path` names a directory. Fails if
 /// an allocation fails.

@@ -66,7 +66,7 @@ fn status_of(errors: usize, complaint: &str) -> u8
     }
 }
 
-/// Appends a line that says that the file `name` can't be read, and the `reason`. Fails if an allocation fails.
+/// Appends a line that says that the file `name` can't be read, with the `reason`. Fails if an allocation fails.
 pub fn push_complaint(out: &mut String, name: &str, reason: &str) -> Result<(), AllocError>
     ensures { OnOk result (string_bytes out.new ≡ string_bytes out.old ++ complaint name.now reason.now) }
 {
@@ -78,8 +78,9 @@ pub fn push_complaint(out: &mut String, name: &str, reason: &str) -> Result<(), 
     Ok(())
 }
 
-/// Checks or prints the bytes of a file, and returns the verdict. Appends the reports to `held`, or writes `held` and
-/// the value at `pointer`, whose last bytes may stay in `held`. Fails if a write fails.
+/// Checks the file `name`, whose content is `bytes`, or prints its value at `pointer`. Returns the verdict. Reports are
+/// appended to `held`. To print a value, `held` and the value are written to `out`, except for the last bytes, which
+/// may stay in `held`. Fails if a write fails.
 fn collect_bytes<S: Schemas, O: Sink>(
     alloc: Global,
     format: Format,
@@ -108,9 +109,9 @@ fn collect_bytes<S: Schemas, O: Sink>(
     }
 }
 
-/// Checks one file, or prints its value at `pointer`, and adds its errors, status and counts to `collected`. The output
-/// goes through the buffer `collected.held` to `out`; its end may stay in the buffer. `reading` has the bytes of the
-/// file, or the reason why it can't be read. Fails if a write fails.
+/// Checks one file, or prints its value at `pointer`, and updates the messages, status and counts in `collected`. The
+/// output goes through the buffer `collected.held` to `out`; its end may stay in the buffer. `reading` has the bytes of
+/// the file, or the reason why it can't be read. Fails if a write fails.
 fn collect_one<S: Schemas, O: Sink>(
     alloc: Global,
     format: Format,
@@ -177,8 +178,8 @@ fn find_all<I: Inputs>(
     Ok(files)
 }
 
-/// Reads the files in order, and checks or prints each. Returns the output that has not been written yet. Fails if a
-/// write fails.
+/// Reads the files in order, and checks or prints each. Returns the results, with the output that has not been written
+/// yet. Fails if a write fails.
 fn collect<I: Inputs, S: Schemas, O: Sink>(
     alloc: Global,
     format: Format,
@@ -245,7 +246,7 @@ fn push_errors(out: &mut String, files: usize, wrong: Tally) -> Result<(), Alloc
     out.push_str("\n")
 }
 
-/// Appends the line that counts files without errors, such as `5 files checked`.
+/// Appends the line for a check without errors, such as `5 files checked`.
 #[tactic(auto, unfolding(crate::specs::Run::found_none))]
 fn push_checked(out: &mut String, files: usize) -> Result<(), AllocError>
     ensures { OnOk result (string_bytes out.new ≡ string_bytes out.old ++ spec.found_none files) }
@@ -254,8 +255,9 @@ fn push_checked(out: &mut String, files: usize) -> Result<(), AllocError>
     out.push_str(" checked\n")
 }
 
-/// Appends the last line of a check in a `Format::Text`, or nothing for another task or format. The line counts errors.
-/// Without errors, it counts files, but only if standard error is a terminal (`is_watched`).
+/// Appends the last line of a check with `Format::Text`, or nothing for another task or format. The line counts the
+/// errors. Without errors, the line counts the files, and is only appended if standard error is a terminal
+/// (`is_watched`).
 fn push_summary(
     out: &mut String,
     format: Format,
@@ -274,7 +276,7 @@ fn push_summary(
     }
 }
 
-/// Returns the complete output. For a check with SARIF, it is the document with the results `stdout`, otherwise
+/// Returns the complete output: for a check with SARIF, the SARIF document with the results `stdout`, otherwise
 /// `stdout` itself.
 fn whole(alloc: Global, format: Format, task: Task, stdout: Vec<u8>) -> Result<Vec<u8>, AllocError>
     ensures { IfOk result (λ out. out.items ≡ spec.whole format task stdout.items) }
@@ -285,8 +287,8 @@ fn whole(alloc: Global, format: Format, task: Task, stdout: Vec<u8>) -> Result<V
     }
 }
 
-/// Reads the files that the arguments `names` select, checks or prints each, and adds a summary. Returns the output
-/// that has not been written yet. Fails if a write fails.
+/// Reads the files that the arguments `names` select, checks or prints each, and adds a summary. Returns the results,
+/// with the output that has not been written yet. Fails if a write fails.
 fn collect_all<I: Inputs, S: Schemas, O: Sink>(
     alloc: Global,
     format: Format,
@@ -396,11 +398,11 @@ fn run_quiet<I: Inputs, S: Schemas>(
 /// Reads the files that the arguments `names` select, and checks or prints each of them.
 ///
 /// `excludes` are patterns of files to leave out of directories, and `pointer` is the path of the value to print.
-/// `is_watched` says whether standard error is a terminal. `is_quiet` suppresses all output. `schemas` checks documents
-/// against their schemas.
+/// `is_watched` says whether standard error is a terminal, on which a check without errors prints the number of files.
+/// `is_quiet` suppresses all output. `schemas` checks documents against their schemas.
 ///
-/// Returns the exit status: 0 without errors, 1 if a file has errors, 2 if a file can't be read or its schema can't be
-/// used, 3 if a write failed, 4 if an allocation failed.
+/// Returns the exit status: 0 without errors; 1 if a file has errors; 2 if a file can't be read or its schema can't be
+/// used; 3 if a write failed; 4 if an allocation failed.
 pub fn run<I: Inputs, S: Schemas, O: Sink, E: Sink>(
     alloc: Global,
     format: Format,

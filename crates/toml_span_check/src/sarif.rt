@@ -156,8 +156,8 @@ fn push_artifact(out: &mut String, name: &str) -> Result<(), AllocError>
     Ok(())
 }
 
-/// Appends the opening brace, the lines and the columns of a region. `start` and `end` are pairs of a line and a
-/// column, counted from 1.
+/// Appends the opening brace, the line numbers and the columns of a region. `start` and `end` are pairs of a line and a
+/// column, counted from 1. The region ends before `end`.
 fn push_lines(
     out: &mut String,
     start: (usize, usize),
@@ -433,7 +433,7 @@ pub(crate) fn sarif(
     Ok(out)
 }
 
-/// Returns `head`, the elements without the comma before the first one, and `tail`.
+/// Returns the concatenation of `head`, the elements without the comma before the first one, and `tail`.
 fn between(alloc: Global, head: &str, elements: &[u8], tail: &str) -> Result<Vec<u8>, AllocError>
     ensures { IfOk result (λ out. out.items ≡ head.now ++ spec.listed elements.now ++ tail.now) }
 {

@@ -37,8 +37,8 @@ pub trait Schemas {
     /// tree, the reports, and the complaint.
     ghost says: { Chooser → List ℕ → List ℕ → Node → List ReportContent → List ℕ → Type 0 };
 
-    /// Finds the schema of a document, if there is one, and checks the document against it. `text` is the source of the
-    /// file `name`, and `root` its tree. Fails if an allocation fails.
+    /// Finds the schema of a document, if it has one, checks the document against it, and returns the reports. `text`
+    /// is the source of the file `name`, and `root` its tree. Fails if an allocation fails.
     fn check(
         &mut self,
         alloc: Global,

@@ -62,7 +62,7 @@ fn push_typed(alloc: Global, out: &mut String, scalar: &ValueInner<'_>) -> Resul
     }
 }
 
-/// Appends a scalar as JSON, or nothing for an array or a table.
+/// Appends a scalar as JSON, with floats, dates and times as strings. Appends nothing for an array or a table.
 fn push_plain(alloc: Global, out: &mut String, scalar: &ValueInner<'_>) -> Result<(), AllocError>
     ensures { OnOk result (string_bytes out.new ≡ string_bytes out.old ++ spec.own_text false (inner_view scalar.now)) }
 {
@@ -156,7 +156,7 @@ pub(crate) fn shown(alloc: Global, value: &Value<'_>, is_tagged: bool) -> Result
     Ok(out)
 }
 
-/// Returns the text of a string, float, date or time, or any other value as JSON.
+/// Returns a string, float, date or time as its text, and any other value as JSON.
 pub(crate) fn raw(alloc: Global, value: &Value<'_>) -> Result<String, AllocError>
     ensures { IfOk result (λ out. string_bytes out ≡ spec.raw (view value.now)) }
 {

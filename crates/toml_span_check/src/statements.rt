@@ -29,7 +29,7 @@ pub(crate) struct Statement {
     pub(crate) end: usize,
 }
 
-/// Returns the byte at the offset `at`, or 0 if the text ends before it.
+/// Returns the byte at the offset `at`, or 0 past the end of the text.
 fn byte_at(text: &str, at: usize) -> u8 {
     let bytes = text.as_bytes();
     if at < bytes.len() { bytes[at] } else { 0 }
@@ -53,7 +53,8 @@ fn is_long(text: &str, at: usize) -> bool {
     quote == byte_at(text, at.saturating_add(1)) && quote == byte_at(text, at.saturating_add(2))
 }
 
-/// Returns the offset of the first byte on the line at the offset `line` that is neither a blank nor a byte order mark.
+/// Returns the offset after the blanks at the start of the line that begins at `line`. A byte order mark before the
+/// blanks is skipped too.
 fn first_at(text: &str, line: usize) -> usize {
     if line == 0 && text.starts_with('\u{feff}') {
         blanks_end(text, 3)
@@ -62,7 +63,7 @@ fn first_at(text: &str, line: usize) -> usize {
     }
 }
 
-/// Returns the state at the start of a statement that begins on the line at the offset `line`.
+/// Returns the state at the start of a statement whose line begins at `line`.
 fn begin(text: &str, line: usize) -> Open {
     Open {
         depth: 0,
@@ -191,7 +192,7 @@ fn bare_end(text: &str, from: usize) -> usize {
     bytes.len()
 }
 
-/// Returns the offset after the key at `from` and the blanks that follow, or `from` if no key begins there.
+/// Returns the offset after the part of a key at `from` and the blanks that follow, or `from` if no part begins there.
 fn part_end(text: &str, from: usize) -> usize {
     let end = match byte_at(text, from) {
         b'"' | b'\'' => quoted_end(text, from),
@@ -204,8 +205,8 @@ fn part_end(text: &str, from: usize) -> usize {
     }
 }
 
-/// Returns the offset after the dotted key at `from` and the blanks that follow, or `None` if no dotted key begins
-/// there.
+/// Returns the offset after the key at `from`, which may be dotted, and the blanks that follow. Returns `None` if no
+/// key begins there, or if a part is missing after a dot.
 fn key_end(text: &str, from: usize) -> Option<usize> {
     let mut at = from;
     for _ in from..text.len() {
@@ -237,8 +238,8 @@ fn header_end(text: &str, from: usize) -> Option<usize> {
     }
 }
 
-/// Returns the end of the header, or of the key and `=`, on the line at the offset `line`. Returns `None` if the line
-/// does not begin a statement.
+/// Returns the end of the header, or of the key and `=`, on the line that begins at `line`. Returns `None` if the line
+/// begins with neither.
 fn head_end(text: &str, line: usize) -> Option<usize> {
     let from = first_at(text, line);
     if byte_at(text, from) == b'[' {
@@ -257,9 +258,9 @@ fn indentation(text: &str, line: usize) -> usize {
     blanks_end(text, line).saturating_sub(line)
 }
 
-/// Returns whether the line at the offset `line` begins a new statement, although the statement at `start` is not
-/// closed. Such a line is not indented further than that statement, and begins with a header, or with a key and `=`,
-/// that ends after the error's offset `place`.
+/// Returns whether the line starting at `line` begins a new statement, although the statement at `start` is not closed.
+/// Such a line is not indented further than that statement. It begins with a header, or with a key and `=`, that ends
+/// after the error's offset `place`.
 fn resumes(text: &str, line: usize, start: usize, place: usize) -> bool {
     match head_end(text, line) {
         Some(end) => end > place && indentation(text, line) <= indentation(text, start),
@@ -267,7 +268,7 @@ fn resumes(text: &str, line: usize, start: usize, place: usize) -> bool {
     }
 }
 
-/// Returns whether the line at the offset `line` continues the unreadable statement at `start`. Such a line is indented
+/// Returns whether the line starting at `line` continues the unreadable statement at `start`. Such a line is indented
 /// further than the statement, does not begin a statement, and is neither blank nor a comment.
 fn continues(text: &str, line: usize, start: usize) -> bool {
     let is_blank = matches!(
@@ -280,7 +281,7 @@ fn continues(text: &str, line: usize, start: usize) -> bool {
 }
 
 /// Returns the start of the first line after `place` for which `resumes` is true, or the length of the text. The
-/// statement at `start` has an open string.
+/// statement at `start` has an unclosed string with three quotes.
 fn next_head(text: &str, start: usize, place: usize) -> usize {
     for at in place..text.len() {
         if byte_at(text, at) == b'\n' && resumes(text, at + 1, start, place) {
@@ -346,7 +347,7 @@ pub(crate) fn is_clash(kind: &ErrorKind<'_>) -> bool {
     )
 }
 
-/// Returns whether the line at the offset `line` begins with seven times this byte, as the marker of a merge conflict
+/// Returns whether the line starting at `line` begins with this byte seven times, as the marker of a merge conflict
 /// does.
 fn is_marker(text: &str, line: usize, byte: u8) -> bool {
     (0..7usize).all(|at| byte_at(text, line.saturating_add(at)) == byte)
@@ -368,7 +369,7 @@ fn next_marker(text: &str, from: usize, byte: u8) -> Option<usize> {
     None
 }
 
-/// Returns the end of the side of a merge conflict that the line at the offset `line` opens: the common ancestor, from
+/// Returns the end of the side of a merge conflict that the line starting at `line` opens: the common ancestor, from
 /// `|||||||` to `=======`, or the second side, from `=======` to `>>>>>>>`. Returns `None` for any other line, or if
 /// the marker at the end of the side is missing.
 fn other_side_end(text: &str, line: usize) -> Option<usize> {

@@ -1,4 +1,4 @@
--- Which command a word names.
+-- The command that an argument names.
 use Rattle.std.specs.Prelude.{ℕ, List, Option, Some, None, codes, if◌then◌else◌}
 use Rattle.std.specs.Str.{bytes_eq}
 use Rattle.toml_span_cli.specs.declared.commands.Command.{Command}

@@ -16,23 +16,23 @@ use Rattle.toml_span_cli.specs.declared.dispatch.Request.TheVariants as requests
 use Rattle.toml_span_cli.specs.declared.help.TheConstants.{HELP, VERSION}
 use Rattle.toml_span_cli.specs.declared.options.Reader.TheVariants as readers
 
--- the request for this command or, for a name that only a file has, for a check of files
+-- the request for this command; without a command, a check of files if `is_file`, otherwise an unknown request
 abbrev pub named : Option Command → Bool → Request
 named (Some command) is_file = requests.Command command
 named None true = requests.Files
 named None false = requests.Unknown
 
--- The request that the first argument makes. The flag says whether there is a file with this name.
+-- The request that the first argument makes. `exists` says whether there is a file or directory with this name.
 unfoldable pub request_of : List ℕ → Bool → Request
 request_of word exists =
     if is_help word then requests.Help
     else if is_version word then requests.Version
     else named (command_named word) (is_file word || exists)
 
--- What a command does. The first of the words is the name of the command or of the program. After the two flags
--- (whether `--color auto` means colors, and whether standard error is a terminal), the arguments are standard output
--- before and after, and whether a write to it failed; the same for standard error; and the exit status, which is at
--- most 4.
+-- What a command does. `words` are the name of the command, or of the program, and the arguments. `is_coloured` says
+-- whether `--color auto` means colors, and `is_watched` whether standard error is a terminal. `stdout` and `stdout'`
+-- are the texts on standard output before and after, and `out_failed` says whether a write to it failed. `stderr`,
+-- `stderr'` and `err_failed` are the same for standard error. `status` is the exit status.
 abbrev pub Performs : Command → List (List ℕ) → Bool → Bool → Option (List ℕ) → Option (List ℕ) → Bool → Option (List ℕ)
     → Option (List ℕ) → Bool → ℕ → Type 0
 Performs commands.Check words is_coloured is_watched stdout stdout' out_failed stderr stderr' err_failed status =
@@ -43,7 +43,8 @@ Performs commands.Show words is_coloured is_watched stdout stdout' out_failed st
     Shows words stdout stdout' out_failed stderr stderr' err_failed status
 Performs command words is_coloured is_watched stdout stdout' out_failed stderr stderr' err_failed status = status ≤ 4
 
--- How a request is carried out. A command gets the words after the program's name, a check of files gets all words.
+-- How a request is carried out. A command gets `words` without the program's name, a check of files gets all of
+-- `words`.
 abbrev pub Answers : Request → List (List ℕ) → Bool → Bool → Option (List ℕ) → Option (List ℕ) → Bool → Option (List ℕ)
     → Option (List ℕ) → Bool → ℕ → Type 0
 Answers (requests.Command c) words is_coloured is_watched stdout stdout' out_failed stderr stderr' err_failed status =
@@ -68,7 +69,7 @@ AnswersFirst (Some word) words is_coloured is_watched stdout stdout' out_failed 
     × Answers (request_of word exists) words is_coloured is_watched stdout stdout' out_failed stderr stderr' err_failed
     status
 
--- How the command line is carried out. Its first word is the program's name.
+-- How the command line is carried out. The first of `words` is the program's name.
 abbrev pub Dispatches : List (List ℕ) → Bool → Bool → Option (List ℕ) → Option (List ℕ) → Bool → Option (List ℕ)
     → Option (List ℕ) → Bool → ℕ → Type 0
 Dispatches words is_coloured is_watched stdout stdout' out_failed stderr stderr' err_failed status =

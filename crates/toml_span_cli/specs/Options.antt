@@ -1,5 +1,5 @@
--- The options in the arguments. The kit's `clap` splits the arguments into options, as its `matches_of` and `fault_of`
--- define.
+-- The options in the arguments. The crate `clap` splits the arguments into options, as its definitions `matches_of` and
+-- `fault_of` state.
 use Rattle.std.specs.Prelude.{◌≡◌, ◌==◌, ◌&&◌, ℕ, Bool, true, false, List, [], ◌∷◌, length, Option, Some, None, codes}
 use Rattle.std.specs.Prelude.{unwrap_or, if◌then◌else◌, Result, Ok, Err}
 use Rattle.std.specs.Str.{bytes_eq}
@@ -47,7 +47,7 @@ several name = record (new_rule name) { long = Some name; action = Some Append }
 abbrev pub optional : List ℕ → Rule
 optional name = record (new_rule name) { long = Some name }
 
--- any number of names, and `-` if there are none
+-- any number of names; without a name, `-`
 abbrev pub files : Rule
 files = record (new_rule (codes "FILE")) {
   range = Some (record { start_inclusive = 0; end_inclusive = usize_max });
@@ -74,7 +74,7 @@ schemas =
     with_rule (with_rule (with_rule (with_rule common (optional (codes "schema"))) (optional (codes "catalog")))
     (several (codes "schema-map"))) (flag (codes "no-formats"))
 
--- `check [..] [--quiet] [--fix] [--toml VERSION] [--exclude PATTERN].. [FILE..]`, with the options for schemas
+-- `check [..] [--quiet] [--fix] [--toml VERSION] [--exclude GLOB].. [FILE..]`, with the options for schemas
 unfoldable pub check : App
 check =
     with_rule (with_rule (with_rule (with_rule (with_rule schemas (flag (codes "quiet"))) (flag (codes "fix")))
@@ -123,7 +123,7 @@ format_named name style =
     else if bytes_eq name (codes "sarif") then Some Sarif
     else None
 
--- the form that is chosen, after one more flag; two flags that choose a form are a mistake
+-- the form that is chosen, after one more flag for `form`; two flags that choose a form are a mistake
 abbrev pub with_form : Result (Option Form) Mistake → Bool → Form → Result (Option Form) Mistake
 with_form chosen false form = chosen
 with_form (Ok None) true form = Ok (Some form)
@@ -149,7 +149,8 @@ version_named name =
     else if bytes_eq name (codes "1.1") then Some version.Toml11
     else None
 
--- who chooses the schemas of files: the arguments, if `--schema` or `--catalog` is given, otherwise the files
+-- who chooses the schemas of files: the arguments, if `--schema` or `--catalog` has a value that is not empty,
+-- otherwise the files
 abbrev pub chooser_of : List Row → Chooser
 chooser_of rows =
     if length (value_of rows (codes "schema")) == 0 && length (value_of rows (codes "catalog")) == 0 then Files
@@ -196,12 +197,12 @@ with_style None reader rows = Err mistake.Color
 abbrev pub asked : Reader → List Row → Bool → Result (Format × Task) Mistake
 asked reader rows is_terminal = with_style (style_named (value_of rows (codes "color")) is_terminal) reader rows
 
--- the options in these words, with their values
+-- the options in the arguments `words`, with their values
 unfoldable pub options : Reader → List (List ℕ) → List Row
 options reader words = matches_of (program reader) words
 
--- The words are right, and mean this: the format and the task, the path of the value to print, the patterns of files to
--- leave out, the names of the files, whether to print nothing, and whether to fix errors.
+-- The arguments `words` are right, and mean this: the format and the task, the path of the value to print, the patterns
+-- of files to leave out, the names of the files, whether to print nothing, and whether to fix errors.
 pub record Asks (reader : Reader) (words : List (List ℕ)) (is_terminal : Bool) (format : Format) (task : Task)
     (pointer : List ℕ) (excludes names : List (List ℕ)) (is_quiet is_fixing : Bool) : Type 0 where
   pub what : asked reader (options reader words) is_terminal ≡ Ok (format, task)
@@ -226,11 +227,12 @@ abbrev pub mistake_kinds : Result (Format × Task) Mistake → Kinds
 mistake_kinds (Ok what) = []
 mistake_kinds (Err mistake) = kind_of mistake ∷ []
 
--- the kind of clap's error for these words: `DisplayHelp` if they ask for help, and none if they are right
+-- the kinds of error that clap may return for the arguments `words`, such as `DisplayHelp` if they ask for help; empty
+-- if they are right
 unfoldable pub refusals : Reader → List (List ℕ) → Kinds
 refusals reader words = fault_of (program reader) words
 
--- the kind of error for these words, and none if they are right
+-- the kinds of error that the arguments `words` may cause; empty if they are right
 abbrev pub faults : Reader → List (List ℕ) → Bool → Kinds
 faults reader words is_terminal =
     or_else (refusals reader words) (mistake_kinds (asked reader (options reader words) is_terminal))

@@ -4,7 +4,7 @@ use Rattle.std.specs.Global.{Global}
 use Rattle.toml_span_places.specs.Dotted.{IsPath}
 use Rattle.toml_span_places.specs.declared.dotted.PathError.{PathError}
 
--- The path can be read, or there is a message that it can't be read.
+-- A message that the path can't be read, or `None` if the path can be read.
 abbrev pub IsWrong : List ℕ → Option (String Global) → Type 0
 IsWrong path None = (segments : List (List ℕ)) × IsPath path (Ok segments)
 IsWrong path (Some message) = (e : PathError) × IsPath path (Err e)

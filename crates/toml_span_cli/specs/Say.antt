@@ -1,9 +1,9 @@
--- What is printed.
+-- Texts that are printed, and the exit status.
 use Rattle.std.specs.Prelude.{◌≡◌, ℕ, Bool, true, false, List, Option, if◌then◌else◌}
 use Rattle.std.specs.Io.KnownBytes.{Appends}
 use Rattle.toml_span_lines.specs.Run.{HasWritten}
 
--- The text is written, and the exit status is `said`. Or a write fails: then a prefix is written, and the status is 3.
+-- `text` is written, and the exit status is `said`. If a write fails, only a prefix is written, and the status is 3.
 pub record Says (old new : Option (List ℕ)) (failed : Bool) (text : List ℕ) (said status : ℕ) : Type 0 where
   pub written : HasWritten old new text
   pub whole : failed ≡ false → Appends old new text

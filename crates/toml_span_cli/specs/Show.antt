@@ -9,7 +9,8 @@ use Rattle.toml_span_cli.specs.declared.help.TheConstants.{SHOW}
 use Rattle.toml_span_lines.specs.Run.{Runs}
 use Rattle.toml_span_read.specs.Data.{depth_limit}
 
--- The file with this name can't be read, for this reason.
+-- The message that the file `name` can't be read, for this `reason`, is written to standard error. The status is 2, or
+-- 3 if the write fails.
 pub record SaysUnread (name reason : List ℕ) (stderr stderr' : Option (List ℕ)) (err_failed : Bool) (status : ℕ)
     : Type 0 where
   pub says : Says stderr stderr' err_failed (complaint (shown_word name) reason) 2 status
@@ -30,7 +31,7 @@ ShowsWord true word stdout stdout' out_failed stderr stderr' err_failed status =
 ShowsWord false word stdout stdout' out_failed stderr stderr' err_failed status =
     ShowsFile word stdout stdout' out_failed stderr stderr' err_failed status
 
--- `show FILE`. The first of the words is the command's name; the status is 2 for another number of arguments.
+-- `show FILE`. The first of `words` is the command's name; the status is 2 for another number of arguments.
 abbrev pub Shows : List (List ℕ) → Option (List ℕ) → Option (List ℕ) → Bool → Option (List ℕ) → Option (List ℕ) → Bool
     → ℕ → Type 0
 Shows (command ∷ word ∷ []) stdout stdout' out_failed stderr stderr' err_failed status =

@@ -1,4 +1,4 @@
--- What the program does with its arguments.
+-- What `check` and `get` do with their arguments.
 use Rattle.std.specs.Prelude.{◌≡◌, ◌≢◌, ◌⊎◌, ℕ, Bool, true, false, List, [], Option, Some, None, Ok, Err, String}
 use Rattle.std.specs.Prelude.{string_bytes}
 use Rattle.std.specs.Global.{Global}
@@ -23,8 +23,8 @@ abbrev pub help_of : Reader → List ℕ
 help_of readers.Check = CHECK.now
 help_of readers.Get = GET.now
 
--- The output for an error of this kind: the help or the version, if the words ask for it, otherwise a message about the
--- mistake in the words. Nothing is printed if an allocation fails.
+-- The output for an error of this kind: the help or the version, if the arguments ask for it, otherwise a message about
+-- the mistake in the arguments. Nothing is printed if an allocation fails.
 abbrev pub Refuses : Reader → ErrorKind → Option (List ℕ) → Option (List ℕ) → Bool → Option (List ℕ) → Option (List ℕ)
     → Bool → ℕ → Type 0
 Refuses reader kind stdout stdout' out_failed stderr stderr' err_failed status =
@@ -34,14 +34,14 @@ Refuses reader kind stdout stdout' out_failed stderr stderr' err_failed status =
     × ((message : List ℕ) × Says stderr stderr' err_failed (visible_lines message) 2 status))
     ⊎ ((status ≡ 4) × Keeps stdout stdout' × Keeps stderr stderr')
 
--- the path of the value to print can be read, or there is a message that it can't be read
+-- the message that the path of the value to print can't be read, or `None` if the path can be read
 abbrev pub SaysOfPath : List ℕ → Option (String Global) → Type 0
 SaysOfPath path None = (segments : List (List ℕ)) × IsPath path (Ok segments)
 SaysOfPath path (Some text) =
     (e : PathError) × IsPath path (Err e) × ((message : List ℕ) × (string_bytes text ≡ visible_lines message))
 
--- How a command with these words is carried out. `says` is the relation between documents and the reports of their
--- schemas. If the words are right, and the path can be read, the command runs on the files that the words name.
+-- How a command with the arguments `words` is carried out. `says` is the relation between documents and the reports of
+-- their schemas. If the arguments are right, and the path can be read, the command runs on the files that they name.
 -- Otherwise no file is read. If an allocation fails, the status is 4.
 abbrev pub Starts : SchemasSay → Reader → List (List ℕ) → Bool → Bool → Option Asked → Option Asked
     → Option (List ℕ) → Option (List ℕ) → Bool → Option (List ℕ) → Option (List ℕ) → Bool → ℕ → Type 0

@@ -8,7 +8,7 @@ use toml_span_files::Options;
 /// The maximum value of `--wait`: a day, in seconds.
 const MOST_WAIT: u64 = 86_400;
 
-/// The use of the result of the edits.
+/// What to do with the result of the edits.
 #[derive(Clone, Copy, PartialEq, Eq)]
 pub(crate) enum Show {
     /// Replace the file with the result.
@@ -96,7 +96,7 @@ impl<'w> Reading<'w> {
         Ok(())
     }
 
-    /// Stores the next argument: an option, the value of the option before, or neither. Fails with a message if the
+    /// Stores the next argument: an option, the value of the preceding option, or neither. Fails with a message if the
     /// argument is wrong.
     fn take(&mut self, word: &'w str) -> Result<(), Stop<String>> {
         match self.waiting {

@@ -41,7 +41,7 @@ pub(crate) fn count_of(command: Command) -> usize {
 }
 
 /// Returns the edit that a command makes. `words` are the arguments after the name of the file. Returns `None` if their
-/// number is wrong, or if the command does not make a single edit.
+/// number is wrong, or if `command` is not a command that makes exactly one edit.
 pub(crate) fn change_of<'w>(command: Command, words: &[&'w str]) -> Option<Change<'w>> {
     let [path, rest @ ..] = words else {
         return None;

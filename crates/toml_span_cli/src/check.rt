@@ -122,7 +122,8 @@ fn fix_files(alloc: Global, options: &Options<'_>, host: &mut Host) -> Result<Ou
     counted(alloc, count, options.is_quiet)
 }
 
-/// Returns the schemas that arguments and files name. If the arguments are wrong, only files name schemas.
+/// Returns a source of the schemas that the arguments `words`, and the files to check, name. If the arguments are
+/// wrong, only the files name schemas.
 fn file_schemas(alloc: Global, words: &[String], host: &Host) -> Result<FileSchemas, AllocError> {
     match options_of(alloc, Reader::Check, words, false) {
         Ok(options) => FileSchemas::new(alloc, host.rt, &options.schemas),

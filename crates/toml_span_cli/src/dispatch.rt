@@ -23,23 +23,23 @@ use toml_span_check::schemas::NoSchemas;
 use toml_span_lines::sink::Sink;
 use toml_span_report::nearest;
 
-/// The request of the first argument.
+/// The request that the first argument makes.
 #[derive(Clone, Copy, PartialEq, Eq)]
 enum Request {
     /// A command.
     Command(Command),
-    /// A check of files: the argument is an option or the name of a file.
+    /// A check of files: the argument is an option, or the name of a file or directory.
     Files,
     /// The help of the program.
     Help,
     /// The version of the program.
     Version,
-    /// An unknown request: the argument is neither a command nor a file.
+    /// An unknown request: the argument is neither a command nor the name of a file or directory.
     Unknown,
 }
 
-/// Returns the request of the first argument, `word`. `exists` says whether there is a file or directory with this
-/// name.
+/// Returns the request that the first argument, `word`, makes. `exists` says whether there is a file or directory with
+/// this name.
 #[tactic(auto, unfolding(crate::specs::Dispatch::request_of))]
 fn request_of(word: &str, exists: bool) -> Request
     ensures { result ≡ spec.request_of word.now exists }
@@ -168,9 +168,9 @@ fn perform<O: Sink, E: Sink>(
 /// `words` are the name of the program and its arguments. `is_coloured` says whether `--color auto` means colors, and
 /// `is_watched` whether standard error is a terminal.
 ///
-/// Returns the exit status: 0 for success, 1 for an error in a file, a refused edit, or a file that `fmt` would change
-/// with `--check` or `--diff`, 2 if a file can't be read, its schema can't be used, or the arguments are wrong or
-/// missing, 3 if a write fails. For `lsp`, see `toml_span_lsp::Ended`. If an allocation fails, returns the status 4 or
+/// Returns the exit status: 0 for success; 1 for an error in a file, a refused edit, or a file that `fmt` would change
+/// with `--check` or `--diff`; 2 if a file can't be read, its schema can't be used, or the arguments are wrong or
+/// missing; 3 if a write fails. For `lsp`, see `toml_span_lsp::Ended`. If an allocation fails, returns the status 4 or
 /// an `AllocError`.
 pub(crate) fn dispatch<O: Sink, E: Sink>(
     alloc: Global,

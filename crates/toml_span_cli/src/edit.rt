@@ -91,7 +91,7 @@ fn write(
     }
 }
 
-/// Makes edits, and replaces the file or prints the result. Returns the answer.
+/// Makes edits. For `-`, `--dry-run` and `--diff`, prints the result; otherwise replaces the file. Returns the answer.
 fn perform(
     alloc: Global,
     file: &str,
@@ -151,7 +151,7 @@ fn misuse(alloc: Global, command: Command, message: &str) -> Result<Answer, Allo
     })
 }
 
-/// Returns the answer for a wrong number of arguments. `given` is their number.
+/// Returns the answer for a wrong number of arguments, `given`.
 fn miscounted(alloc: Global, command: Command, given: usize) -> Result<Answer, AllocError> {
     let wanted = count_of(command).saturating_add(1);
     let arguments = if wanted == 1 { "argument" } else { "arguments" };

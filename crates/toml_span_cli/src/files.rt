@@ -59,8 +59,8 @@ fn hint(failure: &Failure) -> &'static str {
     }
 }
 
-/// Returns the answer for a file that was not edited. If `has_options`, the answer names the option that helps. Fails
-/// if `failure` is `Memory`.
+/// Returns the answer for a file that was not edited. If `has_options`, the answer also names the option that helps, if
+/// there is one. Fails if `failure` is `Memory`.
 pub(crate) fn unedited(
     alloc: Global,
     file: &str,

@@ -90,8 +90,8 @@ impl<'w> Asked<'w> {
         Ok(())
     }
 
-    /// Stores the next argument: an option, the value of the option before, or the name of a file. Fails with a message
-    /// if the argument is wrong.
+    /// Stores the next argument: an option, the value of the preceding option, or the name of a file. Fails with a
+    /// message if the argument is wrong.
     fn take(&mut self, alloc: Global, word: &'w str) -> Result<(), Stop<String>> {
         if let Some(option) = self.waiting.take() {
             return self.set(alloc, option, word);
@@ -195,8 +195,8 @@ fn would_change(
     })
 }
 
-/// Returns the answer for a file whose `text` was formatted to `new`. Writes the file if `new` is another text, unless
-/// the file is standard input, or `--check` or `--diff` is given.
+/// Returns the answer for a file whose `text` was formatted to `new`. Writes the file if `new` differs from `text`,
+/// unless the file is standard input, or `--check` or `--diff` is given.
 fn put(
     alloc: Global,
     asked: &Asked<'_>,
@@ -300,8 +300,8 @@ fn format_all(alloc: Global, asked: &Asked<'_>, host: &mut Host) -> Result<Answe
 
 /// Formats files. `words` are the name of the command and its arguments.
 ///
-/// Returns the exit status: 0 for success, 1 if a file can't be formatted, or would change with `--check` or `--diff`,
-/// 2 if a file can't be read or the arguments are wrong, 3 if a write fails.
+/// Returns the exit status: 0 for success; 1 if a file can't be formatted, or would change with `--check` or `--diff`;
+/// 2 if a file can't be read or the arguments are wrong; 3 if a write fails.
 pub(crate) fn fmt<O: Sink, E: Sink>(
     alloc: Global,
     words: &[String],

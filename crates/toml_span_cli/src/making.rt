@@ -33,18 +33,18 @@ struct Located<'w> {
     target: Vec<CowStr<'w>>,
 }
 
-/// An edit in the form for `toml_span_edit`.
+/// An edit that is prepared for `toml_span_edit`.
 #[derive(Drop)]
 struct Prepared<'w> {
     kind: Kind,
     path: Vec<&'w str>,
     /// The segments of the path to which a value is moved. Empty for other edits.
     target: Vec<&'w str>,
-    /// The value or the new name. Empty for other edits.
+    /// The value or the new name. Empty for edits that have neither.
     value: String,
 }
 
-/// Returns the segments of a path, or none if the path can't be read. The caller checks paths with
+/// Returns the segments of a path, or an empty list if the path can't be read. The caller checks paths with
 /// `Change::wrong_path`.
 fn segments_of<'w>(alloc: Global, path: &'w str) -> Result<Vec<CowStr<'w>>, AllocError> {
     match path_segments(alloc, path) {

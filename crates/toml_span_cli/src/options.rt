@@ -17,7 +17,7 @@ use toml_span_check::schemas::Chooser;
 use toml_span_check::words::is_bytes;
 use toml_span_report::Style;
 
-/// A command that reads documents.
+/// One of the two commands with these options.
 #[derive(Clone, Copy, PartialEq, Eq)]
 pub(crate) enum Reader {
     /// `check`
@@ -52,7 +52,7 @@ enum Mistake {
     Color,
     /// The value of `--toml` is unknown.
     Version,
-    /// Several options choose the form of the value.
+    /// Several options say how to print the value.
     Forms,
     /// The path is not valid UTF-8.
     Path,
@@ -191,7 +191,8 @@ fn format_named(name: &str, style: Style) -> Option<Format>
     }
 }
 
-/// Returns the style for a value of `--color`, or `None` if the value is unknown. `is_terminal` decides for `auto`.
+/// Returns the style for a value of `--color`, or `None` if the value is unknown. For `auto`, the style has colors if
+/// `is_terminal`.
 fn style_named(name: &str, is_terminal: bool) -> Option<Style>
     ensures { result ≡ spec.style_named name.now is_terminal }
 {
@@ -238,8 +239,9 @@ fn is_given(matches: &ArgMatches<'_>, name: &str) -> bool
     value_of(matches, name) == "true"
 }
 
-/// Returns `form` if the flag for this form `is_given`, otherwise `chosen`, the choice of the flags before. Fails with
-/// `Mistake::Forms` if both choose a form. A mistake in `chosen` is passed on.
+/// Returns the form that the flags choose, after one more flag, which chooses `form` if it `is_given`. `chosen` is the
+/// choice of the flags before. Fails with `Mistake::Forms` if two flags choose a form, and with the mistake in `chosen`
+/// if there is one.
 fn with_form(
     chosen: Result<Option<Form>, Mistake>,
     is_given: bool,
@@ -363,9 +365,9 @@ fn message_of(mistake: Mistake) -> &'static str {
     }
 }
 
-/// Parses the arguments of a command. `words` are the name of the command, or of the program, and the arguments. Fails
-/// with clap's error, which may also be a request for the help or the version. If an allocation fails, the error has
-/// the kind `OutOfMemory`.
+/// Parses the arguments of a command. `words` are the name of the command, or of the program, and the arguments.
+/// `is_terminal` says whether `--color auto` means colors. Fails with clap's error, which may also be a request for the
+/// help or the version. If an allocation fails, the error has the kind `OutOfMemory`.
 pub(crate) fn options_of<'w>(
     alloc: Global,
     reader: Reader,

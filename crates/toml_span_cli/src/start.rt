@@ -1,4 +1,4 @@
-//! The commands that read documents: `check` and `get`.
+//! The commands `check` and `get`.
 ghost use Rattle.std.specs.Prelude.{◌≡◌, IfOk, List, ℕ, false, map, string_bytes};
 ghost use Rattle.clap.specs.Values.{kind_of};
 ghost use Rattle.toml_span_report.specs.Visible.{visible_lines};
@@ -30,8 +30,8 @@ fn help_of(reader: Reader) -> &'static str
     }
 }
 
-/// Returns clap's message for arguments that it refuses. `words` are the arguments as they are displayed. If clap
-/// accepts these, the path is not valid UTF-8, and the message says so.
+/// Returns the message about wrong arguments. `words` are the arguments as they are displayed. If they are right in
+/// this form, the message is that the path is not valid UTF-8.
 fn message_of(alloc: Global, reader: Reader, words: &[String]) -> Result<String, AllocError> {
     match options_of(alloc, reader, words, false) {
         Ok(options) => {

@@ -25,7 +25,7 @@ abbrev pub is_dotted : TableForm → Bool
 is_dotted forms.Dotted = true
 is_dotted _ = false
 
--- a header in single brackets
+-- whether the form is a header in single brackets
 abbrev pub is_header : TableForm → Bool
 is_header forms.Header = true
 is_header _ = false
@@ -34,8 +34,8 @@ abbrev pub is_inline : TableForm → Bool
 is_inline forms.Inline = true
 is_inline _ = false
 
--- Some form of the first kind is among the old forms, and none among the new ones. Some form of the second kind is
--- among the new forms.
+-- A form for which `from` holds is among the old forms, but not among the new ones. A form for which `to` holds is
+-- among the new ones.
 abbrev pub IsReplaced : (TableForm → Bool) → (TableForm → Bool) → List TableForm → List TableForm → Type 0
 IsReplaced from to old new = (list_any from old ≡ true) × (list_any from new ≡ false) × (list_any to new ≡ true)
 
@@ -45,7 +45,7 @@ Changes kinds.SectionToInline old new = IsReplaced is_header is_inline old new
 Changes kinds.DottedToSection old new = IsReplaced is_dotted is_header old new
 Changes _ old new = ⊥
 
--- The forms in which the two texts name some table change in this way.
+-- For some table, the forms in which `text` names it and those in which `new` names it differ as `Changes` requires.
 abbrev pub IsTableConverted : Conversion → List ℕ → List ℕ → Type 0
 IsTableConverted conversion text new =
     (path : Path) × (before : List TableForm) × (after : List TableForm)
@@ -56,7 +56,7 @@ IsTableConverted conversion text new =
 abbrev pub has_line_end : List ℕ → Bool
 has_line_end bytes = list_any (λ c. c == line_feed) bytes
 
--- The first literal is on one line and the second on several lines, or the other way round.
+-- The array `old` is on one line and the array `new` on several lines or, for `ArrayToLine`, the other way round.
 abbrev pub IsLaidOut : Conversion → List ℕ → List ℕ → Type 0
 IsLaidOut kinds.ArrayToLines old new = (has_line_end old ≡ false) × (has_line_end new ≡ true)
 IsLaidOut kinds.ArrayToLine old new = (has_line_end old ≡ true) × (has_line_end new ≡ false)

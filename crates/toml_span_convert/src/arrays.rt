@@ -1,4 +1,4 @@
-//! Converts arrays to one element per line, and to one line.
+//! Writes arrays with one element per line, or on one line.
 use crate::conversions::Proposal;
 use crate::flat::{flat, literal_of};
 use crate::lines::{line_end, part, spanned};
@@ -38,8 +38,8 @@ fn lines_of(
     Ok(out)
 }
 
-/// Proposes to write the array at an offset with one element per line. Returns `None` if there is no array at the
-/// offset, or if the array is empty or on several lines.
+/// Proposes to write the array at the offset `at` with one element per line. Returns `None` if `array_at` finds no
+/// array there, or if the array is empty or on several lines.
 pub(crate) fn array_to_lines(
     alloc: Global,
     text: &str,
@@ -60,8 +60,8 @@ pub(crate) fn array_to_lines(
     Ok(Some(Proposal::Array(array.span, lines)))
 }
 
-/// Proposes to write the array at an offset on one line. Returns `None` if there is no array at the offset, if the
-/// array is on one line, or if `flat` returns `None` for it.
+/// Proposes to write the array at the offset `at` on one line. Returns `None` if `array_at` finds no array there, if
+/// the array is on one line, or if `flat` returns `None` for it.
 pub(crate) fn array_to_line(
     alloc: Global,
     text: &str,

@@ -11,12 +11,12 @@ pub enum Conversion {
     InlineToSection,
     /// A section becomes an inline table on one line, in the section of the table around it. If that table has no
     /// section, the inline table is written below a new header or, in the root, before the first header. The section
-    /// must have no comments, except above the header and on its line, and no strings on several lines.
+    /// must have no comments, except above the header and on the header's line, and no strings on several lines.
     SectionToInline,
     /// The dotted keys of a table, `a.b = 1` and `a.c = 2`, become a section: `[a]`, `b = 1` and `c = 2`. The new
     /// section is written after the section that contained the keys.
     DottedToSection,
-    /// An array on one line is written with one element per line.
+    /// An array on one line is written with one element per line. The array must not be empty.
     ArrayToLines,
     /// An array on several lines is written on one line. The array must contain no comments, and no strings on several
     /// lines.
@@ -24,7 +24,7 @@ pub enum Conversion {
 }
 
 /// A place that names the table to convert. `form` and `span` are as in `TablePlace`. If several tables have this form
-/// and span, `index` is the table's position among them, from 0.
+/// and span, `index` is the table's position among them, counted from 0.
 #[derive(Clone, Copy)]
 pub(crate) struct Named {
     pub(crate) form: TableForm,

@@ -16,8 +16,8 @@ use toml_span_lex::stop::Stop;
 use toml_span_lex::tokenizer::first_place;
 use toml_span_read::Section;
 
-/// Proposes another form for the table or array at a byte offset. Returns `None` if there is nothing to convert at the
-/// offset, or if the conversion is not possible (see `Conversion`).
+/// Proposes another form for the table or array at the byte offset `at`. Returns `None` if there is nothing to convert
+/// at `at`, or if the conversion is not possible (see `Conversion`).
 fn proposed(
     alloc: Global,
     text: &str,
@@ -35,7 +35,8 @@ fn proposed(
     }
 }
 
-/// Returns the text with the change of `proposal`, or `None` if `conversion` does not permit this change.
+/// Makes the change of `proposal` in `text`, and returns the new text. Returns `None` if the change is not one that
+/// `conversion` makes (see `is_converted` and `with_array`).
 fn accepted(
     alloc: Global,
     text: &str,

@@ -20,8 +20,9 @@ fn has_front(key: &DottedKey<'_>, other: &DottedKey<'_>, count: usize) -> bool {
     true
 }
 
-/// Returns the number of parts, at the start of `key`, that name the table to convert. Counts the parts up to the part
-/// at the offset `at`, but never the last part. If no part is at `at`, returns 1, or 0 for a key of one part.
+/// Returns the number of parts, at the start of `key`, that name the table to convert. Counts the parts up to the one
+/// at the offset `at`, inclusive, but never the last part of `key`. If no part is at `at`, returns 1, or 0 for a key of
+/// one part.
 fn table_parts(text: &str, key: &DottedKey<'_>, at: usize) -> usize {
     for (index, part) in key.inner.iter().enumerate() {
         if touches(with_quotes(text, part.span), at) {
@@ -34,7 +35,8 @@ fn table_parts(text: &str, key: &DottedKey<'_>, at: usize) -> usize {
     key.inner.len().min(1)
 }
 
-/// Appends the lines of `assignment`, without the first `count` parts of the key, and with `end` as the last line end.
+/// Appends to `out` the lines of `assignment`, without the first `count` parts of the key, and with `end` as the last
+/// line end.
 fn push_rest(
     out: &mut String,
     text: &str,
@@ -75,8 +77,8 @@ fn move_rest(
     writer.copy_to(body_end)
 }
 
-/// Proposes to write the table of the dotted key at an offset as a section, after the section that contains the key.
-/// Returns `None` if there is no assignment with a dotted key at the offset.
+/// Proposes to write the table of the dotted key at the offset `at` as a section, after the section that contains the
+/// key. Returns `None` unless an assignment with a dotted key contains or touches `at`.
 pub(crate) fn dotted_to_section(
     alloc: Global,
     text: &str,

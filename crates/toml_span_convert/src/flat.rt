@@ -27,7 +27,7 @@ pub(crate) fn has_comment(text: &str, start: usize, end: usize) -> bool {
     part(text, start, end).contains('#')
 }
 
-/// Appends the array at `span`, whose elements are `items`, on one line. Returns false if that is not possible, as
+/// Appends to `out`, on one line, the array at `span`, whose elements are `items`. Returns false in the cases in which
 /// `push_flat` does.
 #[cycle(push_flat)]
 fn push_items(
@@ -50,8 +50,8 @@ fn push_items(
     Ok(!has_comment(text, from, span.end))
 }
 
-/// Appends the inline table at `span`, whose assignments are `pairs`, on one line. Returns false if that is not
-/// possible, as `push_flat` does.
+/// Appends to `out`, on one line, the inline table at `span`, whose assignments are `pairs`. Returns false in the cases
+/// in which `push_flat` does.
 #[cycle(push_flat)]
 fn push_pairs(
     text: &str,
@@ -72,8 +72,8 @@ fn push_pairs(
     Ok(!has_comment(text, from, span.end))
 }
 
-/// Appends an assignment on one line, such as `a = 1`, without comments around the `=`. Returns false if that is not
-/// possible, as `push_flat` does.
+/// Appends an assignment, such as `a = 1`, to `out` on one line, without comments around the `=`. Returns false in the
+/// cases in which `push_flat` does.
 #[cycle(push_flat)]
 pub(crate) fn push_pair(
     text: &str,
@@ -85,8 +85,8 @@ pub(crate) fn push_pair(
     push_flat(text, &pair.value, out)
 }
 
-/// Appends a value on one line, without comments around the `=` of pairs. Returns false if the value contains any other
-/// comment or a string on several lines. Then `out` may have a part of the value.
+/// Appends `value` to `out` on one line, without comments around the `=` of pairs. Returns false if `value` contains
+/// any other comment or a string on several lines; `out` may then have a part of the value.
 #[cycle(push_flat)]
 pub(crate) fn push_flat(text: &str, value: &Val<'_>, out: &mut String) -> Result<bool, AllocError> {
     match &value.kind {

@@ -144,7 +144,7 @@ pub(crate) fn is_converted(
 
 // ---- arrays
 
-/// Returns the bytes in `span`. Ignores the part of `span` after the end of the text.
+/// Returns the bytes of `text` in `span`. Ignores the part of `span` after the end of `text`.
 fn bytes_of(text: &str, span: Span) -> &[u8]
     ensures { result.now ≡ slice_range text.now span.start span.end }
 {
@@ -181,8 +181,8 @@ fn is_laid_out(conversion: Conversion, old: &[u8], new: &[u8]) -> bool
     }
 }
 
-/// Returns the text with the array at `span` replaced by `array`. Returns `None` if one of the two does not begin with
-/// a bracket, or if their line feeds are not as `is_laid_out` requires.
+/// Returns `text` with the array at `span` replaced by `array`. Returns `None` if one of the two arrays does not begin
+/// with a bracket, if their line feeds are not as `is_laid_out` requires, or if `span` is not valid in `text`.
 #[tactic(auto, using(crate::proofs::FormLemmas::array_converted))]
 pub(crate) fn with_array(
     alloc: Global,

@@ -9,7 +9,7 @@ pub(crate) fn part(text: &str, start: usize, end: usize) -> &str {
     text.get(start..end).unwrap_or("")
 }
 
-/// Returns the part of a text in a span, as `part` does.
+/// Returns the part of a text that a span covers, as `part` does.
 pub(crate) fn spanned(text: &str, span: Span) -> &str {
     part(text, span.start, span.end)
 }
@@ -47,7 +47,7 @@ pub(crate) fn indent<'t>(text: &'t str, assignment: &Assignment<'_>) -> &'t str 
     )
 }
 
-/// Returns the rest of an assignment's line after its value: blanks and a comment, or an empty text if there is no
+/// Returns the rest of an assignment's line after its value: blanks and a comment, or an empty string without a
 /// comment.
 pub(crate) fn note<'t>(text: &'t str, assignment: &Assignment<'_>) -> &'t str {
     let line = part(
@@ -58,8 +58,8 @@ pub(crate) fn note<'t>(text: &'t str, assignment: &Assignment<'_>) -> &'t str {
     line.trim_end()
 }
 
-/// Returns the start of the comment lines directly before the offset `to`, or `to` if there are none. Ignores lines
-/// before the offset `from`. Both offsets must be starts of lines.
+/// Returns the start of the comment lines directly before the offset `to`. Without such lines, returns `to`. Ignores
+/// lines before the offset `from`. Both offsets must be starts of lines.
 pub(crate) fn comments_start(text: &str, from: usize, to: usize) -> usize {
     let mut start = from;
     let mut at = from;
@@ -72,7 +72,7 @@ pub(crate) fn comments_start(text: &str, from: usize, to: usize) -> usize {
     start
 }
 
-/// Returns the comment in a line, or an empty text if there is none. The line must not contain strings.
+/// Returns the comment in a line, or an empty string if the line has no comment. The line must not contain strings.
 pub(crate) fn comment_in(line: &str) -> &str {
     match line.find('#') {
         Some(at) => line.get(at..).unwrap_or("").trim_end(),

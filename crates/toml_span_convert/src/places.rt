@@ -31,8 +31,8 @@ pub(crate) fn body_start(text: &str, section: &Section<'_>) -> usize {
     }
 }
 
-/// Returns the assignment that contains or touches an offset, or `None` if there is none. Ignores assignments in inline
-/// tables.
+/// Returns the assignment that contains or touches the offset `at`, or `None` if no assignment does. Ignores
+/// assignments in inline tables.
 pub(crate) fn line_at<'s, 'de>(
     text: &str,
     sections: &'s [Section<'de>],
@@ -54,8 +54,8 @@ pub(crate) fn line_at<'s, 'de>(
     None
 }
 
-/// Returns the innermost array at an offset: `value` itself or an array in it. Returns `None` if no array contains or
-/// touches the offset.
+/// Returns the innermost array that contains or touches the offset `at`: `value` itself or an array in it. Returns
+/// `None` if no array does.
 #[cycle(array_in)]
 fn array_in<'s, 'de>(text: &str, value: &'s Val<'de>, at: usize) -> Option<&'s Val<'de>> {
     if !touches(value.span, at) {
@@ -82,8 +82,8 @@ fn array_in<'s, 'de>(text: &str, value: &'s Val<'de>, at: usize) -> Option<&'s V
     }
 }
 
-/// Returns the innermost array at an offset, or `None` if there is none. For an offset before the value of an
-/// assignment, such as in its key, returns the array that is this value.
+/// Returns the innermost array that contains or touches the offset `at`, or `None` if no array does. An offset in the
+/// key of an assignment, or between its key and its value, counts as the start of the value.
 pub(crate) fn array_at<'s, 'de>(
     text: &str,
     sections: &'s [Section<'de>],
@@ -94,7 +94,7 @@ pub(crate) fn array_at<'s, 'de>(
     array_in(text, value, at.max(value.span.start))
 }
 
-/// Returns the part of a dotted key at `index`, or its last part if the key is shorter.
+/// Returns the part of a dotted key at `index`, or the last part if `index` is out of range.
 pub(crate) fn part_at<'s, 'de>(parts: &'s DottedKey<'de>, index: usize) -> &'s Key<'de> {
     if let Some(key) = parts.inner.get(index) {
         return key;
@@ -116,7 +116,7 @@ pub(crate) fn parts_text<'t>(
 }
 
 /// Returns the parts of a section's header up to the position `last`, inclusive, as they are written in the text.
-/// Returns an empty text if the header has no part at `last`.
+/// Returns an empty string if the header has no part at `last`.
 pub(crate) fn header_text<'t>(text: &'t str, section: &Section<'_>, last: usize) -> &'t str {
     let keys = section.header.as_slice();
     match (keys.first(), keys.get(last)) {

@@ -15,18 +15,18 @@ use toml_span_read::Section;
 #[derive(Clone, Copy)]
 struct Found<'s, 'de> {
     section: &'s Section<'de>,
-    /// The position of the section among all sections.
+    /// The position of the section among all sections, counted from 0.
     index: usize,
     /// The last part of the header.
     key: &'s Key<'de>,
-    /// The start of the comment lines above the header, or of the header's line if there are none.
+    /// The start of the comment lines above the header or, without such lines, of the header's line.
     comments: usize,
     /// The start of the header's line.
     header: usize,
 }
 
-/// Returns the section whose header contains or touches an offset, or `None` if there is none. The header must be in
-/// single brackets. A comment after the header counts as part of the header.
+/// Returns the section whose header contains or touches the offset `at`, or `None` if no header does. Ignores headers
+/// in double brackets. A comment after the header counts as part of the header.
 fn section_at<'s, 'de>(
     text: &str,
     sections: &'s [Section<'de>],
@@ -86,7 +86,7 @@ fn relation_of(section: &Section<'_>, keys: &[Key<'_>]) -> Relation {
 }
 
 /// Returns the section of the table around the section at the position `index`, or `None` if that table has no section.
-/// `keys` are the parts of that table's header, none for the root.
+/// `keys` are the parts of that table's header; for the root, the slice is empty.
 fn parent_of<'s, 'de>(
     sections: &'s [Section<'de>],
     index: usize,
@@ -138,8 +138,8 @@ fn braces_of(
     Ok(Some(out))
 }
 
-/// Returns the line that replaces the section `found`: its key, the inline table `braces`, and the comment after the
-/// header.
+/// Returns the line that replaces the section `found`: the last part of the section's header, ` = `, the inline table
+/// `braces`, and the comment after the header.
 fn line_of(
     alloc: Global,
     text: &str,
@@ -201,7 +201,7 @@ fn move_line(
     writer.finish_after(alloc, end)
 }
 
-/// Returns the text in which `line` replaces the section `found`, if the table around `found` has no section. Writes
+/// Returns the text in which `line` replaces the section `found`. The table around `found` must have no section. Writes
 /// `line` below a new header for that table or, if the table is the root, before the first header. `first` is what
 /// `first_header` returns.
 fn write_line(
@@ -245,8 +245,8 @@ fn is_empty_root(section: &Section<'_>) -> bool {
     section.header.as_slice().is_empty() && section.assignments.is_empty()
 }
 
-/// Returns the start of the first header's line or of the comment lines above that header. If there is no header,
-/// returns the start of the document, after a byte order mark.
+/// Returns the start of the comment lines above the first header or, without such lines, of the header's line. If the
+/// text has only the root section, returns the start of the text, after a byte order mark.
 fn first_header(text: &str, sections: &[Section<'_>]) -> usize {
     let from = first_place(text);
     for section in sections {
@@ -257,8 +257,8 @@ fn first_header(text: &str, sections: &[Section<'_>]) -> usize {
     from
 }
 
-/// Proposes an inline table for the section whose header is at an offset. Returns `None` if there is no header in
-/// single brackets at the offset, or if the section can't be on one line (see `braces_of`).
+/// Proposes an inline table for the section whose header is at the offset `at`. Returns `None` if `section_at` finds no
+/// section there, or if the section can't be written on one line (see `braces_of`).
 pub(crate) fn section_to_inline(
     alloc: Global,
     text: &str,

@@ -22,7 +22,8 @@ pub(crate) fn header_of(
 }
 
 /// Ends the last line of `out`, and appends the comments in `gap`, the text between two pairs of an inline table. A
-/// comment in the first line of `gap` ends the last line of `out`. Each other comment is on a line of its own.
+/// comment in the first line of `gap` goes to the end of the last line of `out`. Each other comment gets a line of its
+/// own, which begins with `indent`. `end` is the line end to write.
 fn push_gap(out: &mut String, gap: &str, indent: &str, end: &str) -> Result<(), AllocError> {
     for (index, line) in gap.split('\n').enumerate() {
         let comment = comment_in(line);
@@ -39,8 +40,8 @@ fn push_gap(out: &mut String, gap: &str, indent: &str, end: &str) -> Result<(), 
     Ok(())
 }
 
-/// Ends the last line of `out`, and appends the pairs and comments of an inline table, each pair on a line of its own.
-/// `braces` is the span of the table.
+/// Ends the last line of `out`, and appends the pairs and comments of an inline table, each pair on a line of its own,
+/// which begins with `indent`. `braces` is the span of the table, and `end` the line end to write.
 fn push_pairs(
     out: &mut String,
     text: &str,
@@ -106,8 +107,8 @@ fn section_of(
     Ok(out)
 }
 
-/// Proposes a section for the inline table at an offset, after the section that contains the table. Returns `None` if
-/// there is no assignment with an inline table at the offset.
+/// Proposes a section for the inline table at the offset `at`, after the section that contains the table. Returns
+/// `None` unless an assignment with an inline table as its value contains or touches `at`.
 pub(crate) fn inline_to_section(
     alloc: Global,
     text: &str,

@@ -27,7 +27,8 @@ impl<'t> Writer<'t> {
         }
     }
 
-    /// Copies the old text up to the offset `to`. Does nothing if the writer is past `to`.
+    /// Copies the old text up to the offset `to`. Does nothing if the text before `to` has already been copied or left
+    /// out.
     pub(crate) fn copy_to(&mut self, to: usize) -> Result<(), AllocError> {
         if self.at < to {
             self.out.push_str(part(self.text, self.at, to))?;
@@ -64,8 +65,7 @@ impl<'t> Writer<'t> {
         Ok(())
     }
 
-    /// Ends the last line of the new text, unless the line has an end or the text is empty, apart from a byte order
-    /// mark.
+    /// Appends a line end to the new text, unless the new text ends with one, or is empty apart from a byte order mark.
     pub(crate) fn begin_line(&mut self) -> Result<(), AllocError> {
         let out = self.out.as_str();
         if out.ends_with('\n') || out.strip_prefix('\u{feff}').unwrap_or(out).is_empty() {

@@ -17,7 +17,7 @@ use Rattle.toml_span_edit.specs.declared.step.Spot.TheVariants as spots
 
 -- ---- values
 
--- `v = ` followed by this text is a document, in which `v` has this value.
+-- `v = ` followed by the text is a document, in which `v` has the value `w`.
 abbrev pub Spells : List ℕ → Node → Type 0
 Spells text w =
     (root : Value) × IsTree (codes "v = " ++ text) depth_limit root
@@ -31,47 +31,47 @@ IsSameDocument text new =
 
 -- ---- one edit
 
--- whether the second tree is the first with the new value at this spot: instead of the first tree, under a name or
--- position in it, or after its last element
+-- whether the tree `k` is the tree `n` with the value `w` at this spot: in place of the whole tree, under a name or
+-- position, or after the last element
 abbrev pub goes : Spot → Node → Node → Node → Bool
 goes spots.Here w n k = same w k
 goes (spots.Under segment) w n k = put segment.now w n k
 goes spots.End w n k = last w (inner_of n) (inner_of k)
 
--- The value at the path in the first tree, the value of this text, and the value at the path in the second tree are
--- related in this way. The rest of the trees is equal.
+-- The trees `n` and `k` are equal except for their values at the path. `related w` holds for these two values, where
+-- `w` is the value that the text spells.
 abbrev pub Goes : (Node → Node → Node → Bool) → List ℕ → Path → Node → Node → Type 0
 Goes related text path n k = (w : Node) × Spells text w × (at path (related w) n k ≡ true)
 
--- The second tree is the first with the value of this text added at the path, where the first has none, and with the
--- tables that were missing on the way.
+-- The tree `k` is the tree `n` with the value that the text spells added at the path, where `n` has no value, and with
+-- the tables that were missing on the way.
 abbrev pub IsNew : List ℕ → Path → Node → Node → Type 0
 IsNew text path n k = (w : Node) × Spells text w × (added path w n k ≡ true)
 
--- The value at the path is removed.
+-- The tree `k` is the tree `n` without the value at the path.
 abbrev pub IsGone : Path → Node → Node → Type 0
 IsGone path n k =
     (front : Path) × (name : List ℕ) × Splits path front name × (at front (lacks name) n k ≡ true)
 
--- The key at the path has another name.
+-- The tree `k` is the tree `n` with the key at the path renamed to `new`.
 abbrev pub IsRenamed : List ℕ → Path → Node → Node → Type 0
 IsRenamed new path n k =
     (front : Path) × (name : List ℕ) × Splits path front name × (at front (renames name new) n k ≡ true)
 
--- The value of this text is added as an entry of a table, or inserted into an array. The last segment of the path is
--- the value's name or position; the other segments name the table or array.
+-- The tree `k` is the tree `n` with the value that the text spells added to an existing table or array. The last
+-- segment of the path is the value's name or position; the other segments name the table or array.
 abbrev pub IsUnder : List ℕ → Path → Node → Node → Type 0
 IsUnder text path n k =
     (front : Path) × (name : List ℕ) × Splits path front name × Goes (put name) text front n k
 
--- The value is added at the path: inserted as an element, or added as an entry, with the tables that were missing on
--- the way.
+-- The tree `k` is the tree `n` with the value `w` added at the path: inserted as an element, or added as an entry, with
+-- the tables that were missing on the way.
 abbrev pub IsPut : Path → Node → Node → Node → Type 0
 IsPut path w n k =
     ((front : Path) × (name : List ℕ) × Splits path front name × (at front (put name w) n k ≡ true))
     ⊎ (added path w n k ≡ true)
 
--- What a change at a path does to a tree.
+-- The tree `k` is the tree `n` with the change made at the path.
 abbrev pub Makes : Change → Path → Node → Node → Type 0
 Makes (changes.Set v) path n k = Goes (goes spots.Here) v.now path n k
 Makes (changes.Replace v) path n k = Goes (goes spots.Here) v.now path n k
@@ -86,15 +86,15 @@ Makes (changes.Insert v) path n k = IsUnder v.now path n k
 Makes (changes.MoveTo target) path n k =
     (w mid : Node) × (found path n ≡ Some w) × IsGone path n mid × IsPut (map (λ s. s.now) target.now) w mid k
 
--- The text is a document, and its tree is this one with the change made.
+-- The text `new` is a document, and its tree is `n` with the change made at the path.
 abbrev pub IsMade : Change → Path → Node → List ℕ → Type 0
 IsMade change path n new = (root : Value) × IsTree new depth_limit root × Makes change path n (view root)
 
--- The text is a document, and its tree is this one with the value added at the path.
+-- The text `new` is a document, and its tree is `n` with the value `w` added at the path.
 abbrev pub IsPutBack : Path → Node → Node → List ℕ → Type 0
 IsPutBack path w n new = (root : Value) × IsTree new depth_limit root × IsPut path w n (view root)
 
--- The text is a document, and its tree is this one with the value at the second path moved to the first path.
+-- The text `new` is a document, and its tree is `n` with the value at `path` moved to `target`.
 abbrev pub IsMoved : Path → Path → Node → List ℕ → Type 0
 IsMoved target path n new =
     (w mid : Node) × (found path n ≡ Some w) × IsGone path n mid × IsPutBack target w mid new
@@ -109,7 +109,7 @@ EditMade e text new =
 
 -- ---- several edits
 
--- The edits are made one after the other.
+-- The text `new` is `text` with the edits made one after the other.
 abbrev pub EditsMade : List Edit → List ℕ → List ℕ → Type 0
 EditsMade [] text new = new ≡ text
 EditsMade (e ∷ es) text new = (mid : List ℕ) × EditMade e text mid × EditsMade es mid new

@@ -36,7 +36,8 @@ abbrev pub keys_at : Path → List KeyMention → List Span
 keys_at path [] = []
 keys_at path (m ∷ ms) = if names_steps path m.path then m.whole ∷ keys_at path ms else keys_at path ms
 
--- One text replaces each key at the path. All other bytes are the same.
+-- The text `new` is `text` with one and the same key in place of each key that names the value at the path. All other
+-- bytes are the same.
 abbrev pub AreKeysReplaced : Path → List ℕ → List ℕ → Type 0
 AreKeysReplaced path text new =
     (sections : List ParsedSection) × (key : List ℕ) × document text depth_limit (Ok sections)
@@ -44,7 +45,7 @@ AreKeysReplaced path text new =
 
 -- ---- what is inserted
 
--- spaces, tabs and line ends
+-- whether a byte is a space, a tab, a line feed or a carriage return
 abbrev pub is_space : ℕ → Bool
 is_space c = is_blank c || (c == line_feed || c == 13)
 
@@ -109,7 +110,7 @@ lines_end text (suc n) = if slice_index text n == line_feed then suc n else afte
 abbrev pub lines_around : List ℕ → Span → Span
 lines_around text s = record { start = line_start text s.start; end = lines_end text s.end }
 
--- whether a literal of this kind begins with this byte
+-- whether the value is an array and the byte is `[`, or the value is a table and the byte is `{`
 abbrev pub opens : Inner → ℕ → Bool
 opens (array ns) c = c == left_bracket
 opens (table ms) c = c == left_brace
@@ -121,7 +122,7 @@ encloses text n s =
     nat_lt (span_of n).start s.start
     && (nat_lt s.end (span_of n).end && opens (inner_of n) (slice_index text (span_of n).start))
 
--- the span between the brackets or braces of the value, if they contain the second span, otherwise `outer`
+-- the span between the brackets or braces of the value `n`, if they enclose the span `s`, otherwise `outer`
 abbrev pub held_in : List ℕ → Node → Span → Option Span → Option Span
 held_in text n s outer =
     if encloses text n s then Some (record { start = (span_of n).start + 1; end = (span_of n).end - 1 }) else outer
@@ -174,12 +175,14 @@ IsCutWithComments path n text new =
     × (above ≤ s.start) × (only_comments false (slice_range text above s.start) ≡ true)
     × KeepsAround text (record { start = above; end = s.end }) new
 
--- The value at the path is removed, and then text is inserted.
+-- First, only bytes in the span around the value at the path change (`IsCut`), and then text is inserted
+-- (`IsInserted`).
 abbrev pub IsCutThenInserted : Path → Node → List ℕ → List ℕ → Type 0
 IsCutThenInserted path n text new = (mid : List ℕ) × IsCut path n text mid × IsInserted mid new
 
--- The value at the path is removed. Or, if the value is the only element of an array of tables, that array is removed
--- and an empty array is inserted.
+-- Only bytes in the span around the value at the path have changed. Or first only bytes in the span around the array or
+-- table that holds the value change, and then text is inserted: if the value is the only element of an array of tables,
+-- an empty array replaces that array.
 abbrev pub IsRemoved : Path → Node → List ℕ → List ℕ → Type 0
 IsRemoved path n text new =
     IsCut path n text new
@@ -187,12 +190,12 @@ IsRemoved path n text new =
 
 -- ---- tables that are moved
 
--- a blank, or the opening bracket of a header
+-- whether a byte is a space, a tab or an opening bracket
 abbrev pub is_opening : ℕ → Bool
 is_opening c = is_blank c || c == left_bracket
 
--- Only blanks and opening brackets are before the span on its line, at least one bracket among them, and no line ends
--- in the span.
+-- Whether the span of the replacement has no line end, and only blanks and at least one opening bracket are before it
+-- on its line.
 abbrev pub is_header_part : List ℕ → Replacement → Bool
 is_header_part text e =
     let before = slice_range text (line_start text e.0.start) e.0.start in
@@ -204,15 +207,16 @@ abbrev pub AreHeadersReplaced : List ℕ → List ℕ → Type 0
 AreHeadersReplaced text new =
     (es : List Replacement) × (list_all (is_header_part text) es ≡ true) × (replaced text es ≡ Some new)
 
--- The value at the path is removed with the comments directly above it, and text is inserted. Or only headers are
--- changed.
+-- First, only bytes in the span around the value at the path, and in the comments directly above it, change, and then
+-- text is inserted. Or only parts of headers are replaced.
 abbrev pub IsMovedText : Path → Node → List ℕ → List ℕ → Type 0
 IsMovedText path n text new =
     ((mid : List ℕ) × IsCutWithComments path n text mid × IsInserted mid new) ⊎ AreHeadersReplaced text new
 
 -- ---- changes
 
--- which bytes a change at a path keeps: the tree of the first text is the node, and the second text is the result
+-- The text `new`, which is `text` with the change made at the path, has all bytes that the change must keep. `n` is the
+-- tree of `text`.
 abbrev pub Keeps : Change → Path → Node → List ℕ → List ℕ → Type 0
 Keeps (changes.Set v) path n text new = IsWrittenOver v.now path n text new
 Keeps (changes.Replace v) path n text new =

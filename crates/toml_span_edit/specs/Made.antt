@@ -17,7 +17,8 @@ use Rattle.toml_span_edit.specs.declared.made.Local.TheVariants as locals
 
 -- ---- segments
 
--- in a table the entry with this name, in an array the element at the position that the segment spells
+-- the value that the segment selects: in a table the value of the entry with this name, in an array the element at the
+-- position that the segment spells
 abbrev pub child : List ℕ → Inner → Option Node
 child segment (array ns) = option_and_then (λ i. get_item i ns) (position_of segment)
 child segment (table ms) = get_member segment ms
@@ -72,7 +73,7 @@ gone segment (array ns) (array ks) = at_position (λ i. item_gone i ns ks) (posi
 gone segment (table ms) (table ks) = is_some (get_member segment ms) && same_members (without segment ms) ks
 gone segment _ _ = false
 
--- the same for two nodes
+-- whether the node `k` is the node `n` without the entry or element that the segment selects
 abbrev pub lacks : List ℕ → Node → Node → Bool
 lacks segment n k = gone segment (inner_of n) (inner_of k)
 
@@ -93,19 +94,19 @@ abbrev pub last : Node → Inner → Inner → Bool
 last w (array ns) (array ks) = item_last w ns ks
 last w _ _ = false
 
--- whether the second table is the first with the entry of the first name renamed to the second name
+-- whether the second table is the first with the entry `name` renamed to `new`
 abbrev pub renamed : List ℕ → List ℕ → Inner → Inner → Bool
 renamed name new (table ms) (table ks) =
     both same (get_member name ms) (get_member new ks) && same_members (without name ms) (without new ks)
 renamed name new _ _ = false
 
--- the same for two nodes
+-- whether the table `k` is the table `n` with the entry `name` renamed to `new`
 abbrev pub renames : List ℕ → List ℕ → Node → Node → Bool
 renames name new n k = renamed name new (inner_of n) (inner_of k)
 
 -- ---- at a path
 
--- The two trees are equal except for the values at the path, and these are related in this way.
+-- The two trees are equal except for the values at the path, and `related` holds for these values.
 abbrev pub at : List (List ℕ) → (Node → Node → Bool) → Node → Node → Bool
 at [] related n k = related n k
 at (segment ∷ path) related n k =
@@ -127,8 +128,8 @@ added_at below segment w n k (Some m) (Some l) = same_but segment (inner_of n) (
 added_at below segment w n k None (Some l) = put segment w n k
 added_at below segment w n k _ None = false
 
--- The second tree is the first with this value at the path, where the first has none, and with the tables that were
--- missing on the way.
+-- The second tree is the first with the value `w` at the path, where the first has no value, and with the tables that
+-- were missing on the way.
 abbrev pub added : List (List ℕ) → Node → Node → Node → Bool
 added [] w n k = false
 added (segment ∷ path) w n k =
@@ -144,7 +145,8 @@ local (locals.Put segment w) n k = put segment.now (view w.now) n k
 local (locals.Last w) n k = last (view w.now) (inner_of n) (inner_of k)
 local (locals.Renamed name new) n k = renames name.now new.now n k
 
--- The result is the first of these entries with another name, and the last list has the entries after it.
+-- The third argument is the first entry in `before` that has another name than `name`, and `after` has the entries that
+-- follow it. The third argument is None if all entries in `before` have the name `name`.
 abbrev pub IsNext : List ℕ → List (Key × Value) → Option (Bor Key × Bor Value) → List (Key × Value) → Type 0
 IsNext name before None after = without name (members_view before) ≡ no_members
 IsNext name before (Some e) after =

@@ -16,7 +16,7 @@ abbrev pub found : Path → Node → Option Node
 found [] n = Some n
 found (segment ∷ path) n = option_and_then (found path) (child segment (inner_of n))
 
--- The first path consists of the second one and this last segment.
+-- The path consists of the segments `front` and the last segment `name`.
 abbrev pub Splits : Path → Path → List ℕ → Type 0
 Splits path front name = path ≡ front ++ name ∷ []
 

@@ -21,7 +21,7 @@ abbrev pub path_of : Path → Task → Path
 path_of path (tasks.Add name v) = path ++ name.now ∷ []
 path_of path _ = path
 
--- The path can be read, and the change of the task is made at its segments.
+-- The path can be read, and the text `new` is `text` with the change of the task made at the path's segments.
 abbrev pub TaskMade : List ℕ → Task → List ℕ → List ℕ → Type 0
 TaskMade path task text new =
     (segments : Path) × (e : Edit) × IsPath path (Ok segments)

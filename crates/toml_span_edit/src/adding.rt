@@ -20,7 +20,7 @@ use toml_span_read::{Assignment, Section, Val, ValKind};
 enum InsertionPoint<'s, 'de> {
     /// At the offset that `top_of` returns, in a document that has no assignment before its first header.
     Top,
-    /// On a new line, after the lines of this section, which is the table's own.
+    /// On a new line, after the lines of this section, which is the section of the table.
     Body(&'s Section<'de>),
     /// After this assignment, on the next line or in the same braces. The part of its dotted key with this index names
     /// the table.
@@ -32,8 +32,8 @@ enum InsertionPoint<'s, 'de> {
     Header(&'s Section<'de>, usize),
 }
 
-/// Returns whether `mentions` name an array of tables: whether the first is a section that opens an element of the
-/// array. They must not be the mentions of the root.
+/// Returns whether `mentions` name an array of tables, that is, whether the first mention is a section that opens an
+/// element of the array. `mentions` must not be those of the root.
 pub(crate) fn names_array(mentions: &[Mention<'_, '_>]) -> bool {
     match mentions.first() {
         Some(Mention::Below(section, index)) => opens_element(*section, *index),
@@ -170,8 +170,8 @@ fn put_entry(
     }
 }
 
-/// Adds to `plan` the insertion of `entry` after `assignment`, with `table` and a dot before its key. `home` says where
-/// `assignment` is written.
+/// Adds to `plan` the insertion of `entry`, such as `a = 1`, after `assignment`, as `{table}.{entry}`. `table` is the
+/// dotted key of the entry's table, and `home` says where `assignment` is written.
 fn put_sibling(
     document: Document<'_, '_>,
     assignment: &Assignment<'_>,
@@ -196,8 +196,8 @@ fn put_sibling(
     }
 }
 
-/// Returns how many of the first segments of `path` name an existing value: as many as possible, but not all of `path`.
-/// Returns 0, for the root, if no other number is possible.
+/// Returns the number of segments in the longest prefix of `path`, shorter than `path`, that names an existing value.
+/// The empty prefix names the root.
 pub(crate) fn known(document: Document<'_, '_>, path: &[&str]) -> Result<usize, AllocError> {
     for depth in (1..path.len()).rev() {
         if !document.mentions(front_of(path, depth))?.is_empty() {
@@ -304,8 +304,8 @@ pub(crate) fn section_place<'s>(
     Ok(place)
 }
 
-/// Adds to `plan` the insertion of the lines `section` at the byte offset `at`, with blank lines between them and the
-/// text above and below.
+/// Adds to `plan` the insertion of the lines `section` at the byte offset `at`. Also inserts blank lines between them
+/// and the text above and below, unless blank lines are there already.
 pub(crate) fn put_section(
     document: Document<'_, '_>,
     at: usize,
@@ -408,8 +408,8 @@ pub(crate) fn add_deep(
     add_lines(document, path, moved, plan)
 }
 
-/// Returns the text between `header`, a header without brackets, and a part after it: a dot, or nothing if `header` is
-/// empty.
+/// Returns the text to write between `header`, a header without brackets, and another part: a dot, or an empty string
+/// if `header` is empty.
 pub(crate) fn dot_after(header: &str) -> &'static str {
     if header.is_empty() { "" } else { "." }
 }

@@ -178,8 +178,7 @@ impl<'e> Edits<'e> {
     /// without reading it.
     ///
     /// Fails with the position and the reason of the first edit that is refused, and with `Stop::Memory` if an
-    /// allocation fails. An edit is refused if the tree of its result would differ from the tree before the edit in
-    /// anything but this change.
+    /// allocation fails. An edit is also refused if it would change anything else in the tree of the document.
     pub fn finish(self) -> Result<String, Stop<EditError>>
         ensures { IfOk result (λ new. spec.EditsMade self.entry.list.items self.entry.text.now (string_bytes new)) }
     {

@@ -1,4 +1,4 @@
-//! Checks values that a caller passes, and writes names and strings.
+//! Checks TOML values that callers pass, and writes names and strings as TOML.
 ghost use Rattle.std.specs.Prelude.{◌≡◌, ◌++◌, IfOk, codes, string_bytes};
 
 use crate::reason::Reason;
@@ -40,7 +40,8 @@ pub(crate) fn probed<'p>(
     }
 }
 
-/// Returns whether `sections` have only one assignment and no header, and the assignment ends at the byte offset `end`.
+/// Returns whether `sections` consist of one assignment without a header, and the assignment ends at the byte offset
+/// `end`.
 fn is_one_value(sections: &[Section<'_>], end: usize) -> bool {
     match sections {
         [section] => match section.assignments.as_slice() {

@@ -213,10 +213,12 @@ pub(crate) struct Item<'i> {
 
 /// Adds to `plan` the insertion of `item` after the last item of `list`, whose span is `last`.
 ///
-/// The new item gets its own line if the last item begins a line, or if the closing bracket or brace is on a later line
-/// and a comment precedes the end of the last item's line or, with a comma after this item, of the comma's line. But if
-/// that comma is on a later line, with the closing bracket or brace, the new item follows the comma. In all other
-/// cases, the new item follows the last item on the same line.
+/// The new item gets its own line if the last item begins a line. It also gets its own line if the closing bracket or
+/// brace is on a later line, and a comment follows the last item on its line or, if a comma follows the item, up to the
+/// end of the comma's line. In all other cases, the new item follows the last item on the same line.
+///
+/// There is one exception: instead of getting its own line, the new item follows the comma after the last item if that
+/// comma is on a later line than the item, together with the closing bracket or brace.
 ///
 /// The comments of `item` are written only if the new item gets its own line, and the closing bracket or brace is on a
 /// later line.
@@ -341,8 +343,8 @@ pub(crate) fn bare(text: &str) -> Item<'_> {
     }
 }
 
-/// Returns the comment after the byte offset `end`, the end of an item, on the same line, with the blanks before the
-/// comment. Skips a comma before the comment. Returns an empty string if anything else or nothing follows.
+/// Returns the comment that follows an item on its line, with the blanks before the comment. `end` is the byte offset
+/// after the item. Skips a comma before the comment. Returns an empty string if anything else or nothing follows.
 fn note_after(text: &str, end: usize) -> &str {
     let rest = part(text, end, line_stop(text, end));
     let note = match rest.trim_start().strip_prefix(',') {

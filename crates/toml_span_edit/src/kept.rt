@@ -17,7 +17,7 @@ fn is_space(byte: u8) -> bool
     is_blank(byte) || byte == b'\n' || byte == b'\r'
 }
 
-/// Returns whether all bytes are spaces, tabs, line feeds or carriage returns.
+/// Returns whether all of `bytes` are spaces, tabs, line feeds or carriage returns.
 fn is_all_space(bytes: &[u8]) -> bool
     ensures { result ≡ list_all spec.is_space bytes.now }
 {
@@ -106,7 +106,7 @@ pub(crate) fn only_comments(text: &str, start: usize, end: usize) -> bool
     true
 }
 
-/// Returns whether all bytes are spaces, tabs or opening brackets, as at the start of a header.
+/// Returns whether all of `bytes` are spaces, tabs or opening brackets, as at the start of a header.
 fn is_opening(bytes: &[u8]) -> bool
     ensures { result ≡ list_all spec.is_opening bytes.now }
 {

@@ -41,7 +41,7 @@ enum Placement {
     Below(usize),
 }
 
-/// Returns the part of a key at `index`, or the last part if the key has fewer.
+/// Returns the part of a key at `index`, or the last part if `index` is out of range.
 pub(crate) fn part_at<'s, 'de>(parts: &'s DottedKey<'de>, index: usize) -> &'s Key<'de> {
     if let Some(key) = parts.inner.get(index) {
         return key;
@@ -114,7 +114,7 @@ fn common(parts: &DottedKey<'_>, path: &[&str]) -> Option<usize> {
 }
 
 /// Appends to `out` the mentions of `path` in `assignment`, which is written at `home`. `path` begins at the table
-/// around `assignment`, and must not be empty. If an allocation fails, `out` has some of the mentions.
+/// around `assignment`, and must not be empty.
 #[cycle(push_inside)]
 fn push_assigned<'s, 'de>(
     assignment: &'s Assignment<'de>,
@@ -149,8 +149,8 @@ fn push_element<'s, 'de>(
     Ok(())
 }
 
-/// Appends to `out` the mentions of `path` inside `value`. `path` begins at `value`; if it is empty, appends nothing.
-/// If an allocation fails, `out` has some of the mentions.
+/// Appends to `out` the mentions of `path` inside `value`. `path` begins at `value`; if `path` is empty, appends
+/// nothing.
 #[cycle(push_inside)]
 fn push_inside<'s, 'de>(
     value: &'s Val<'de>,
@@ -176,8 +176,7 @@ fn push_inside<'s, 'de>(
     Ok(())
 }
 
-/// Appends to `out` the mentions of `path` in `section`. Changes `counts` as `placement_of` does. If an allocation
-/// fails, `counts` is changed too, and `out` has some of the mentions.
+/// Appends to `out` the mentions of `path` in `section`. Changes `counts` as `placement_of` does.
 fn push_section<'s, 'de>(
     section: &'s Section<'de>,
     path: &[&str],

@@ -86,7 +86,8 @@ pub(crate) fn cut_comments(
     Ok(())
 }
 
-/// Returns whether the value at `path` is an array, in brackets or of tables. Returns false if `path` names nothing.
+/// Returns whether the value at `path` is an array, either in brackets or an array of tables. Returns false if `path`
+/// names nothing.
 fn is_array(document: Document<'_, '_>, path: &[&str]) -> Result<bool, AllocError> {
     let mentions = document.mentions(path)?;
     if let Some(value) = written(mentions.as_slice()) {
@@ -120,8 +121,8 @@ pub(crate) fn put_moved(
     add_lines(document, path, moved, plan)
 }
 
-/// Returns a header, without brackets, for a table at `path`. Returns `None` if `path` is empty, or if the table around
-/// `path` is neither the root nor named first by a header.
+/// Returns a header, without brackets, for a table at `path`. Returns `None` if `path` is empty. Also returns `None`
+/// unless the table around `path` is the root, or a header is the first place that names this table.
 fn new_header(document: Document<'_, '_>, path: &[&str]) -> Result<Option<String>, AllocError> {
     let [front @ .., name] = path else {
         return Ok(None);

@@ -52,13 +52,14 @@ pub(crate) fn position(segment: &str) -> Option<usize>
     segment.parse::<usize>().ok()
 }
 
-/// Returns the segments after the first `count`, or none if there are fewer than `count`.
+/// Returns the segments of `path` after the first `count`. Returns an empty slice if `path` has fewer than `count`
+/// segments.
 pub(crate) fn rest_of<'p, 'e>(path: &'p [&'e str], count: usize) -> &'p [&'e str] {
     let start = count.min(path.len());
     &path[start..]
 }
 
-/// Returns the first `count` segments, or all if there are fewer than `count`.
+/// Returns the first `count` segments of `path`, or all of them if there are fewer.
 pub(crate) fn front_of<'p, 'e>(path: &'p [&'e str], count: usize) -> &'p [&'e str] {
     path.get(..count).unwrap_or(path)
 }
@@ -92,7 +93,7 @@ fn is_step(segment: &str, step: Step<'_>) -> bool
     }
 }
 
-/// Returns whether a path has as many segments as there are steps, and each segment names its step.
+/// Returns whether `path` has as many segments as there are `steps`, and each segment names the step at the same index.
 pub(crate) fn names_steps(path: &[&str], steps: &[Step<'_>]) -> bool
     ensures { result ≡ spec.names_steps (map (λ s. s.now) path.now) (map step_of steps.now) }
 {

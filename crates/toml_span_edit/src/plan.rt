@@ -17,7 +17,7 @@ pub(crate) struct Piece {
 }
 
 /// Replacements in a text. They must be in the order of the text, and their spans must not overlap. A function that
-/// fails to add several may have added some.
+/// fails may already have added some of its replacements.
 #[derive(Drop)]
 pub(crate) struct Plan {
     alloc: Global,

@@ -1,4 +1,4 @@
-//! Finds where the value at a path of a tree is written.
+//! Finds where in the text the value at a path is written.
 ghost use Rattle.std.specs.Prelude.{◌≡◌, IfOk, Ok, map, option_map};
 ghost use Rattle.toml_span_read.specs.Data.{depth_limit, parsed_section};
 ghost use Rattle.toml_span_read.specs.Read.{document as read};
@@ -169,7 +169,7 @@ fn opens(value: &Value<'_>, byte: u8) -> bool
     value.as_table().is_some() && byte == b'{'
 }
 
-/// Returns the span between the brackets or braces of `value`, if they contain `span`. Otherwise returns `outer`.
+/// Returns the span between the brackets or braces of `value`, if they enclose `span`. Otherwise returns `outer`.
 fn held_in(text: &str, value: &Value<'_>, span: Span, outer: Option<Span>) -> Option<Span>
     ensures { result ≡ spec.held_in text.now (view value.now) span outer }
 {

@@ -12,7 +12,7 @@ pub enum Reason {
     /// The path is neither a pointer nor a dotted key. The string says at which column reading the path failed, and
     /// why.
     WrongPath(String),
-    /// There is no value at the path.
+    /// The path does not name a value.
     Nothing,
     /// The new value is not a TOML value. For a word such as `abc`, the string is `'"abc"'?`: what was probably meant,
     /// quoted for a shell, to complete `did you mean`.
@@ -21,12 +21,12 @@ pub enum Reason {
     NotSpelled,
     /// The path does not name a key.
     NoKey,
-    /// There already is a value at the path.
+    /// The path already names a value.
     There,
     /// The value to which an entry would be added is not a table.
     NoTable,
-    /// The value to which an element would be added is not an array, or the array does not have the position in the
-    /// path.
+    /// The value to which an element would be added is not an array, or the array can't have an element at the position
+    /// in the path.
     NoArray,
     /// The new element of an array of tables is not written as an inline table.
     NoInlineTable,

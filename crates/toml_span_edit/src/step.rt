@@ -20,9 +20,9 @@ use toml_span::{Error, Stop, parse};
 /// Where a new value goes, relative to the value at a path.
 #[derive(Clone, Copy)]
 pub(crate) enum Spot<'l> {
-    /// In its place.
+    /// In place of the value at the path.
     Here,
-    /// In the table at the path, under this key, or in the array there, at this position.
+    /// In the table at the path, under this key; or in the array at the path, at this position.
     Under(&'l str),
     /// At the end of the array at the path.
     End,
@@ -259,8 +259,8 @@ pub(crate) fn new_tree<'t>(alloc: Global, text: &'t str) -> Result<Value<'t>, St
 }
 
 /// Checks that `new` is a document whose tree is `old` with `edit` made. Fails with `WouldBeNone` if `new` is not valid
-/// TOML, with `NoValue` if the edit's value can't be read, and with `WouldDiffer` if the tree is another or `edit` is a
-/// move.
+/// TOML, with `NoValue` if the edit's value can't be read, and with `WouldDiffer` if `new` has a different tree or
+/// `edit` is a move.
 fn check_made(alloc: Global, edit: Edit<'_>, old: &Value<'_>, new: &str) -> Result<(), Stop<Reason>>
     ensures { OnOk result (spec.IsMade edit.entry.change (map (λ s. s.now) edit.entry.path.now) (view old.now)
         new.now) }
@@ -274,7 +274,7 @@ fn check_made(alloc: Global, edit: Edit<'_>, old: &Value<'_>, new: &str) -> Resu
 }
 
 /// Checks that `new` is a document whose tree is `rest` with `value` added at `path`. Fails with `WouldBeNone` if `new`
-/// is not valid TOML, and with `WouldDiffer` if its tree is another.
+/// is not valid TOML, and with `WouldDiffer` if it has a different tree.
 fn check_put_back(
     alloc: Global,
     path: &[&str],
@@ -292,8 +292,8 @@ fn check_put_back(
     }
 }
 
-/// Checks that `new` is a document whose tree is `old` with the value at `path` moved to `target`. `without` is the
-/// text without the value. Fails with a reason otherwise.
+/// Checks that `new` is a document whose tree is `old` with the value at `path` moved to `target`, and fails with a
+/// reason if not. `without` is the text before the move, without the value.
 fn check_moved(
     alloc: Global,
     without: &str,
@@ -335,8 +335,8 @@ fn move_value(
     Ok(new)
 }
 
-/// Returns `text` with `edit` made. `old` is the tree of `text`. Fails with a reason if `edit` is refused; a move
-/// always is.
+/// Returns `text` with `edit` made. `old` is the tree of `text`. Fails with a reason if `edit` is refused. Always
+/// refuses a move.
 fn edited(
     alloc: Global,
     text: &str,

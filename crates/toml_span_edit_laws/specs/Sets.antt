@@ -1,4 +1,4 @@
--- Scalars that are set.
+-- Edits that replace a scalar with a scalar.
 use Rattle.std.specs.Prelude.{◌≡◌, ℕ, ◌++◌, List, length, codes}
 use Rattle.toml_span_tree.specs.Node.{Node, Scalar, scalar}
 use Rattle.toml_span_tree.specs.Value.{inner_of, view}
@@ -11,7 +11,7 @@ use Rattle.toml_span_edit.specs.Edited.{Makes, Spells}
 use Rattle.toml_span_edit.specs.Paths.{Path}
 use Rattle.toml_span_edit.specs.declared.edits.Change.{Change}
 
--- The text is a literal of this scalar and nothing else, when it follows `v = `.
+-- If the text follows `v = `, it is a literal of this scalar and nothing else.
 abbrev pub IsLiteral : List ℕ → Scalar → Type 0
 IsLiteral text x =
     (w : Node) × Spells text w × (inner_of w ≡ scalar x)

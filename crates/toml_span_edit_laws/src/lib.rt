@@ -13,9 +13,9 @@ ghost use Rattle.toml_span_edit.specs.Paths.{Path, found};
 ghost use Rattle.toml_span_edit.specs.declared.edits.Change.TheVariants as changes;
 ghost use Rattle.toml_span_edit_laws.specs.Sets.{IsLiteral, MustBeMade};
 
-/// An edit that replaces a scalar with a scalar is never refused because of its result: if the literal of a scalar is
-/// replaced with the literal of any scalar, the new text is a document, and its tree is the old one with the new value
-/// at the path. The new literal must have nothing before or after it, not even blanks.
+/// A `Set`, `Replace` or `SetOrAdd` that replaces a scalar with a scalar is never refused because of its result. If the
+/// literal of a scalar is replaced with the literal of any scalar, the new text is a document, and its tree is the old
+/// one with the new value at the path. The new literal must have nothing before or after it, not even blanks.
 pub fn scalars_are_set()
     ensures set { (text new : List ℕ) (v : Bor (List ℕ)) (path : Path) (root : Value) (m : Node) (s x : Scalar)
         → IsTree text depth_limit root → found path (view root) ≡ Some m → inner_of m ≡ scalar s

@@ -5,7 +5,8 @@ use Rattle.toml_span_convert.specs.declared.conversions.Conversion.{Conversion}
 use Rattle.toml_span_editor.specs.Edits.{Turns, edit_content}
 use Rattle.toml_span_editor.specs.declared.edits.Rewritten.{Rewritten}
 
--- The edits give a table or an array another form, and keep the tree, except for spans, and the comments.
+-- The edits of `made` convert a table or an array of `text` as `conversion` says. They keep the tree, except for its
+-- spans, and the comments.
 abbrev pub ConvertsBy : Conversion → List ℕ → Rewritten → Type 0
 ConvertsBy conversion text made = IsConverted conversion text (string_bytes made.text)
     × Turns text (map edit_content made.edits.items) (string_bytes made.text)

@@ -54,13 +54,13 @@ with_line front out line =
     if length line == 0 then out
     else (if length out == 0 then out else out ++ codes "\n") ++ front ++ line
 
--- a text followed by the message of a label, if the label is primary and its message differs from the message of the
--- report
+-- the text `out` followed by a line with the message of the label; `out` alone if the label is not primary, or if its
+-- message is empty or `message`, the message of the report
 abbrev pub with_label : List ℕ → List ℕ → Place → List ℕ
 with_label message out label =
     if label.primary && not (bytes_eq label.message message) then with_line [] out label.message else out
 
--- the message of a report with its primary labels, its notes and its help, each on a line
+-- the message of a report, followed by its primary labels, its notes and its help, each on a line
 abbrev pub message_of : ReportContent → List ℕ
 message_of report =
     fold (with_line (codes "help: "))
@@ -84,22 +84,23 @@ diagnostic_of encoding text report = record {
   related = related_of encoding text report.labels;
 }
 
--- The reports on a document, and the lines that say why its schema can't be used: as in `check`, first the reports on
--- syntax that the version of TOML lacks, and then those of its schema.
+-- `reports` are the reports on the document `text` of the file `name`: first those on syntax that `version` lacks, then
+-- those of its schema. `complaint` has the lines that say why the schema can't be used, and is empty if it can.
 abbrev pub AreDocumentReports : Says → Version → Chooser → List ℕ → List ℕ → Node → List ReportContent → List ℕ
     → Type 0
 AreDocumentReports says version chooser name text root reports complaint =
     (lacks found : List ReportContent) × Lacks version name text lacks × says chooser name text root found complaint
     × (reports ≡ lacks ++ found)
 
--- The reports on a text with this name: those on the document or, if the text is not valid TOML, those on its errors.
+-- `reports` are the reports on the text of the file `name`. If the text is valid TOML, they are those on the document.
+-- Otherwise they are those on its errors, and `complaint` is empty.
 abbrev pub AreReports : Says → Version → Chooser → List ℕ → List ℕ → List ReportContent → List ℕ → Type 0
 AreReports says version chooser name text reports complaint =
     ((root : Value) × IsTree text depth_limit root
     × AreDocumentReports says version chooser name text (view root) reports complaint)
     ⊎ ((error : Error) × IsRefusal text depth_limit (Fault error) × Checks text reports × (complaint ≡ []))
 
--- The diagnostics of a text are the reports on it, in the same order.
+-- `diagnostics` are the reports on the text (see `AreReports`) as an editor shows them, in the same order.
 abbrev pub Diagnoses : Says → Version → Chooser → List ℕ → Encoding → List ℕ → List DiagnosticContent → List ℕ
     → Type 0
 Diagnoses says version chooser name encoding text diagnostics complaint =

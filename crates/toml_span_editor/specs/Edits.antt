@@ -8,7 +8,7 @@ use Rattle.toml_span_editor.specs.declared.edits.Edit.{Edit}
 abbrev pub edit_content : Edit → Span × List ℕ
 edit_content edit = (edit.span, string_bytes edit.text)
 
--- The edits are in order, do not overlap, and are at character boundaries of the old text. With all edits made, the old
--- text is the new text.
+-- The edits are in order, do not overlap, and are at character boundaries of the text `old`. Together, they change
+-- `old` into `new`.
 unfoldable pub Turns : List ℕ → List (Span × List ℕ) → List ℕ → Type 0
 Turns old edits new = replaced old edits ≡ Some new

@@ -10,7 +10,7 @@ abbrev pub FormatsBy : List ℕ → Rewritten → Type 0
 FormatsBy text made = SameDocument text (string_bytes made.text)
     × Turns text (map edit_content made.edits.items) (string_bytes made.text)
 
--- With the edits made, the document has the same tree.
+-- With the edits made, the document has the same tree, except for spans.
 abbrev pub KeepsTree : List ℕ → Rewritten → Type 0
 KeepsTree text made = IsSameDocument text (string_bytes made.text)
     × Turns text (map edit_content made.edits.items) (string_bytes made.text)

@@ -16,7 +16,7 @@ abbrev pub PositionsReturn : Type 0
 PositionsReturn = (encoding : Encoding) (text : List ℕ) (at : ℕ) → length text < 2 ^ 29 → IsCharBoundary text at
     → ¬ (IsInsideLineEnd text at) → offset_of encoding text (position_of encoding text at) ≡ at
 
--- the code units of a character
+-- the number of code units of the character with the code point `c`
 abbrev pub code_units : Encoding → ℕ → ℕ
 code_units Utf8 c = length (encode_utf8 c)
 code_units Utf16 c = if nat_lt c 65536 then 1 else 2

@@ -7,29 +7,29 @@ use Rattle.toml_span_editor.specs.declared.positions.Position.{Position}
 use Rattle.toml_span_editor.specs.declared.positions.Range.{Range}
 use Rattle.toml_span_lex.specs.declared.span.Span.{Span}
 
--- The largest number of the protocol (uinteger), at which counts stop.
+-- The largest integer of the protocol (uinteger), at which counts stop.
 abbrev pub largest : ℕ
 largest = 2147483647
 
 abbrev pub plus : ℕ → ℕ → ℕ
 plus n k = min (n + k) largest
 
--- the number of code units of a character of several bytes that begins with this byte: its bytes, or one or two UTF-16
--- units
+-- the number of code units (bytes or UTF-16 units) of a character that has several bytes in UTF-8 and begins with
+-- `byte`
 abbrev pub wide_units : Encoding → ℕ → ℕ
 wide_units Utf8 byte = if nat_lt byte 224 then 2 else if nat_lt byte 240 then 3 else 4
 wide_units Utf16 byte = if nat_lt byte 240 then 1 else 2
 
--- the number of code units of the character that begins with this byte of a UTF-8 text; 0 for a byte inside a character
+-- the number of code units of the character that begins with `byte` in a UTF-8 text; 0 for a byte inside a character
 abbrev pub units : Encoding → ℕ → ℕ
 units encoding byte = if nat_lt byte 128 then 1 else if nat_lt byte 192 then 0 else wide_units encoding byte
 
--- whether a line ends with this byte: with LF, CRLF, or a CR alone
+-- whether a line ends with `byte`, which `next` follows: LF, or a CR that is not followed by LF
 abbrev pub ends_line : ℕ → ℕ → Bool
 ends_line byte next = byte == 10 || (byte == 13 && not (next == 10))
 
--- The position after a byte, which the byte `next` follows: the start of the next line after a line end, otherwise a
--- later position on the same line. There is no position between CR and LF.
+-- The position after a byte that is at the position `p` and followed by the byte `next`: the start of the next line
+-- after a line end, otherwise a position on the same line. There is no position between CR and LF.
 abbrev pub after : Encoding → Position → ℕ → ℕ → Position
 after encoding p byte next =
     if ends_line byte next then record { line = plus p.line 1; character = 0 }
@@ -46,19 +46,19 @@ position_from encoding p (suc n) (byte ∷ text) =
 abbrev pub first : Position
 first = record { line = 0; character = 0 }
 
--- the position of an offset, in bytes
+-- the position of the byte offset `at`
 abbrev pub position_of : Encoding → List ℕ → ℕ → Position
 position_of encoding text at = position_from encoding first at text
 
--- the offset at which a line begins, or the length of the text if it has fewer lines
+-- the offset at which the line `line` (counted from 0) begins, or the length of the text if it has fewer lines
 unfoldable pub line_start : ℕ → List ℕ → ℕ
 line_start zero text = 0
 line_start (suc line) [] = 0
 line_start (suc line) (byte ∷ text) =
     suc (line_start (if ends_line byte (slice_index text 0) then line else suc line) text)
 
--- The number of bytes of a line before the character at this count of code units. If the line is shorter, the number of
--- its bytes without the line end. If the count ends inside a character, the number of bytes before that character.
+-- The number of bytes of the first `left` code units of a line. If the line is shorter, the number of its bytes without
+-- the line end. If the code units end inside a character, the number of bytes before that character.
 unfoldable pub column : Encoding → ℕ → List ℕ → ℕ
 column encoding left [] = 0
 column encoding left (byte ∷ line) =

@@ -31,7 +31,8 @@ pub enum Part {
     Other,
 }
 
-/// Returns the text from the start of a line to the offset `at`, or an empty text if `at` is not a character boundary.
+/// Returns the text from the start of its line to the offset `at`, or an empty text if `at` is not a character
+/// boundary.
 fn line_front(text: &str, at: usize) -> &str {
     let front = text.get(..at).unwrap_or("");
     front.rsplit('\n').next().unwrap_or("")
@@ -122,8 +123,9 @@ fn push_keys(
     Ok(())
 }
 
-/// Returns proposals for keys that the table at the offset `at` lacks, but that the same table in other elements of the
-/// innermost array has. The list is empty if the table is not in an array.
+/// Returns proposals for keys of the table at the offset `at`. The table must be an element of an array, or inside one:
+/// the proposals are the keys that it lacks and that the tables in the same place in the other elements have.
+/// Otherwise, the list is empty.
 fn sibling_keys(
     alloc: Global,
     document: &Document<'_>,
@@ -174,7 +176,8 @@ fn booleans(alloc: Global) -> Result<Vec<Proposal>, AllocError> {
 }
 
 /// Returns what can be written at the byte offset `at`. For a value, the proposals are booleans. For a key in a table
-/// inside an array, they are keys that other tables of the array have. Elsewhere, the list is empty.
+/// inside an array, they are keys that the table lacks and other tables of the array have. Elsewhere, the list is
+/// empty.
 ///
 /// `document` is as much of `text` as can be read (see `readable`). Fails if an allocation fails.
 pub fn proposals(

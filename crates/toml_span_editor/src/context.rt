@@ -6,7 +6,7 @@ use toml_span_lex::stop::Stop;
 use toml_span_lex::tokenizer::Tokenizer;
 use toml_span_lex::tokens::Token;
 
-/// A step of a path that is being written.
+/// A step of a path, like `Step`, but with an owned name.
 #[derive(Debug, Drop)]
 pub(crate) enum Segment {
     Key(String),
@@ -20,9 +20,9 @@ pub(crate) enum Spot {
     /// A part of the key of an assignment.
     Key,
     Value,
-    /// A part of the header of a table.
+    /// A part of a header in single brackets.
     Table,
-    /// A part of the header of a table in an array.
+    /// A part of a header in double brackets.
     TableInArray,
     /// A comment, or a place where neither a key nor a value is expected.
     Other,
@@ -37,18 +37,18 @@ pub(crate) struct Context {
     pub(crate) path: Vec<Segment>,
     /// The first parts of the earlier keys in the same inline table.
     pub(crate) names: Vec<String>,
-    /// The span of the word or string that a proposal replaces. Empty if nothing is replaced.
+    /// The span of the word or string that a suggestion replaces. Empty if nothing is replaced.
     pub(crate) typed: Span,
 }
 
-/// The next part that a statement can have.
+/// The part of a statement that is expected next.
 #[derive(Clone, Copy, Debug, PartialEq, Eq)]
 enum Next {
     Key,
     /// A period or `=`.
     AfterKey,
     Value,
-    /// A comma, a closing bracket, or the end of a line.
+    /// A comma, a closing bracket or brace, or the end of a line.
     AfterValue,
     /// A part of a header.
     Header,
@@ -56,7 +56,7 @@ enum Next {
     AfterHeader,
 }
 
-/// An inline table or an array that is not closed.
+/// An inline table or an array that is not closed yet.
 #[derive(Debug, Drop)]
 enum Opened {
     /// An inline table. `length` is the number of steps of its path, and `names` are the first parts of its keys so
@@ -72,7 +72,7 @@ struct Scanner {
     next: Next,
     /// Whether the statement is a header in double brackets.
     is_in_array: bool,
-    /// The path that the statement has named so far.
+    /// The path of the key, header or value that is being read.
     path: Vec<Segment>,
     /// The open inline tables and arrays, the outermost first.
     opened: Vec<Opened>,
@@ -99,7 +99,7 @@ impl Scanner {
         self.opened.clear();
     }
 
-    /// Adds a name to those of the innermost inline table, if the name begins a key in this table.
+    /// Adds `name` to the names of the innermost inline table, if `name` is the first part of a key in this table.
     fn push_first(&mut self, alloc: Global, name: &str) -> Result<(), AllocError> {
         match self.opened.pop() {
             Some(Opened::Table { length, mut names }) => {
@@ -117,8 +117,8 @@ impl Scanner {
         }
     }
 
-    /// Updates the state for a word or string, which is a part of a key or header, or a value. Elsewhere, changes
-    /// nothing.
+    /// Updates the state for the word or string `name`: a part of a key, a part of a header, or a value. Where none of
+    /// these is expected, changes nothing.
     fn take_name(&mut self, alloc: Global, name: &str) -> Result<(), AllocError> {
         self.push_first(alloc, name)?;
         self.next = match self.next {
@@ -235,7 +235,7 @@ impl Scanner {
         }
     }
 
-    /// Returns what is being written. `typed` is the span that a proposal replaces.
+    /// Returns what is being written. `typed` is the span that a suggestion replaces.
     fn context(self, alloc: Global, typed: Span) -> Context {
         let spot = match (self.next, self.is_in_array) {
             (Next::Key, _) => Spot::Key,
@@ -262,7 +262,7 @@ impl Scanner {
     }
 }
 
-/// Returns the span that a proposal at the offset `at` replaces: the span of a word, or of a single-line string that
+/// Returns the span that a suggestion at the offset `at` replaces: the span of a word, or of a single-line string that
 /// ends after `at`. Returns `None` for any other token.
 fn typed_in(token: &Token<'_>, span: Span, at: usize) -> Option<Span> {
     match token {

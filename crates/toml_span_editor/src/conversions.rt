@@ -1,4 +1,4 @@
-//! Converts tables and arrays to other forms.
+//! Converts tables and arrays to other forms, such as an inline table to a section.
 ghost use Rattle.std.specs.Prelude.{IfOk, IfSome};
 ghost use Rattle.toml_span_editor.specs.Conversions.{ConvertsBy};
 
@@ -40,8 +40,8 @@ pub const OFFERS: [Offer; 5] = [
 ];
 
 /// Returns the edits that convert the table or array at the byte offset `at`. The edits keep all keys, values and
-/// comments. Returns `None` if there is nothing to convert at `at`, or if the conversion is not possible (see
-/// `converted`). Fails if an allocation fails.
+/// comments. Returns `None` if there is nothing at `at` to which `conversion` applies, or if the conversion is not
+/// possible (see `converted`). Fails if an allocation fails.
 pub fn converting(
     alloc: Global,
     document: &Document<'_>,

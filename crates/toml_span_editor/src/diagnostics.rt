@@ -189,8 +189,8 @@ pub struct Diagnosed {
     pub complaint: String,
 }
 
-/// Returns the reports on a document: first on syntax that this version of TOML lacks, then those of `schemas`. `text`
-/// is the source of the file `name`, and `root` its tree.
+/// Returns the reports on a document: first those on syntax that `version` lacks, then those of `schemas`. `text` is
+/// the source of the file `name`, and `root` its tree.
 #[tactic(auto, using(crate::proofs::DiagnosticLemmas::reports_append))]
 fn document_reports<S: Schemas>(
     alloc: Global,
@@ -236,9 +236,9 @@ fn text_reports<S: Schemas>(
     }
 }
 
-/// Returns the diagnostics of a text, in the order in which `toml-span check` prints reports. They are about all errors
-/// of the text. If it is valid TOML, they are about syntax that this version of TOML lacks, followed by those of
-/// `schemas`. `name` is the name of the file. Fails if an allocation fails.
+/// Returns the diagnostics of the text of `table`, in the order in which `toml-span check` prints reports. They report
+/// all errors of the text. If it is valid TOML, they report syntax that `version` lacks, and then what `schemas` finds.
+/// `name` is the name of the file. Fails if an allocation fails.
 pub fn diagnostics<S: Schemas>(
     alloc: Global,
     table: &PositionTable<'_>,
@@ -269,7 +269,7 @@ fn edits_of(alloc: Global, report: &Report) -> Result<Vec<Edit>, AllocError> {
     Ok(edits)
 }
 
-/// Returns the title of the repair of a report with this help: "write `a`" for "did you mean `a`?", otherwise the help.
+/// Returns the title of a repair whose report has this help: "write `a`" for "did you mean `a`?", otherwise the help.
 fn title_of(alloc: Global, help: &str) -> Result<String, AllocError> {
     let meant = help
         .strip_prefix("did you mean ")
@@ -281,8 +281,8 @@ fn title_of(alloc: Global, help: &str) -> Result<String, AllocError> {
 }
 
 /// Returns the repair of a report: its replacements or, for a duplicate key, the result of `without_duplicate`. Returns
-/// `None` if there are no replacements, or if they don't fit the text. `index` is the position of the report in the
-/// list of the `count` reports.
+/// `None` if there are no replacements, or if they don't fit the text. `index` is the position of `report` among the
+/// `count` reports on the text.
 fn repair_of(
     alloc: Global,
     text: &str,
@@ -310,8 +310,8 @@ fn repair_of(
     }))
 }
 
-/// Returns the repairs of the diagnostics that touch a span, in the order of `diagnostics`. `document` is the text as
-/// `read` returns it: `None` if the text is not valid TOML. Leaves out repairs whose edits don't fit the text. Fails if
+/// Returns the repairs of the diagnostics that touch `span`, in the order of `diagnostics`. `document` is the result of
+/// `read` for `text`: `None` if the text is not valid TOML. Leaves out repairs whose edits don't fit the text. Fails if
 /// an allocation fails.
 pub fn repairs<S: Schemas>(
     alloc: Global,
@@ -342,9 +342,9 @@ pub fn repairs<S: Schemas>(
     Ok(found)
 }
 
-/// Returns edits that make all safe repairs of a text, as `toml-span check --fix` does: of errors, and then of syntax
-/// that this version of TOML lacks. `document` is as for `repairs`, and `name` is the name of the file. The list is
-/// empty if nothing can be repaired. Fails if an allocation fails.
+/// Returns edits that make all safe repairs of a text, as `toml-span check --fix` does: first of errors, then of syntax
+/// that `version` lacks. `document` is as for `repairs`, and `name` is the name of the file. The list is empty if
+/// nothing can be repaired. Fails if an allocation fails.
 pub fn all_repairs(
     alloc: Global,
     text: &str,

@@ -1,13 +1,13 @@
-//! Removes an assignment whose key the table already has.
+//! Repairs a duplicate key by removing its assignment.
 use crate::diagnostics::Repair;
 use crate::edits::{Edit, edited};
 use std::alloc::{AllocError, Global};
 use toml_span_check::every::check;
 use toml_span_check::statements::assignment_lines;
 
-/// Returns the repair that removes the lines of the assignment whose key, at the offset `at`, is a duplicate. `report`
-/// is the position of the report on this error in the list of the `count` reports. Returns `None` if `assignment_lines`
-/// does, or if there would not be fewer reports without the lines.
+/// Returns the repair for the duplicate key at the offset `at`, which removes the lines of its assignment. `count` is
+/// the number of reports on the text, and `report` is the position of this error's report among them. Returns `None` if
+/// `assignment_lines` does, or if the number of reports would not be smaller without the lines.
 pub(crate) fn without_duplicate(
     alloc: Global,
     text: &str,

@@ -38,8 +38,8 @@ fn replacements<'e>(alloc: Global, edits: &'e [Edit]) -> Result<Vec<Replacement<
     Ok(list)
 }
 
-/// Makes the edits, and returns the new text. Returns `None` if the spans overlap, are not in order, or don't fit the
-/// text. Fails if an allocation fails.
+/// Applies the edits to `text`, and returns the new text. Returns `None` if the spans overlap, are not in order, or
+/// don't fit the text. Fails if an allocation fails.
 pub fn edited(alloc: Global, text: &str, edits: &[Edit]) -> Result<Option<String>, AllocError>
     ensures { IfOk result (λ new. option_map string_bytes new
         ≡ places.replaced text.now (map edit_content edits.now)) }

@@ -14,7 +14,7 @@ pub struct Fold {
     pub is_comment: bool,
 }
 
-/// Returns whether a span has more than one line, apart from blanks and line ends at its end.
+/// Returns whether a span of `text` has more than one line, not counting blanks and line ends at its end.
 fn has_lines(text: &str, span: Span) -> bool {
     match text.get(span.start..span.end) {
         Some(part) => part.trim_ascii_end().contains('\n'),
@@ -35,7 +35,8 @@ fn push_fold(
     Ok(())
 }
 
-/// Returns whether there are only blanks and one line end between two offsets. Returns `false` if `from` is after `to`.
+/// Returns whether there are only blanks and one line end between the offsets `from` and `to`. Returns `false` if
+/// `from` is after `to`.
 fn is_next_line(text: &str, from: usize, to: usize) -> bool {
     if from > to {
         return false;
@@ -60,8 +61,8 @@ fn push_comments(alloc: Global, text: &str, folds: &mut Vec<Fold>) -> Result<(),
     push_fold(text, group, true, folds)
 }
 
-/// Returns the parts of a document that can be folded: sections, values of several lines, and groups of comments. Fails
-/// if an allocation fails.
+/// Returns the parts of a document that can be folded: sections with a header and values, if they have several lines,
+/// and groups of comments. Fails if an allocation fails.
 pub fn folds(alloc: Global, document: &Document<'_>) -> Result<Vec<Fold>, AllocError> {
     let text = document.text;
     let mut folds = Vec::new(alloc);

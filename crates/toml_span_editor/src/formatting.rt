@@ -1,4 +1,4 @@
-//! Formats a document, or some lines.
+//! Formats a document, or some of its lines.
 ghost use Rattle.std.specs.Prelude.{IfOk, IfSome};
 ghost use Rattle.toml_span_editor.specs.Formatting.{FormatsBy, KeepsTree};
 
@@ -40,9 +40,9 @@ fn within(alloc: Global, edits: Vec<Edit>, span: Span) -> Result<Vec<Edit>, Allo
     Ok(kept)
 }
 
-/// Returns the edits that format the lines of a span, with the new text. The edits keep all keys and values. Returns
-/// `None` if the text is not valid TOML, or if these lines can't be formatted without others. Fails if an allocation
-/// fails.
+/// Returns those edits of `formatting` that touch `span`, with the new text. They keep all keys and values. Returns
+/// `None` if the text is not valid TOML or can't be formatted, or if these edits without the others would change a
+/// value. Fails if an allocation fails.
 #[tactic(auto, unfolding(crate::specs::Edits::Turns))]
 pub fn formatting_of(
     alloc: Global,

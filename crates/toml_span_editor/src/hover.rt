@@ -1,4 +1,4 @@
-//! Describes a key or a value.
+//! Describes the key or value at an offset in Markdown.
 use crate::document::Document;
 use crate::keys::{key_at, value_of};
 use crate::paths::{dotted, pointer};
@@ -45,8 +45,8 @@ fn part(text: &str, from: usize, to: usize) -> &str {
     text.get(from..to).unwrap_or("")
 }
 
-/// Returns the name of the month with a number from `01` to `12`. Returns an empty text for a larger number, or if
-/// `digits` is not a number.
+/// Returns the name of the month with the number `digits`, from `01` to `12`. Returns an empty text for a larger
+/// number, or if `digits` is not a number.
 fn month_of(digits: &str) -> &'static str {
     match digits.parse::<usize>() {
         Ok(month) => MONTHS.get(month.saturating_sub(1)).copied().unwrap_or(""),
@@ -80,7 +80,7 @@ fn push_time(time: &str, out: &mut String) -> Result<(), AllocError> {
     Ok(())
 }
 
-/// Appends a date or time in words.
+/// Appends a date, a time, or both, such as `5 January 2024, 10:00:00 UTC`.
 fn push_date(date: &str, out: &mut String) -> Result<(), AllocError> {
     if date.as_bytes().get(4) != Some(&b'-') {
         return push_time(date, out);
@@ -140,8 +140,8 @@ fn push_details(value: &Value<'_>, literal: &str, out: &mut String) -> Result<()
     push_names(value, out)
 }
 
-/// Appends a blank line and what the schema `guide` says about the value at a path, or nothing if the schema says
-/// nothing.
+/// Appends a blank line and the documentation of the value at `path` in the schema `guide`, or nothing if the schema
+/// has none.
 fn push_said(
     alloc: Global,
     guide: &Guide,
@@ -158,7 +158,8 @@ fn push_said(
     Ok(())
 }
 
-/// Returns a description of the value at a path in Markdown: the path, the kind and the details.
+/// Returns a description of `value` in Markdown: its `path`, its kind, and the details that `push_details` appends.
+/// `text` is the source of the document.
 fn described(
     alloc: Global,
     text: &str,
@@ -205,8 +206,8 @@ fn key_hover(
 }
 
 /// Describes the key or value at the byte offset `at`: its path and kind, the decimal value of an integer, a date in
-/// words, the size of a string, array or table, and what the schema `guide` says. Returns `None` if neither a key nor a
-/// value other than a table is at `at`. Fails if an allocation fails.
+/// words, the size of a string, array or table, and the documentation in the schema `guide`. Returns `None` if neither
+/// a key nor a value other than a table is at `at`. Fails if an allocation fails.
 pub fn hover_at(
     alloc: Global,
     document: &Document<'_>,

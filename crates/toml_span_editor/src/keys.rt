@@ -12,7 +12,7 @@ use toml_span_places::{KeyPlace, Role, key_places};
 pub struct Mention {
     /// The span of the key with its quotes.
     pub span: Span,
-    /// Whether the key is here the last part of a header, or of the key of an assignment.
+    /// Whether, at this place, the key is the last part of a header or of an assignment's key.
     pub is_definition: bool,
 }
 
@@ -55,7 +55,7 @@ pub fn mentions(
 }
 
 /// Returns the place where the key at the byte offset `at` is defined: the first place where it is the last part of a
-/// header, or of the key of an assignment. If no place is like this, returns the first place where the key is written.
+/// header, or of the key of an assignment. If there is no such place, returns the first place where the key is written.
 /// Returns `None` if no key is at `at`. Fails if an allocation fails.
 pub fn definition(
     alloc: Global,

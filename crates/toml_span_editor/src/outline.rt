@@ -13,7 +13,7 @@ pub struct Symbol {
     pub name: String,
     /// The kind of the value, such as `table` or `integer`.
     pub kind: &'static str,
-    /// The span of the key or element, with everything inside.
+    /// The span of the entry or element, including its children.
     pub span: Span,
     /// The span of the key alone, or of the element. It is within `span`.
     pub selection: Span,

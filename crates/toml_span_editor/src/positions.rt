@@ -48,7 +48,7 @@ pub(crate) fn byte_at(text: &str, at: usize) -> u8
     if at < bytes.len() { bytes[at] } else { 0 }
 }
 
-/// Returns the number of code units of the character of several bytes that begins with `byte`.
+/// Returns the number of code units of a character that has several bytes in UTF-8 and begins with `byte`.
 fn wide_units(encoding: Encoding, byte: u8) -> usize
     ensures { result ≡ spec.wide_units encoding byte }
 {

@@ -61,7 +61,7 @@ pub fn renamable_at(
     }))
 }
 
-/// Returns the message of a refused rename.
+/// Returns the message for a rename that was refused with `error`.
 fn refusal(alloc: Global, error: &EditError) -> Result<String, AllocError> {
     let mut message = String::from_str(alloc, error.reason.text())?;
     message.push_str(error.reason.detail())?;

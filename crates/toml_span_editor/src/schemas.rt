@@ -1,4 +1,4 @@
-//! Finds what schemas say about places in a document.
+//! Finds the subschemas that apply to a value of a document, and collects their descriptions and suggested values.
 use crate::keys::child;
 use std::alloc::{AllocError, Global};
 use toml_span::Value;
@@ -9,7 +9,7 @@ use toml_span_schema::{Guide, Notes, Subschemas};
 /// The maximum number of values to list.
 const MOST: usize = 30;
 
-/// Returns the subschemas that apply to the value at a path. The value need not exist.
+/// Returns the subschemas that apply to the value at `path` in the tree `root`. The value need not exist.
 pub(crate) fn subschemas_at(
     alloc: Global,
     guide: &Guide,
@@ -115,8 +115,9 @@ fn push_words(alloc: Global, words: &[String], out: &mut String) -> Result<(), A
     push_paragraph(out, line.as_str())
 }
 
-/// Returns what the subschemas say about a value, in Markdown: whether it is deprecated, titles, descriptions, the
-/// default, and the values of `enum` and `const`. The text is empty if they say none of these.
+/// Returns the documentation of a value in Markdown, from the subschemas `found` for the value: `Deprecated.` if one of
+/// them is deprecated, their titles and descriptions, the default, and the values of `enum` and `const`. The text is
+/// empty if they have nothing of the kind.
 pub(crate) fn documentation(
     alloc: Global,
     guide: &Guide,

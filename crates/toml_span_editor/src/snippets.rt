@@ -1,4 +1,4 @@
-//! Writes snippets, which are texts with places to fill in (LSP 3.17, Snippet Syntax).
+//! Writes snippets, which are texts with placeholders for the user to fill in (LSP 3.17, Snippet Syntax).
 use std::alloc::AllocError;
 use toml_span_schema::Kinds;
 
@@ -24,7 +24,7 @@ fn push_word(out: &mut String, word: &str) -> Result<(), AllocError> {
     Ok(())
 }
 
-/// Appends a place at which the user chooses one of `words`.
+/// Appends a placeholder at which the user chooses one of `words`.
 fn push_choice(out: &mut String, words: &[&str]) -> Result<(), AllocError> {
     out.push_str("${1|")?;
     for (at, word) in words.iter().enumerate() {
@@ -36,8 +36,8 @@ fn push_choice(out: &mut String, words: &[&str]) -> Result<(), AllocError> {
     out.push_str("|}")
 }
 
-/// Appends a place for a value: in quotes if strings are allowed, otherwise in braces for a table or in brackets for an
-/// array, otherwise alone.
+/// Appends an empty placeholder for a value of one of `kinds`: in quotes if strings are allowed, otherwise in braces
+/// for a table or in brackets for an array, otherwise alone.
 fn push_kind(out: &mut String, kinds: Kinds) -> Result<(), AllocError> {
     out.push_str(if kinds.string {
         "\"$1\""
@@ -50,9 +50,9 @@ fn push_kind(out: &mut String, kinds: Kinds) -> Result<(), AllocError> {
     })
 }
 
-/// Appends a place for a value: a choice among `words`, if there are any. Without words, it is a choice of booleans,
-/// with the default first, if booleans but not strings are allowed. Otherwise it is the default, or the place that
-/// `push_kind` appends.
+/// Appends a placeholder for a value. If there are `words`, it is a choice among them. Otherwise, if `kinds` allows
+/// booleans but not strings, it is a choice of `true` and `false`, with the default first. Otherwise it contains the
+/// default or, without a default, is the one that `push_kind` appends.
 pub(crate) fn push_place(
     out: &mut String,
     kinds: Kinds,

@@ -30,10 +30,11 @@ pub struct Suggestion {
     pub nature: Nature,
     /// The key or value as TOML.
     pub label: String,
-    /// For a key, the kinds of its values, and `required` if it is required. For a value, `default` if it is the
-    /// default. Empty if there is nothing to say.
+    /// For a key or table, the kinds of its values, as in `string or table, required`. For a value, `default` if it is
+    /// the default. May be empty.
     pub detail: String,
-    /// For a key, what the schema says about its value, in Markdown. May be empty.
+    /// The schema's documentation of a key or table, in Markdown. Empty for a value, and if the schema has no
+    /// documentation.
     pub documentation: String,
     pub is_required: bool,
     pub is_deprecated: bool,
@@ -41,7 +42,7 @@ pub struct Suggestion {
     pub span: Span,
     /// The text that replaces `span`.
     pub text: String,
-    /// The text with places to fill in, as a snippet of LSP, or `None` without such places.
+    /// For a new key, an LSP snippet to use in place of `text`: the key, `=`, and a placeholder for the value.
     pub snippet: Option<String>,
 }
 
@@ -61,8 +62,8 @@ fn rest_of_line(text: &str, at: usize) -> &str {
     rest.split('\n').next().unwrap_or("")
 }
 
-/// Returns what follows a key on its line. `rest` is the text from an offset in the key to the end of the line. In a
-/// quoted key, only letters, digits, dashes and underscores may be between the offset and the closing quote.
+/// Returns `rest` without the remainder of a key at its start: letters, digits, dashes and underscores, and then a
+/// closing quote. `rest` is the text from an offset in the key to the end of the line.
 fn after_key(rest: &str) -> &str {
     let is_word = |c: char| c.is_ascii_alphanumeric() || c == '-' || c == '_';
     let rest = rest.trim_start_matches(is_word);
@@ -109,8 +110,8 @@ fn detail_of(alloc: Global, kinds: Kinds, is_required: bool) -> Result<String, A
     Ok(out)
 }
 
-/// Appends the brackets that close a header, except for brackets that follow the key at the offset. Appends nothing
-/// outside a header, or if the header goes on after the key.
+/// Appends the brackets that close the header at `site`, except for brackets that already follow the key there. Appends
+/// nothing outside a header, or if a period follows the key.
 fn push_brackets(out: &mut String, site: Site<'_>) -> Result<(), AllocError> {
     let needed = match site.spot {
         Spot::Table => 1,
@@ -129,14 +130,14 @@ fn push_brackets(out: &mut String, site: Site<'_>) -> Result<(), AllocError> {
     Ok(())
 }
 
-/// Returns the kinds of the elements of an array to which the subschemas `inner` apply.
+/// Returns the kinds that the first element of an array can have. `inner` are the subschemas for the array.
 fn element_kinds(alloc: Global, guide: &Guide, inner: &Subschemas) -> Result<Kinds, AllocError> {
     let elements = guide.subschemas_inside(alloc, inner, Step::Position(0), None)?;
     Ok(guide.kinds_of(&elements))
 }
 
-/// Returns whether a key can be written at a spot. `inner` are the subschemas for the value of the key. A header needs
-/// a table, and a header in double brackets an array of tables.
+/// Returns whether a key can be written at `spot`. `inner` are the subschemas for the value of the key. In a header,
+/// they must allow a table or, in double brackets, an array of tables.
 fn is_possible(
     alloc: Global,
     guide: &Guide,
@@ -198,7 +199,7 @@ fn key_suggestion(
     })
 }
 
-/// Returns a snippet with the text `front` and the place for a value that `push_place` appends.
+/// Returns a snippet: the text `front`, and then the placeholder for a value that `push_place` appends.
 fn snippet_of(
     alloc: Global,
     front: &str,
@@ -272,7 +273,8 @@ fn push_value(
 }
 
 /// Returns suggestions of values: the default, the values of `enum` and `const`, and the booleans if they are allowed.
-/// `inner` are the subschemas for the value. Returns `None` if they say nothing about it.
+/// `inner` are the subschemas for the value. Returns `None` if there is no value to suggest and `inner` does not
+/// restrict the kind of the value.
 fn value_suggestions(
     alloc: Global,
     guide: &Guide,
@@ -321,7 +323,7 @@ fn header_steps<'p>(
     Ok(steps)
 }
 
-/// Returns the path of `context` from the root. `at` is the offset of the context.
+/// Returns `context.path` as a path from the root of `document`. `context` describes the offset `at`.
 fn steps_of<'p>(
     alloc: Global,
     document: &'p Document<'_>,
@@ -339,11 +341,11 @@ fn steps_of<'p>(
     Ok(steps)
 }
 
-/// Returns what can be written at the byte offset `at`, according to a schema: keys that the table at `at` lacks, names
-/// of tables in a header, or values. `text` is the whole text, and `document` as much of it as can be read.
+/// Returns what can be written at the byte offset `at`, according to the schema `guide`: keys that the table at `at`
+/// lacks, names of tables in a header, or values. `document` is as much of `text` as can be read (see `readable`).
 ///
 /// The list is empty in a comment, and where neither a key nor a value is expected. Returns `None` if there is no key
-/// to suggest, or if the schema says nothing about the value. Fails if an allocation fails.
+/// to suggest, or no value and the schema does not restrict the value's kind. Fails if an allocation fails.
 pub fn suggestions(
     alloc: Global,
     guide: &Guide,

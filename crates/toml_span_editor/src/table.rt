@@ -1,4 +1,4 @@
-//! A table that finds the position of any offset in a text in constant time.
+//! A table that converts any byte offset in a text to its position (line and character) in constant time.
 ghost use Rattle.std.specs.Prelude.{◌≡◌, ℕ, ◌*◌, ◌<◌, IfOk, length, slice_index_or};
 ghost use Rattle.toml_span_editor.specs.Positions as spec;
 ghost use Rattle.toml_span_editor.specs.declared.positions.Position.{Position};
@@ -7,7 +7,7 @@ use crate::positions::{Encoding, FIRST, Position, Range, advanced};
 use std::alloc::{AllocError, Global};
 use toml_span_lex::span::Span;
 
-/// The number of bytes between the offsets of the table.
+/// The number of bytes between two offsets whose positions the table stores.
 const STEP: usize = 256;
 
 /// A text, and the positions of the byte offsets 0, 256, 512 and so on.

@@ -57,7 +57,7 @@ fn unknown_table(alloc: Global, key: &Key) -> Result<Option<Finding>, AllocError
     Ok(Some(Finding { meant, ..found }))
 }
 
-/// Returns the findings for `package`, the value of `key`: one slot for each rule, `None` if the rule is kept.
+/// Returns the findings for `package`, the value of `key`: one slot for each rule, `None` if the rule is not violated.
 fn package(key: &Key, package: &Value) -> [Option<Finding>; 5] {
     let mut found = [None; 5];
     if !package.has_key("version") {
@@ -119,7 +119,7 @@ fn is_edition(edition: &Value) -> bool {
     matches!(edition.as_str(), Some("2015" | "2018" | "2021" | "2024"))
 }
 
-/// Returns the findings for the dependency `value`: one slot for each rule, `None` if the rule is kept.
+/// Returns the findings for the dependency `value`: one slot for each rule, `None` if the rule is not violated.
 fn dependency(value: &Value) -> [Option<Finding>; 2] {
     let mut found = [None; 2];
     let version = value.pointer("/version").unwrap_or(value);
@@ -262,8 +262,8 @@ fn sarif(alloc: Global, reports: &[Report], text: &str) -> Result<String, AllocE
     sarif_document(alloc, "manifest-lint", results.as_str())
 }
 
-/// Returns what is wrong with the manifest `text`, and whether nothing is wrong. `format` is `github` or `sarif`; any
-/// other means plain text.
+/// Returns the reports on the manifest `text`, in the given format, and whether nothing is reported. `format` is
+/// `github` or `sarif`; any other means plain text.
 pub fn shown(alloc: Global, text: &str, format: &str) -> Result<(String, bool), AllocError> {
     let reports = text_reports(alloc, text)?;
     let reports = reports.as_slice();

@@ -32,8 +32,8 @@ Keeps old new = replacements new ≡ replacements old
 abbrev pub Replaces : Option Past → Option Past → List ℕ → List ℕ → Type 0
 Replaces old new bytes text = replacements new ≡ option_map (λ all. all ++ (bytes, text) ∷ []) (replacements old)
 
--- The function was called with the bytes of the file. Either the text that it returned, which is within the limit, has
--- replaced these bytes; or the text equals the bytes, and nothing was replaced.
+-- A function, whose results `makes` describes, was called with the bytes of the file. Either the text that it returned,
+-- which is within the limit, has replaced these bytes; or the text equals the bytes, and nothing was replaced.
 pub record Edits {X : Type 0} (makes : List ℕ → Result (String Global) X → Type 0) (is_changed : Bool)
     (old new : Option Past) : Type 0 where
   pub bytes : List ℕ

@@ -2,8 +2,8 @@
 //!
 //! A run creates the new file with mode 0600, under a name that is made from the name of the edited file. The run then
 //! locks it with an advisory lock, which the system releases when the run ends. Only the run that has the lock writes,
-//! renames and removes the file. So if a file of mode 0600 is not locked, a run that was killed has left it behind, and
-//! the next run removes it. The new file gets its final mode last, just before it is renamed.
+//! renames and removes the file. So if a file of mode 0600 is not locked, it was left by a run that was killed, and the
+//! next run removes it. The new file gets its final mode last, just before it is renamed.
 use crate::failure::{Failure, unwritten};
 use std::fs::{File, Metadata, OpenOptions, TryLockError};
 use std::io::ErrorKind;
@@ -100,8 +100,9 @@ fn clear(rt: &HostRuntime, name: &str) -> io::Result<Try> {
     }
 }
 
-/// Creates and locks the new file with the path `name`, if that is possible now. Fails if the file can't be created, or
-/// if a file that a killed run has left can't be removed.
+/// Tries to create and lock the new file with the path `name`. If a file with this path exists, removes it if a killed
+/// run has left it (`clear`). Fails if the new file can't be created, or a file that a killed run has left can't be
+/// removed.
 fn try_lock(rt: &HostRuntime, name: &str) -> io::Result<Try> {
     match create(rt, name) {
         Ok(file) => Ok(claim(rt, name, file)),

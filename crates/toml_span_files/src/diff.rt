@@ -9,7 +9,7 @@ use std::alloc::{AllocError, Global};
 /// The maximum number of lines to skip, in both texts together, before a line that both texts have.
 const WINDOW: usize = 256;
 
-/// Consecutive lines, possibly zero, and which text has them.
+/// Zero or more consecutive lines, and which text has them.
 #[derive(Clone, Copy)]
 pub enum Part<'t> {
     /// Lines of both texts.
@@ -104,8 +104,7 @@ fn next_alike(old: &[&str], new: &[&str]) -> Option<(usize, usize)> {
     None
 }
 
-/// Appends the lines of `old` and then the lines of `new` to `parts`, as `Part::Old` and `Part::New`. If an allocation
-/// fails, `parts` has some of the lines.
+/// Appends the lines of `old` and then the lines of `new` to `parts`, as `Part::Old` and `Part::New`.
 fn push_changed<'t>(
     old: &[&'t str],
     new: &[&'t str],
@@ -120,8 +119,7 @@ fn push_changed<'t>(
     Ok(())
 }
 
-/// Compares two lists of lines, and appends their parts to `parts`. If an allocation fails, `parts` has some of the
-/// parts.
+/// Compares two lists of lines, and appends their parts to `parts`.
 fn push_lines<'t>(
     old: &[&'t str],
     new: &[&'t str],

@@ -108,7 +108,7 @@ fn beside_or_none(
 }
 
 /// Gives the new file `file` the owner and group of the old file, whose metadata is `found`. Returns the mode for the
-/// new file. If the owner or group can't be kept, fails with `Owner` or, if `is_forced` is set, returns only the
+/// new file. If the owner or group can't be kept, fails with `Owner`, unless `is_forced` is set. Then returns only the
 /// permission bits of the mode, without set-id bits. Fails with `Unwritten` if the metadata of `file` can't be read.
 fn keep_owner(file: &File, found: &Metadata, is_forced: bool) -> Result<u32, Failure> {
     let new = file.metadata().map_err(unwritten)?;
@@ -152,9 +152,9 @@ fn front_of(alloc: Global, file: &mut File) -> Result<Vec<u8>, Failure> {
     Ok(bytes)
 }
 
-/// Appends the bytes of `text` beyond the file's length to the file, so that a full disk is noticed while the old bytes
-/// are still there. Fails with `Unwritten` if the file can't be examined or written, after cutting it to its old
-/// length. Fails with `Damaged` if the file can't be cut.
+/// Appends the bytes of `text` beyond the file's length to the file. A full disk is then noticed while the old bytes
+/// are still there. Fails with `Unwritten` if the file can't be examined or extended; the file then has its old length.
+/// Fails with `Damaged` if the file can't be cut to this length.
 fn extend(file: &mut File, text: &[u8]) -> Result<(), Failure> {
     let length = file.metadata().map_err(unwritten)?.len();
     let tail = text
@@ -195,8 +195,8 @@ impl<'r> Disk<'r> {
         })
     }
 
-    /// Opens the file to write it in place, and locks it, since there may be no new file to lock. Fails with
-    /// `Unwritten` if the file can't be opened, and with `Busy` if another run keeps it locked.
+    /// Opens the file to write it in place, and locks it, in case the new file could not be created and locked. Fails
+    /// with `Unwritten` if the file can't be opened, and with `Busy` if another run keeps it locked.
     fn open_in_place(&mut self) -> Result<(), Failure> {
         let mut options = OpenOptions::new();
         let open = options

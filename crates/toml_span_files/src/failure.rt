@@ -27,8 +27,8 @@ pub enum Failure {
     Owner(io::Error),
     /// After the time to wait, another run still has a lock on the file with this path.
     Busy(String),
-    /// There is a file with this path, where the new file would be created, and it is not clear whether a run has left
-    /// the file.
+    /// The new file should be created at this path, but a file exists there. It is not clear whether a run has left
+    /// that file.
     Left(String),
     /// Another program has changed the file in the meantime.
     Changed,

@@ -14,7 +14,7 @@ struct Range {
     count: usize,
 }
 
-/// Hunks under construction. If an allocation fails, they are dropped.
+/// Hunks under construction.
 #[derive(Drop)]
 struct Hunks<'t> {
     /// The complete hunks.

@@ -59,8 +59,8 @@ pub(crate) fn place_of(rt: &HostRuntime, name: &str) -> Result<String, Failure> 
     Err(Failure::Unread(io::Error::from(ErrorKind::FilesystemLoop)))
 }
 
-/// Returns the path of the new file beside the file `place`: the file's name, or its beginning if it is long, and
-/// `.toml-span`. If that is `place` itself, `~` is added.
+/// Returns the path of the new file, which is in the directory of the file `place`. Its name is the name of that file,
+/// or the beginning if it is long, with `.toml-span` at the end. If the result would be `place` itself, `~` is added.
 pub(crate) fn beside(alloc: Global, place: &str) -> Result<String, AllocError> {
     let (folder, name) = split(place);
     let mut new = String::from_str(alloc, folder)?;

@@ -17,8 +17,8 @@ pub data CommentsFrom (text : List ℕ) : ℕ → List (List ℕ) → Type 0 whe
   finds : (i j : ℕ) (span : Span) (s t : List ℕ) (ts : List (List ℕ)) → IsLexeme text i j span (comment s)
       → IsTrimAsciiEnd s t → CommentsFrom text j ts → CommentsFrom text i (t ∷ ts)
 
--- The second list has the comments of the first list and, if the token is a comment, this one without trailing white
--- space.
+-- The second list has the comments of the first list and, if the token is a comment, that comment without trailing
+-- white space.
 abbrev pub Adds : Lexeme → List (List ℕ) → List (List ℕ) → Type 0
 Adds (comment s) before after = (t : List ℕ) × IsTrimAsciiEnd s t × (after ≡ before ++ (t ∷ []))
 Adds l before after = after ≡ before

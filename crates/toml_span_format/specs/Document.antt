@@ -51,7 +51,8 @@ abbrev pub PermutedDocument : List ℕ → List ℕ → Type 0
 PermutedDocument old new = ((bs : List ParsedSection) × (cs : List ParsedSection) × document old depth_limit (Ok bs)
     × document new depth_limit (Ok cs) × PermutedSections bs cs) × PermutedComments old new
 
--- The result is a text to which P relates the document, or the first fault of the document.
+-- The result is a new text to which P relates `text`, or the first fault of `text`. `WouldDiffer` is returned only if
+-- `text` has no fault. An allocation may fail.
 abbrev pub Keeps : (List ℕ → List ℕ → Type 0) → List ℕ → Result (String Global) (Stop FormatError) → Type 0
 Keeps P text (Ok new) = P text (string_bytes new)
 Keeps P text (Err (stops.Memory e)) = Unit {0}

@@ -117,7 +117,7 @@ fn is_same(
 /// # Errors
 ///
 /// `FormatError::Invalid` if the text can't be read as TOML, or `Stop::Memory` if an allocation fails.
-/// `FormatError::WouldDiffer` is a bug of the formatter.
+/// `FormatError::WouldDiffer` is a bug in the formatter.
 pub fn format<'t>(
     alloc: Global,
     text: &'t str,

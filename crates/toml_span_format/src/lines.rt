@@ -16,7 +16,7 @@ pub(crate) fn names_of<'s>(
     Ok(names)
 }
 
-/// An assignment, and the comments that move with it. Entries are ordered by the names of their keys.
+/// An assignment, and the comments that move with it. Entries are ordered by `names`, the names of the key's parts.
 #[derive(Drop)]
 #[derive_where(PartialEq, Eq, PartialOrd, Ord)]
 struct Entry<'s> {
@@ -35,8 +35,8 @@ struct Sorter<'p, 't, 's> {
     sorted: Vec<Piece<'t>>,
     /// The entries since the last blank line or header, not sorted yet.
     run: Vec<Entry<'s>>,
-    /// `start`: the position of the first piece after the entries in `run`. `key`: the names of the key of the
-    /// assignment that begins there, below its comments. `None` if no assignment has begun.
+    /// `start`: the position of the first piece that is neither in `sorted` nor in an entry of `run`. `key`: the names
+    /// of the key of the assignment that begins there, after its comments, or `None` if no assignment has begun.
     start: usize,
     key: Option<Vec<&'s str>>,
     /// Whether there are lines from `start` on, and all of them are comment lines.
@@ -70,8 +70,8 @@ impl Sorter<'_, '_, '_> {
         }
     }
 
-    /// Sorts the entries of `run`, appends their pieces to `sorted`, and clears `run`. The gap before the first entry
-    /// stays where it was.
+    /// Sorts the entries of `run`, appends their pieces to `sorted`, and clears `run`. The gap before the whole run
+    /// stays the same.
     fn end_run(&mut self, alloc: Global) -> Result<(), AllocError> {
         let mut run = Vec::new(alloc);
         run.append(&mut self.run)?;

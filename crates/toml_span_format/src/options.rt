@@ -6,8 +6,8 @@ ghost use Rattle.std.specs.Prelude.{◌≡◌};
 pub struct Options {
     /// The width of a line in characters. An array is written on one line only if it ends within this width.
     pub width: usize,
-    /// The number of spaces by which elements on lines of their own are indented, per level. No line is indented by
-    /// more than `width` spaces.
+    /// The number of spaces by which elements on separate lines are indented, per level. No line is indented by more
+    /// than `width` spaces.
     pub indent: usize,
 }
 

@@ -19,7 +19,7 @@ struct Named<'s, 't> {
     assignment: &'s Assignment<'t>,
 }
 
-/// Returns the assignments, sorted by the names of their keys.
+/// Returns the assignments, sorted by their keys.
 fn sorted<'s, 't>(
     alloc: Global,
     assignments: &'s [Assignment<'t>],
@@ -67,7 +67,8 @@ fn permuted_pairs(
     Ok(same_named(before.as_slice(), after.as_slice()))
 }
 
-/// Returns whether two sections are equal, without regard to spans and the order of assignments (`permuted_pairs`).
+/// Returns whether two sections are equal, without regard to spans and the order of assignments. May return `false`
+/// like `permuted_pairs`.
 fn permuted_section(alloc: Global, a: &Section<'_>, b: &Section<'_>) -> Result<bool, AllocError>
     ensures { IfOk result (λ same. IsTrue same → spec.PermutedSection (parsed_section a.now) (parsed_section b.now)) }
 {
@@ -78,7 +79,7 @@ fn permuted_section(alloc: Global, a: &Section<'_>, b: &Section<'_>) -> Result<b
 }
 
 /// Returns whether two lists of sections are equal, without regard to spans and the order of the assignments in each
-/// section (`permuted_pairs`).
+/// section. May return `false` like `permuted_pairs`.
 pub(crate) fn permuted_sections(
     alloc: Global,
     a: &[Section<'_>],

@@ -1,6 +1,6 @@
 //! The pieces of a document: everything except white space, line ends and commas.
 
-/// What separates a piece from the previous piece in the source. Commas do not count.
+/// The line ends between a piece and the previous piece in the source. Commas do not count.
 #[derive(Clone, Copy, PartialEq, Eq)]
 pub(crate) enum Gap {
     /// No line end.
@@ -43,7 +43,7 @@ pub(crate) enum Form {
 /// The kind of a piece.
 #[derive(Clone, Copy, PartialEq, Eq)]
 pub(crate) enum Kind {
-    /// The bracket or brackets that begin a header.
+    /// The first bracket of a header.
     Header,
     /// The first part of a key.
     Key,

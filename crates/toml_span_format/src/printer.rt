@@ -24,7 +24,7 @@ struct Frame {
     reserved: usize,
 }
 
-/// The output so far, and what is open. If an allocation fails, the output is dropped.
+/// The output so far, and the open arrays and inline tables. If an allocation fails, the output is dropped.
 #[derive(Drop)]
 struct Printer {
     out: String,
@@ -79,8 +79,8 @@ impl Printer {
         self.column
     }
 
-    /// Begins an element of the innermost open array or inline table: on a new line, or on the same line, after a comma
-    /// if there is an element before. Does nothing if no array or inline table is open.
+    /// Begins an element of the innermost open array or inline table: on a new line, or on the same line, with a comma
+    /// after the previous element. Does nothing if no array or inline table is open.
     fn begin_element(&mut self, gap: Gap) -> Result<(), AllocError> {
         let Some(frame) = self.open.last_mut() else {
             return Ok(());

@@ -6,7 +6,7 @@ use toml_span_lex::stop::Stop;
 use toml_span_lex::tokenizer::Tokenizer;
 use toml_span_lex::tokens::{Error, Token};
 
-/// What the next tokens belong to.
+/// The part of the document to which the next tokens belong.
 #[derive(Clone, Copy, PartialEq, Eq)]
 enum Place {
     /// A header, or the key of a line.
@@ -46,7 +46,7 @@ impl Frame {
         self.width.saturating_add(commas).saturating_add(brackets)
     }
 
-    /// Returns the form in which to write the array or inline table. An inline table without line ends, comments and a
+    /// Returns the form in which to write the array or inline table. An inline table without line ends, comments or a
     /// trailing comma stays on one line, because TOML 1.0 allows no line ends in inline tables.
     fn form(&self) -> Form {
         if self.has_comment || self.ends_in_comma {
@@ -61,7 +61,7 @@ impl Frame {
     }
 }
 
-/// The pieces read so far, and what is open. If an allocation fails, they are dropped.
+/// The pieces read so far, and the open arrays and inline tables. If an allocation fails, all are dropped.
 #[derive(Drop)]
 struct Reader<'t> {
     text: &'t str,
@@ -73,7 +73,7 @@ struct Reader<'t> {
     place: Place,
     /// Whether the last piece is a scalar that the next token may continue.
     in_scalar: bool,
-    /// What separates the next token from the last piece.
+    /// The gap between the last piece and the next token.
     gap: Gap,
     /// Whether there is a comma on the current line, after the last piece. A line with only a comma does not count as
     /// blank.
@@ -86,7 +86,7 @@ struct Reader<'t> {
 #[derive(Drop)]
 pub(crate) struct Pieces<'t> {
     pub(crate) pieces: Vec<Piece<'t>>,
-    /// The first line end outside strings, or LF if there is none.
+    /// The first line end of the text outside strings, or LF if the text has none.
     pub(crate) line_end: &'static str,
 }
 
@@ -156,8 +156,8 @@ impl<'t> Reader<'t> {
         }
     }
 
-    /// Appends a comment to `pieces`. A comment between a key and its value thus comes before the key, on a line of its
-    /// own.
+    /// Appends a comment to `pieces`. This moves a comment between a key and its value before the key, onto a line of
+    /// its own.
     fn comment(&mut self, text: &'t str, start: usize) -> Result<(), AllocError> {
         let mut piece = self.piece(Kind::Comment, text, start);
         if let Some(key) = self.key.first_mut() {
@@ -274,8 +274,8 @@ impl<'t> Reader<'t> {
         Ok(())
     }
 
-    /// Adds the columns and line ends of `frame`, which was just closed, to the innermost open array or inline table,
-    /// if there is one. `form` is the form of `frame`.
+    /// Adds the columns of `frame`, which was just closed, to the innermost open array or inline table, if there is
+    /// one. Also updates `has_line_end` and `has_lines` there. `form` is the form of `frame`.
     fn hold(&mut self, frame: &Frame, form: Form) {
         self.widen(frame.whole_width());
         if let Some(outer) = self.open.last_mut() {

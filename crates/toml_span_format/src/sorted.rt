@@ -93,7 +93,7 @@ fn is_permuted(
 /// # Errors
 ///
 /// `FormatError::Invalid` if the text can't be read as TOML, or `Stop::Memory` if an allocation fails.
-/// `FormatError::WouldDiffer` is a bug of the formatter.
+/// `FormatError::WouldDiffer` is a bug in the formatter.
 pub fn format_sorted<'t>(
     alloc: Global,
     text: &'t str,

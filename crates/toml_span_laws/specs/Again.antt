@@ -51,7 +51,7 @@ assignment_again v i j =
       extent = record { start = 0; end = (j + 4) - i };
     }
 
--- The text from i to j spells the value again: `x = ` followed by it is a document of only that assignment.
+-- The text from i to j spells the value again: `x = ` followed by this text is a document of only that assignment.
 abbrev pub SpellsAgain : ParsedValue → List ℕ → ℕ → ℕ → ℕ → Type 0
 SpellsAgain v t limit i j =
     SpellsDocument (headerless_section (assignment_again v i j ∷ [])) (assigned_again t i j) limit
@@ -60,7 +60,7 @@ SpellsAgain v t limit i j =
 abbrev pub ReadsAgain : List ℕ → ℕ → ParsedValue → Type 0
 ReadsAgain t limit v = SpellsAgain v t limit (parsed_span v).start (parsed_span v).end
 
--- Strings are left out, because their spans do not include the quotes.
+-- The text at the span of the scalar spells it again. Strings are left out, because their spans exclude the quotes.
 abbrev pub ScalarReadsAgain : List ℕ → ℕ → Scalar → Span → Type 0
 ScalarReadsAgain t limit (text value) span = Unit {0}
 ScalarReadsAgain t limit (integer n) span = ReadsAgain t limit (parsed (scalar (integer n)) span)
@@ -97,13 +97,13 @@ SectionsReadAgain t limit (b ∷ bs) = AssignmentsReadAgain t limit b.assignment
 
 -- ---- a value written over a scalar
 
--- the text with this part in place of what is from i to j
+-- the text with this part in place of the bytes from i to j
 abbrev pub with_part : List ℕ → ℕ → ℕ → List ℕ → List ℕ
 with_part t i j part = take i t ++ (part ++ drop j t)
 
--- The text from i to j is this scalar, with this span. If a part that is read as some value wherever it occurs is put
--- in place of the scalar, it is read there as that value, from its first byte to its last. Each value that is spelled
--- after the scalar is spelled in the new text too, moved.
+-- The text from i to j is this scalar, with this span. Suppose that a part that is read as some value wherever it
+-- occurs replaces the scalar. Then the part is read there as that value, from its first byte to its last. Each value
+-- that is spelled after the scalar is spelled in the new text too, with its spans moved.
 pub record TakesAnother (t : List ℕ) (s : Scalar) (span : Span) : Type 0 where
   pub i : ℕ
   pub j : ℕ

@@ -9,7 +9,7 @@ abbrev pub IsIn : Claim → List Claim → Type 0
 IsIn c [] = ⊥
 IsIn c (d ∷ ds) = (c ≡ d) ⊎ IsIn c ds
 
--- An earlier claim clashes with a later one.
+-- The claim d clashes with the earlier claim c.
 abbrev pub DoClash : Claim → Claim → Type 0
 DoClash c d = (t : NamedClash) × (clash c d ≡ Some t)
 
@@ -20,8 +20,8 @@ IsPair earlier no_claims c d = ⊥
 IsPair earlier (claimed x cs) c d = ((d ≡ x) × IsIn c earlier × DoClash c d) ⊎ IsPair (earlier ++ (x ∷ [])) cs c d
 IsPair earlier (scope inner cs) c d = IsPair [] inner c d ⊎ IsPair earlier cs c d
 
--- The two clash. The later one starts before every other claim that clashes with an earlier one of its scope, and the
--- earlier one before every other one that clashes with the later one.
+-- The claim d clashes with c, an earlier claim of its scope. The claim d starts before every other claim that clashes
+-- with an earlier one of its scope, and c starts before every other earlier claim that clashes with d.
 pub record IsFirstPair (earlier : List Claim) (cs : Claims) (c d : Claim) : Type 0 where
   pub pair : IsPair earlier cs c d
   pub first : (e f : Claim) → IsPair earlier cs e f → (f ≡ d) ⊎ (claim_start d < claim_start f)

@@ -24,7 +24,7 @@ HasPlaceAt pointer places P =
 
 -- ---- the part of a flat document below a path, and the value that shows it
 
--- A value shows its own place, without the span of its key.
+-- the place without the span of its key, which the value alone does not have
 abbrev pub without_key : Place → Place
 without_key x = record { shape = x.shape; key_span = None; span = x.span }
 
@@ -37,7 +37,7 @@ subtree places path (s ∷ p) = places (path ++ (s ∷ p))
 abbrev pub IsValueOf : (Path → Option Place) → Node → Type 0
 IsValueOf places n = IsOrdered n × ShowsExactly n places
 
--- The pointer's segments name the steps of a path, and this is the value at that path.
+-- The pointer's segments name the steps of a path, and this is the value that shows the places at that path and below.
 abbrev pub PointsAt : List ℕ → (Path → Option Place) → Node → Type 0
 PointsAt pointer places n =
     (names : List (List ℕ)) × (path : Path) × (pointer_segments pointer ≡ Some names) × NamesPath names path

@@ -14,13 +14,13 @@ use Rattle.toml_span_typed.specs.TableHelper.{State, Starved, keeping, missing, 
 use Rattle.toml_span_typed.specs.Errors.{Errors, all}
 use Rattle.toml_span_laws.specs.Document.{IsValueOf, subtree}
 
--- the places of a table without those of a name
+-- the places of a table without those at the key with this name and below
 abbrev pub hide : List ℕ → (Path → Option Place) → Path → Option Place
 hide name places [] = places []
 hide name places (position i ∷ p) = places (position i ∷ p)
 hide name places (key other ∷ p) = if bytes_eq name other then None else places (key other ∷ p)
 
--- the places of a table without those of these names
+-- the places of a table without those at the keys with these names and below
 abbrev pub except : List (List ℕ) → (Path → Option Place) → Path → Option Place
 except [] places = places
 except (name ∷ names) places = except names (hide name places)
@@ -38,13 +38,13 @@ table_of s = node (table s.members) s.span
 abbrev pub IsOver : (Path → Option Place) → State → Type 0
 IsOver places s = IsValueOf (except s.asked places) (table_of s)
 
--- This is a possible result of reading the value of these places.
+-- This is a possible result of reading the value that shows these places.
 abbrev pub ReadsPart : {T : Type 0} → (Node → Result T Errors → Node → Type 0) → (Path → Option Place) → Result T Errors
     → Type 0
 ReadsPart reads places answer = (value : Node) × (left : Node) × IsValueOf places value × reads value answer left
 
--- `required`, where `places` are those of the table without the names recorded before: the result of reading the value
--- below the key; `MissingField` if there is none; or the last of the errors of the read, which are kept
+-- `required`, where `places` are those of the table without the names recorded before: the element that is read from
+-- the value at the key; or `MissingField` if the key is missing; or the last error of the read, after keeping them all
 abbrev pub RequiresAt : {T : Type 0} → (Node → Result T Errors → Node → Type 0) → List ℕ → (Path → Option Place) → State
     → Result T (Stop Error) → State → Type 0
 RequiresAt reads name places before (Ok x) after =
@@ -55,7 +55,8 @@ RequiresAt reads name places before (Err (stop.Fault error)) after = MatchOption
     × (content_of error ≡ faults.last) × (after ≡ keeping (all faults) (noted name before)))
 RequiresAt reads name places before (Err (stop.Memory error)) after = Starved name before after
 
--- `optional`: None if there is nothing below the key, and then no error is kept; otherwise as `required`
+-- `optional`: the element that is read from the value at the key; or None if the key is missing, and then no error is
+-- kept; or None after keeping all errors of the read
 abbrev pub TriesAt : {T : Type 0} → (Node → Result T Errors → Node → Type 0) → List ℕ → (Path → Option Place) → State
     → Result (Option T) AllocError → State → Type 0
 TriesAt reads name places before (Ok (Some x)) after =
@@ -72,7 +73,7 @@ left_over asked span rest =
     where_filled rest
     (record { kind = unexpected_keys (remaining_keys rest) asked; span = span; line_info = None } ∷ [])
 
--- `finalize(None)` with errors: those that were kept, and then that of the remaining keys
+-- `finalize(None)` with errors: those that were kept, and then the error for the remaining keys, if there are any
 abbrev pub EndsWith : (Path → Option Place) → State → Errors → Type 0
 EndsWith places s faults =
     (rest : Members) × IsValueOf (except s.asked places) (node (table rest) s.span)

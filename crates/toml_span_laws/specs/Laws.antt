@@ -27,7 +27,7 @@ pub record ShowsString (text value : List ℕ) (span : Span) : Type 0 where
   pub content : (IsEmptyOnOneLine i j → ⊥) → CutsContent text i j span value multi
   pub opening : IsEmptyOnOneLine i j → (value ≡ []) × (span ≡ record { start = i; end = i + 1 })
 
--- The text at the span of the value is read as that value again. Nothing is said about strings.
+-- The text at the span of the value is read as that value again. Strings are left out.
 abbrev pub ValueReadsAgain : List ℕ → ℕ → read.ParsedValue → Type 0
 ValueReadsAgain text limit (read.parsed (read.scalar s) span) = ScalarReadsAgain text limit s span
 ValueReadsAgain text limit (read.parsed (read.array items) span) =

@@ -23,7 +23,7 @@ abbrev pub StandsMoved : ℕ → ℕ → (Path → Option Place) → Path → (P
 StandsMoved from to places path others other =
     (p : Path) → subtree others other p ≡ option_map (moved_place from to) (subtree places path p)
 
--- A claim in these sections assigns an array in brackets or an inline table.
+-- The claim is made in these sections, and assigns an array in brackets or an inline table.
 abbrev pub AssignsBrackets : List ParsedSection → Claim → Type 0
 AssignsBrackets sections c =
     IsIn c (all_claims (claims sections)) × (c.info.kind ≡ Assigned) × ((s : Scalar) → c.place.shape ≢ shape_scalar s)
@@ -32,6 +32,6 @@ AssignsBrackets sections c =
 abbrev pub text_again : List ℕ → Span → List ℕ
 text_again text span = assigned_again text span.start span.end
 
--- the path of its only assignment
+-- the path of the only assignment in `text_again`
 abbrev pub at_x : Path
 at_x = key (codes "x") ∷ []

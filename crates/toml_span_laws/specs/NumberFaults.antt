@@ -21,7 +21,7 @@ pub record AfterDot (text : List ℕ) (i a b end : ℕ) : Type 0 where
   pub dot : slice_index text b ≡ period
   pub run : MaximalRun is_keylike text (b + 1) end
 
--- An `e` or `E` is in the first run or in the one after the dot, which ends at `end`.
+-- An `e` or `E` is at the offset `at`, in the first run or in the run after the dot. That run ends at `end`.
 pub record Letter (text : List ℕ) (i at end : ℕ) : Type 0 where
   pub a : ℕ
   pub b : ℕ
@@ -30,15 +30,15 @@ pub record Letter (text : List ℕ) (i at end : ℕ) : Type 0 where
   pub inside : (FirstRun text i a end × (a ≤ at)) ⊎ (AfterDot text i a b end × (b < at))
 
 -- The digits of an exponent are expected from `from` to `end`, after a sign that may be at `start`: in the rest of the
--- run of its letter or, if that ends the run and a plus follows, in the run after the plus.
+-- run of its letter or, if the letter ends that run and a plus follows, in the run after the plus.
 pub data ExponentPart (text : List ℕ) (i : ℕ) : ℕ → ℕ → ℕ → Type 0 where
   in_its_run : (at end : ℕ) → Letter text i at end → at + 1 < end
       → ExponentPart text i (at + 1) (after_sign text (at + 1)) end
   after_its_plus : (at b end : ℕ) → Letter text i at b → b ≡ at + 1 → slice_index text b ≡ plus
       → MaximalRun is_keylike text (b + 1) end → b + 1 < end → ExponentPart text i (b + 1) (b + 1) end
 
--- Digits of this radix are expected from `from` to `end`. Their digit part begins at `start`: it is the first run,
--- after its prefix, the run after the dot, or that of an exponent.
+-- Digits of this radix are expected from `from` to `end`. Their digit part begins at `start`: it is the first run
+-- without its prefix, the run after the dot, or the part of an exponent (`ExponentPart`).
 pub data DigitPart (text : List ℕ) (i : ℕ) : ℕ → ℕ → ℕ → ℕ → Type 0 where
   in_first_run : (a b : ℕ) → FirstRun text i a b → radix_at text a ≡ None → DigitPart text i 10 a (after_sign text a) b
   after_prefix : (radix a b : ℕ) → FirstRun text i a b → radix_at text a ≡ Some radix
@@ -54,10 +54,10 @@ pub data NumberFault (text : List ℕ) (i : ℕ) : ℕ → ℕ → Type 0 where
   -- nothing after a plus: the empty span after the plus
   lone_plus : slice_index text i ≡ plus → is_keylike (slice_index text (i + 1)) ≡ false
       → NumberFault text i (i + 1) (i + 1)
-  -- a plus before `-` or a prefix: both and the run
+  -- a plus before `-` or a prefix: the plus and the run
   plus_before : (b : ℕ) → slice_index text i ≡ plus → MaximalRun is_keylike text (i + 1) b
       → (slice_index text (i + 1) ≡ dash) ⊎ (is_some (radix_at text (i + 1)) ≡ true) → NumberFault text i i b
-  -- no digits, two underscores in a row, or one after the last digit: the digit part
+  -- no digits, two underscores in a row, or an underscore after the last digit: the digit part
   no_digits : (radix start from end : ℕ) → DigitPart text i radix start from end
       → ((j : ℕ) → Digits radix text from j → ⊥) → NumberFault text i start end
   -- an underscore first: the rest of the run
@@ -80,7 +80,7 @@ pub data NumberFault (text : List ℕ) (i : ℕ) : ℕ → ℕ → Type 0 where
   -- other characters after the digits that follow a prefix: the first run without the prefix
   other_after_prefix : (radix a b m : ℕ) → FirstRun text i a b → radix_at text a ≡ Some radix
       → Digits radix text (a + 2) m → m < b → NumberFault text i (a + 2) b
-  -- a fraction after `inf` or `nan`: that run
+  -- a fraction after `inf` or `nan`: the first run, which is that word
   fraction_of_word : (a b end : ℕ) → AfterDot text i a b end → b + 1 < end
       → is_some (special (is_negative text a) (slice_range text (after_sign text a) b)) ≡ true → NumberFault text i a b
   -- nothing after the dot: the whole number, with the dot
@@ -91,7 +91,7 @@ pub data NumberFault (text : List ℕ) (i : ℕ) : ℕ → ℕ → Type 0 where
       → Digits radix text from end → signed negative (magnitude radix text from end) ≡ None
       → NumberFault text i start end
 
--- the number at i has this fault
+-- The number at i has this fault.
 abbrev pub IsNumberFault : List ℕ → ℕ → Fault → Type 0
 IsNumberFault text i fault =
     NumberFault text i fault.span.start fault.span.end × (fault ≡ invalid_number fault.span.start fault.span.end)

@@ -5,7 +5,7 @@ use Rattle.toml_span_tree.specs.Path.{Path, Place}
 use Rattle.toml_span.specs.Claims.{Claim}
 use Rattle.toml_span.specs.declared.claims.ClaimKind.TheVariants.{ArrayOfTables, TableElement}
 
--- the start of the key that makes the claim, or of the element
+-- the start of the key that makes the claim; for an element of an array in brackets, the start of the element
 abbrev pub claim_start : Claim → ℕ
 claim_start c = c.info.key.start
 
@@ -16,7 +16,7 @@ Follows c d =
     (claim_start c < claim_start d)
     ⊎ ((c.info.kind ≡ ArrayOfTables) × (d.info.kind ≡ TableElement) × (c.info.key ≡ d.info.key))
 
--- each claim follows the one before it
+-- Each claim follows the one before it.
 abbrev pub Ascends : List Claim → Type 0
 Ascends [] = ⊤
 Ascends (c ∷ []) = ⊤

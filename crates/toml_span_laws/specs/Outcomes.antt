@@ -1,5 +1,5 @@
--- The outcome of a text, and the answer for an outcome. `IsParseResult` says that the text has an outcome, and that
--- the result is the answer for it.
+-- The outcome of a text, and the possible results of `parse` for an outcome. `IsParseResult` states that the text has
+-- an outcome, and that the result is possible for it.
 use Rattle.std.specs.Prelude.{◌≡◌, ⊤, ℕ, List, Some, Result, Ok, Err, length}
 use Rattle.toml_span_lex.specs.declared.stop.Stop.{Stop}
 use Rattle.toml_span_lex.specs.declared.stop.Stop.TheVariants as stops
@@ -30,8 +30,8 @@ HasOutcome text limit (clashed sections clash) =
     document text limit (Ok sections) × (first_clash (claims sections) ≡ Some clash)
 HasOutcome text limit (refused_at fault) = document text limit (Err fault)
 
--- The answer for an outcome: the tree of these sections, or the error that reports this clash or this fault, with a
--- span that starts inside the text. A failed allocation is an answer for any outcome.
+-- The result of `parse` for an outcome: the tree of these sections, or the error that reports this clash or this fault,
+-- with a span that starts inside the text or at its end. A failed allocation is possible for any outcome.
 abbrev pub IsAnswerOf : List ℕ → Outcome → Result Value (Stop Error) → Type 0
 IsAnswerOf text (resolved sections) (Ok root) = IsTreeOf sections (length text) root
 IsAnswerOf text (clashed sections clash) (Err (stops.Fault error)) =

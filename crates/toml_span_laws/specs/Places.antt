@@ -1,4 +1,4 @@
--- The spans of headers, keys, values and brackets: their order in the text, and those between the quotes of a string.
+-- The spans of headers, keys, values and brackets, in the order of the text, and the spans of the contents of strings.
 use Rattle.std.specs.Prelude.{◌≡◌, ℕ, ◌≤◌, Bool, List, [], ◌∷◌, ◌++◌, slice_index}
 use Rattle.toml_span_lex.specs.declared.span.Span.{Span}
 use Rattle.toml_span_lex.specs.Strings.{ContentFrom, IsContent, content_end}
@@ -8,8 +8,8 @@ use Rattle.toml_span_read.specs.Places.{Ascend, Inside}
 
 -- ---- in the order of the text
 
--- From i to j there are these assignments, each after the one before it: the parts of its key follow each other, and
--- its value comes after them.
+-- From i to j there are these assignments, each after the one before it. In each, the parts of the key follow each
+-- other, and the value comes after them.
 abbrev pub AssignmentsAscend : List ParsedAssignment → ℕ → ℕ → Type 0
 AssignmentsAscend [] i j = i ≤ j
 AssignmentsAscend (ev ∷ evs) i j =
@@ -30,7 +30,7 @@ abbrev pub part_starts : List SimpleKey → List ℕ
 part_starts [] = []
 part_starts (p ∷ ps) = p.span.start ∷ part_starts ps
 
--- the starts of the parts of the keys in a value, at any depth
+-- the starts of the parts of the keys in a value, at any depth, in the order of the text
 abbrev mutual
   pub key_starts : ParsedValue → List ℕ
   key_starts (parsed k span) = inner_key_starts k

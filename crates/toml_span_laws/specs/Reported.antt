@@ -16,14 +16,14 @@ use Rattle.toml_span_read.specs.declared.fault.FaultKind.TheVariants as kinds
 abbrev pub TokenTo : List ℕ → ℕ → ℕ → Type 0
 TokenTo text i j = ((span : Span) × (l : Lexeme) × IsLexeme text i j span l) ⊎ ((i ≡ length text) × (j ≡ i))
 
--- A fault of this kind with the span s reports the bytes up to j:
+-- A fault of this kind with the span s reports bytes of the text up to the offset j:
 -- for a token other than the expected one, and for a multi-line string as a key, up to the end of the token;
 -- if the text ends too early, up to its end;
 -- for a character that is not allowed, up to its end, or up to the end of the spaces and tabs after a backslash;
 -- for an escape value, up to the end of its digits;
 -- for a number, up to the end of all letters, digits, dashes, underscores, colons, dots and plus signs;
 -- for a date or an unquoted string, up to the end of the span;
--- beyond the limit, up to the end of the string or key, or of the first byte of another value;
+-- for a value or key beyond the limit, up to the end of the string or key, or of the first byte of another value;
 -- for a key through a value, up to the end of its line or, in an inline table, of its value, whose closing quotes are
 -- after the span.
 abbrev pub ReportsTo : FaultKind → List ℕ → Span → ℕ → Type 0
@@ -44,11 +44,11 @@ ReportsTo kinds.ExceededDepthLimit text s j = TokenTo text s.start j ⊎ ((s.end
 ReportsTo (kinds.DottedKeyInvalidType first) text s j =
     (m : ℕ) × (s.end ≤ m) × (m ≤ s.end + 3) × ((j ≡ m) ⊎ Tail text m j)
 
--- the same for a fault
+-- The fault reports bytes of the text up to the offset j (see `ReportsTo`).
 abbrev pub EndsReported : List ℕ → Fault → ℕ → Type 0
 EndsReported text fault j = ReportsTo fault.kind text fault.span j
 
--- whether what was found is one byte, or a line end
+-- whether the token that was found is a single byte or a line end
 abbrev pub is_whole : FoundToken → Bool
 is_whole found_tokens.EndOfText = false
 is_whole found_tokens.Whitespace = false
@@ -58,8 +58,9 @@ is_whole found_tokens.OneLineString = false
 is_whole found_tokens.MultilineString = false
 is_whole found = true
 
--- How many bytes after that end decide whether there is a fault of this kind: none after a token of one byte or a line
--- end; two after a number, a date, an invalid escape, a key through a value, and beyond the limit; otherwise one.
+-- How many bytes after the reported ones can decide whether there is a fault of this kind: none after a token of one
+-- byte or a line end; two after a number, a date, an invalid escape, a key through a value, and a value or key beyond
+-- the limit; otherwise one.
 abbrev pub ahead : FaultKind → ℕ
 ahead (kinds.Wanted expected found) = if is_whole found then 0 else 1
 ahead kinds.InvalidNumber = 2

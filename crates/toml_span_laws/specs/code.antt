@@ -1,2 +1,2 @@
--- How the functions share the work. Nothing else in `specs/` cites it.
+-- Definitions that only inner functions need. Nothing else in `specs/` cites them.
 pub mod Judged

@@ -1,4 +1,5 @@
-//! Laws: the text of a value is read as that value again.
+//! Laws: in another document, the text of a value is read as that value again. A text *spells* a value if, by the
+//! grammar, it is a way to write that value.
 ghost use Rattle.std.specs.Prelude.{◌≡◌, ◌≤◌, ◌++◌, ℕ, true, List, Some, codes, length, slice_range};
 ghost use Rattle.toml_span_lex.specs.declared.span.Span.{Span};
 ghost use Rattle.toml_span_tree.specs.Node.{Node, Scalar};
@@ -13,8 +14,9 @@ ghost use Rattle.toml_span_laws.specs.Replaced.{TakesScalar, literal_text};
 ghost use Rattle.toml_span_laws.specs.Again.{ReadsAsScalar, SpellsAgain, SpellsAssignment, SectionsReadAgain};
 ghost use Rattle.toml_span_laws.specs.Again.{TakesAnother};
 
-/// If a text spells a value, then `x = ` followed by that text is a document with one assignment, whose key is `x`, and
-/// whose value is the same, with all spans moved. In this sense, the text spells the value again.
+/// If the bytes of a text from `i` to `j` spell a value, then `x = ` followed by these bytes is a document with one
+/// assignment. Its key is `x`, and its value is the same, with all spans moved. In this sense, the bytes spell the
+/// value again.
 pub fn spelled_again()
     ensures { (text : List ℕ) (limit depth i j : ℕ) (v : ParsedValue) → 1 ≤ depth → Spells v text limit depth i j
         → SpellsAgain v text limit i j }
@@ -27,24 +29,24 @@ pub fn values_read_again()
         → SectionsReadAgain text limit sections }
 {}
 
-/// In the tree of a text, the text of each float is a literal of that float. So the result of `to_toml` for a value of
-/// the tree can be read again, if the value is within the depth limit of that read.
+/// In the tree of a text, the stored text of each float is a literal of that float. So the result of `to_toml` for a
+/// value of the tree can be read again, if the value is within the depth limit of that read.
 pub fn float_texts()
     ensures { (text : List ℕ) (limit : ℕ) (root : Value) → IsTree text limit root → HasFloatTexts (view root) }
 {}
 
-/// In a text that has a tree, each scalar can be replaced with a piece of text that is read as some value wherever the
-/// piece occurs, such as a result of `to_toml`. The piece is read as that value there, and all values after the scalar
-/// are spelled as before. The new value must be whole and within the depth limit, and the texts of its floats must be
-/// valid.
+/// In a text that has a tree, each scalar can be replaced with the text of any value, such as a result of `to_toml`.
+/// The new text is read as that value, and all values after it are the same as before, with moved spans. The text of
+/// the new value must be one that is read as that value wherever it occurs. The value must be whole and within the
+/// depth limit, and the texts of its floats must be valid.
 pub fn written_over()
     ensures { (text : List ℕ) (limit : ℕ) (root : Value) (path : Path) (place : Place) (s : Scalar)
         → IsTree text limit root → place_at path (view root) ≡ Some place → place.shape ≡ shape_scalar s
         → TakesAnother text s place.span }
 {}
 
-/// Wherever the text of a scalar occurs, it is read as that scalar, unless the bytes after the text continue it. For a
-/// scalar in the tree of a text, this is the text at the span that `literal_span` returns.
+/// Wherever the text of a scalar occurs, it is read as that scalar, unless the bytes after the text continue it. If a
+/// scalar is in the tree of a document, its text is the one at the span that `literal_span` returns.
 pub fn scalar_texts()
     ensures spelled { (s : Scalar) (span : Span) (text : List ℕ) (i j : ℕ) → i ≤ j → j ≤ length text
         → SpellsScalar s span text i j → ReadsAsScalar s (slice_range text i j) }

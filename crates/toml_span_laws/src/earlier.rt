@@ -5,7 +5,7 @@ ghost use Rattle.toml_span_read.specs.declared.fault.FaultKind.TheVariants as ki
 ghost use Rattle.toml_span_read.specs.Data.{ParsedAssignment, SimpleKey, parsed_span, from_to};
 ghost use Rattle.toml_span_read.specs.Earlier.{crossing, last_span, part_names};
 
-/// If a key goes through no earlier value, no proper prefix of its parts has the same names as an earlier key.
+/// If a key goes through no earlier value, then no earlier key has the same names as a proper prefix of its parts.
 pub fn clear_keys_pass_no_value()
     ensures { (earlier : List ParsedAssignment) (next : ParsedAssignment) (outer rest : List SimpleKey)
         (part more : SimpleKey)
@@ -13,10 +13,10 @@ pub fn clear_keys_pass_no_value()
         → AllByRecursion (λ e. part_names e.parts ≢ part_names (outer ++ (part ∷ []))) earlier }
 {}
 
-/// If a proper prefix of a key's parts has the same names as an earlier key, and the key goes through no value before
-/// the last part of the prefix, the fault is `DottedKeyInvalidType`, with the span of the last part of the first such
-/// earlier key. The span of the fault itself is from the last part of the prefix to the end of the assigned value's
-/// span.
+/// Suppose that a proper prefix of a key's parts has the same names as an earlier key, and that the key goes through no
+/// value before the last part of the prefix. Then the fault is `DottedKeyInvalidType`, and its `first` is the span of
+/// the last part of the first earlier key with these names. The fault spans from the last part of the prefix to the end
+/// of the assigned value's span.
 pub fn first_value_met_is_the_fault()
     ensures { (before after : List ParsedAssignment) (found next : ParsedAssignment) (outer rest : List SimpleKey)
         (part more : SimpleKey)

@@ -6,9 +6,9 @@ ghost use Rattle.toml_span_read.specs.Grammar.{SpellsDocument};
 ghost use Rattle.toml_span_read.specs.Read.{document};
 ghost use Rattle.toml_span_laws.specs.Reported.{EndsReported, ahead};
 
-/// Nothing after a fault matters. Take the bytes up to the end of what the fault reports (`EndsReported`), and up to
-/// two more, depending on the kind of the fault (`ahead`). Every other text that begins with these bytes has the same
-/// fault. If the text ends before that, the law says nothing about other texts.
+/// Nothing after a fault matters. Take the bytes of the text up to the end of those that the fault reports
+/// (`EndsReported`), and up to two more, depending on the kind of the fault (`ahead`). Every other text that begins
+/// with these bytes has the same fault. If the text ends earlier, the law does not apply to other texts.
 pub fn nothing_after_a_fault_matters()
     ensures { (text : List ℕ) (limit : ℕ) (fault : Fault) → document text limit (Err fault)
         → (end : ℕ) × EndsReported text fault end
@@ -16,8 +16,8 @@ pub fn nothing_after_a_fault_matters()
         → document other limit (Err fault)) }
 {}
 
-/// A fault is reported only if no document within the depth limit `limit` begins with the same bytes. These are the
-/// bytes up to the end of what the fault reports (`EndsReported`), and up to two more (`ahead`).
+/// A text has a fault only if no document within the depth limit `limit` begins with the same bytes as the text. These
+/// are the bytes up to the end of those that the fault reports (`EndsReported`), and up to two more (`ahead`).
 pub fn no_document_goes_on_after_a_fault()
     ensures { (text : List ℕ) (limit : ℕ) (fault : Fault) → document text limit (Err fault)
         → (end : ℕ) × EndsReported text fault end

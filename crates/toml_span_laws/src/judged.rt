@@ -1,4 +1,5 @@
-//! Laws: at each character boundary of a text, each form of the grammar is either present or absent.
+//! Laws: at each character boundary of a text, each form that can be read independently of others, such as a token or a
+//! dot, is either present or absent.
 ghost use Rattle.std.specs.Prelude.{◌≡◌, ℕ, true, Result};
 ghost use Rattle.std.specs.Str.{IsCharBoundary};
 ghost use Rattle.toml_span_tree.specs.Node.{Scalar};
@@ -24,7 +25,8 @@ pub fn date_or_fault(text: &str, at: usize)
 }
 
 /// At a character boundary, each form that can be read independently of others is either present or absent: a token, a
-/// gap, a run of spaces and tabs, a run of bare key bytes, a dot, the rest of a line, and a date.
+/// gap (blanks, line ends and comments), a run of spaces and tabs, a run of bare key bytes, a dot, the rest of a line,
+/// and a date.
 pub fn place_is_judged(text: &str, at: usize)
     requires { IsCharBoundary text.now at }
     ensures { Judged text.now at }

@@ -1,11 +1,12 @@
-//! Laws about keys.
+//! Laws about keys. A text *spells* a key at an offset if, by the grammar, the bytes there are a way to write that key.
 ghost use Rattle.std.specs.Prelude.{◌≡◌, ◌≤◌, ◌↔◌, ℕ, Bool, List, [], length, Result, Ok};
 ghost use Rattle.toml_span_read.specs.declared.fault.Fault.{Fault};
 ghost use Rattle.toml_span_read.specs.Keys.{SpellsSimpleKey, SpellsKey};
 ghost use Rattle.toml_span_read.specs.Data.{SimpleKey};
 ghost use Rattle.toml_span_read.specs.Read as read;
 
-/// A key can be read at an offset if and only if the text spells it there and it has at most `limit` parts.
+/// A simple key is read at an offset if and only if the text spells it there. A key of one or more parts is read at an
+/// offset if and only if the text spells it there and it has at most `limit` parts.
 pub fn keys_are_read()
     ensures single { (text : List ℕ) (i j : ℕ) (p : SimpleKey)
         → read.simple_key_at text i (Ok (p, j)) ↔ SpellsSimpleKey p text i j }
@@ -13,7 +14,7 @@ pub fn keys_are_read()
         → read.key header text limit [] i (Ok (ps, j)) ↔ (SpellsKey ps text i j × (length ps ≤ limit)) }
 {}
 
-/// Reading a key has at most one result: a key or a fault.
+/// Reading a key at an offset has at most one result: a key or a fault.
 pub fn one_key()
     ensures single { (text : List ℕ) (i : ℕ) (r s : Result (SimpleKey × ℕ) Fault) → read.simple_key_at text i r
         → read.simple_key_at text i s → r ≡ s }

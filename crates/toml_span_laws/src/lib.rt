@@ -1,5 +1,6 @@
-//! Laws about the grammar, about reading and about `parse`: facts that follow from the definitions which contracts
-//! cite.
+//! Laws about the grammar, about reading and about `parse`: facts that follow from the definitions that contracts cite.
+//!
+//! A text *spells* a key, value or document if, by the grammar, it is a way to write that key, value or document.
 #![tactic(auto)]
 
 pub mod again;

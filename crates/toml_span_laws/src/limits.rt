@@ -1,4 +1,4 @@
-//! Laws about documents and limits.
+//! Laws about documents and limits. A text *spells* a document if, by the grammar, it is a way to write that document.
 ghost use Rattle.std.specs.Prelude.{◌≤◌, ℕ, List, Vec, Result, Ok, map};
 ghost use Rattle.std.specs.Global.{Global};
 ghost use Rattle.toml_span_lex.specs.declared.stop.Stop.{Stop};

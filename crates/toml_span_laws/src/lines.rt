@@ -1,4 +1,5 @@
-//! Laws about lines, headers, sections and documents.
+//! Laws about lines, headers, sections and documents. A text *spells* a header, section or document if, by the grammar,
+//! it is a way to write that header, section or document.
 ghost use Rattle.std.specs.Prelude.{◌≡◌, ◌↔◌, ℕ, Bool, false, List, length, map, slice_index, Result, Ok, Err, Vec};
 ghost use Rattle.std.specs.Global.{Global};
 ghost use Rattle.toml_span_lex.specs.declared.stop.Stop.{Stop};
@@ -24,7 +25,7 @@ pub fn documents_are_read()
 {}
 
 /// The text spells each section that is read, with a header or before the first header. The section is within the depth
-/// limit `limit` and inside the text.
+/// limit `limit`, and its headers and keys are inside the text.
 pub fn sections_are_read()
     ensures section { (text : List ℕ) (limit i j : ℕ) (s : Section) → slice_index text i ≡ left_bracket
         → read.section text limit i (Ok (parsed_section s, j)) → SpellsSection (parsed_section s) text limit i j
@@ -64,7 +65,7 @@ pub fn one_header()
         → (ps ≡ qs) × (array ≡ other) × (j ≡ k) }
 {}
 
-/// A header that is spelled is read without a fault.
+/// Reading a header that the text spells causes no fault.
 pub fn header_or_fault()
     ensures { (text : List ℕ) (limit i j : ℕ) (ps : List SimpleKey) (array : Bool) (fault : Fault)
         → SpellsHeader ps array text limit i j → read.header text limit i (Err fault) → ⊥ }
@@ -86,7 +87,7 @@ pub fn document_ascends()
         → SectionsAscend sections 0 (length text) }
 {}
 
-/// All keys and headers of a document, also the keys in its inline tables, are inside the text.
+/// The spans of all keys and headers of a document, also of the keys in its inline tables, are inside the text.
 pub fn sections_inside_the_text()
     ensures { (text : List ℕ) (limit : ℕ) (sections : List Section)
         → SpellsDocument (map parsed_section sections) text limit

@@ -1,4 +1,5 @@
-//! Laws about numbers.
+//! Laws about numbers. A text *spells* a number at an offset if, by the grammar, the bytes there are a way to write
+//! that number.
 ghost use Rattle.std.specs.Prelude.{◌≡◌, ◌||◌, ◌==◌, ℕ, true, List, Ok, Err, slice_index};
 ghost use Rattle.toml_span_lex.specs.Bytes.{is_keylike, plus};
 ghost use Rattle.toml_span_tree.specs.Node.{Scalar};

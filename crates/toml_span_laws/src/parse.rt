@@ -84,7 +84,7 @@ pub fn shown_is_whole()
         → is_whole n ≡ true }
 {}
 
-/// In a tree whose tables are in order, no name occurs twice in a table.
+/// If the names in each table of a tree ascend, no name occurs twice in a table.
 pub fn ordered_has_one_each()
     ensures { (n : Node) → IsOrdered n → HasOneEach n }
 {}
@@ -178,8 +178,9 @@ pub fn bracketed_values_stand_alone()
         (λ path. place_at path (view other)) at_x }
 {}
 
-/// Given the places at all paths, at most one value whose tables are in order has exactly these places. So the flat
-/// document determines the tree of a text, and everything that is computed from the tree, such as its JSON value.
+/// If two values have the same place at each path, and the names in each of their tables ascend, the values are equal.
+/// So the flat document determines the tree of a text, and everything that is computed from the tree, such as its JSON
+/// value.
 pub fn one_tree()
     ensures value { (places : Path → Option Place) (n m : Node) → IsValueOf places n → IsValueOf places m → n ≡ m }
     ensures document { (text : List ℕ) (limit : ℕ) (root : Value) (sections : List ParsedSection)
@@ -209,8 +210,8 @@ pub fn helper_opens_on_a_table()
         → IsOver places s × (s.asked ≡ []) × (s.errors ≡ []) }
 {}
 
-/// `required` reads the value that shows the places of the flat document below the key. If the flat document has
-/// nothing there, or the key was asked for before, `required` fails with `MissingField` for the key, unless an
+/// `required` reads the value that shows the places of the flat document at the key and below. If the flat document has
+/// no place at the key, or the key was asked for before, `required` fails with `MissingField` for the key, unless an
 /// allocation fails. Afterwards, the helper has the entries of the same table, except those that were asked for.
 pub fn required_reads_the_document<'de, T: Deserialize<'de>>()
     ensures reads { (places : Path → Option Place) (name : List ℕ) (before after : State)
@@ -221,9 +222,9 @@ pub fn required_reads_the_document<'de, T: Deserialize<'de>>()
         → IsOver places after }
 {}
 
-/// `optional` reads the value that shows the places of the flat document below the key. Unless an allocation fails, it
-/// returns `None` without keeping an error if and only if the flat document has nothing there, or the key was asked for
-/// before. Afterwards, the helper has the entries of the same table, except those that were asked for.
+/// `optional` reads the value that shows the places of the flat document at the key and below. Unless an allocation
+/// fails, it returns `None` without keeping an error if and only if the flat document has no place at the key or the
+/// key was asked for before. Afterwards, the helper has the entries of the same table, except those asked for.
 pub fn optional_reads_the_document<'de, T: Deserialize<'de>>()
     ensures reads { (places : Path → Option Place) (name : List ℕ) (before after : State)
         (answer : Result (Option T) AllocError) → IsOver places before → Tries T.reads name before answer after

@@ -1,4 +1,4 @@
-//! Laws about reading: each text has exactly one result or fault.
+//! Laws about reading: for each text, there is exactly one result, which may be a fault.
 ghost use Rattle.std.specs.Prelude.{◌≡◌, ◌+◌, ℕ, Bool, List, [], Result};
 ghost use Rattle.std.specs.Str.{IsCharBoundary};
 ghost use Rattle.toml_span_lex.specs.Bytes.{is_blank, MaximalRun};
@@ -11,7 +11,7 @@ ghost use Rattle.toml_span_read.specs.Read as read;
 use crate::judged::places_are_judged;
 use toml_span_lex::tokenizer::first_place;
 
-/// Reading has at most one result: for a value, an assignment, the rest of its line, a header, and a document.
+/// Reading has at most one result: for a value, an assignment, the rest of a line, a header, and a document.
 pub fn one_reading()
     ensures value { (text : List ℕ) (limit left n i : ℕ) (r s : Result read.ValueEnd Fault)
         → read.value text limit left n i r → read.value text limit left n i s → r ≡ s }
@@ -39,7 +39,7 @@ pub fn reading_gives(text: &str)
     let _ = first_place(text);
 }
 
-/// The error `Wanted` calls a token by the same name as the errors of the tokenizer do.
+/// The error `Wanted` and the errors of the tokenizer use the same names for tokens.
 pub fn one_wording()
     ensures { (token : Lexeme) → found_words (found_of token) ≡ words token }
 {}

@@ -9,7 +9,7 @@ ghost use Rattle.toml_span_lines.specs.Lines.{error_line};
 ghost use Rattle.toml_span_lines.specs.Run.{IsAnswer, Runs};
 ghost use Rattle.toml_span_lines.specs.Shown.{ShowsDocument, ShowsRefusal, ShowsPlaces};
 
-/// Given the places at all paths, at most one text can be their lines.
+/// The places at all paths determine the lines that show them: at most one text shows these places.
 pub fn one_text()
     ensures { (places : Path → Option Place) (text other : List ℕ) → ShowsPlaces places text → ShowsPlaces places other
         → text ≡ other }

@@ -1,4 +1,4 @@
-//! Laws about the grammar without dates.
+//! Laws about the grammar without dates and times.
 ghost use Rattle.std.specs.Prelude.{◌≡◌, ◌==◌, ℕ, false, List, slice_index};
 ghost use Rattle.toml_span_lex.specs.Bytes.{colon};
 ghost use Rattle.toml_span_read.specs.Data.{ParsedValue, ParsedSection};

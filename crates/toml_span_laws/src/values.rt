@@ -1,4 +1,5 @@
-//! Laws about values.
+//! Laws about values. A text *spells* a value at an offset if, by the grammar, the bytes there are a way to write that
+//! value.
 ghost use Rattle.std.specs.Prelude.{◌≡◌, ◌≤◌, ◌↔◌, ◌+◌, ◌-◌, ℕ, List, Ok, length};
 ghost use Rattle.toml_span_read.specs.Data.{ParsedValue};
 ghost use Rattle.toml_span_read.specs.Grammar.{Spells};

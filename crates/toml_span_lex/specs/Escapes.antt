@@ -7,7 +7,7 @@ use Rattle.toml_span_lex.specs.Text.{CharAt}
 use Rattle.toml_span_lex.specs.declared.tokens.Error.{Error}
 use Rattle.toml_span_lex.specs.declared.tokens.Error.TheVariants as errors
 
--- the character that a backslash and this letter stand for, if no digits follow: `escape-seq-char = %x22 / %x5C / %x62
+-- the character that a backslash and this letter represent, if no digits follow: `escape-seq-char = %x22 / %x5C / %x62
 -- / %x65 / %x66 / %x6E / %x72 / %x74`, which is `"`, `\`, b (backspace), e (escape), f (form feed), n (line feed),
 -- r (carriage return) and t (tab)
 abbrev pub simple_escape : ℕ → Option ℕ
@@ -22,8 +22,8 @@ simple_escape c =
     else if c == 0x65 then Some 0x1B
     else None
 
--- `escape-seq-char =/ %x78 2HEXDIG / %x75 4HEXDIG / %x55 8HEXDIG`: how many hexadecimal digits follow this letter
--- (x, u or U) after a backslash
+-- `escape-seq-char =/ %x78 2HEXDIG / %x75 4HEXDIG / %x55 8HEXDIG`: how many hexadecimal digits must follow this letter
+-- after a backslash: none except after x, u and U
 abbrev pub hex_len : ℕ → ℕ
 hex_len c = if c == 0x78 then 2 else if c == 0x75 then 4 else if c == 0x55 then 8 else 0
 
@@ -31,7 +31,7 @@ hex_len c = if c == 0x78 then 2 else if c == 0x75 then 4 else if c == 0x55 then 
 abbrev pub is_hex : ℕ → Bool
 is_hex c = is_digit c 16
 
--- the bytes from a to b (exclusive) are hexadecimal digits
+-- The bytes from a to b (exclusive) are hexadecimal digits.
 pub record HexRun (text : List ℕ) (a b : ℕ) : Type 0 where
   pub within : b ≤ length text
   pub digits : (k : ℕ) → a ≤ k → k < b → is_hex (slice_index text k) ≡ true
@@ -45,7 +45,8 @@ abbrev pub IsHexEscape : List ℕ → ℕ → ℕ → ℕ → ℕ → Type 0
 IsHexEscape text i n c j = HexRun text (i + 1) j × (j ≡ (i + 1) + n) × (c ≡ hex_value text (i + 1) n) × IsScalar c
 
 -- n digits must follow the letter at i, but the text ends too early, there is another character, or the digits do not
--- spell the code point of a character. The error says which of these it is, and j is the offset up to which was read.
+-- spell the code point of a character. The error reports which of these it is, and j is the offset up to which the text
+-- was read.
 abbrev pub IsHexFault : ℕ → List ℕ → ℕ → ℕ → ℕ → Error → Type 0
 IsHexFault start text i n j (errors.UnterminatedString s) =
     (s ≡ start) × (j ≡ length text) × HexRun text (i + 1) (length text) × (length text < (i + 1) + n)
@@ -55,11 +56,11 @@ IsHexFault start text i n j (errors.InvalidEscapeValue at m v) =
     (at ≡ i) × (m ≡ n) × (v ≡ hex_value text (i + 1) n) × HexRun text (i + 1) j × (j ≡ (i + 1) + n) × (IsScalar v → ⊥)
 IsHexFault start text i n j _ = ⊥
 
--- the letters that may follow a backslash
+-- whether this letter may follow a backslash
 abbrev pub opens_escape : ℕ → Bool
 opens_escape c = is_some (simple_escape c) || nat_lt 0 (hex_len c)
 
--- `escaped = escape escape-seq-char`: the escape whose letter is at i stands for c, and ends at j
+-- `escaped = escape escape-seq-char`: the escape whose letter is at i represents c, and ends at j
 abbrev pub IsEscape : List ℕ → ℕ → ℕ → ℕ → Type 0
 IsEscape text i c j =
     ((simple_escape (slice_index text i) ≡ Some c) × (i < length text) × (j ≡ i + 1))

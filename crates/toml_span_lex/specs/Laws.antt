@@ -1,4 +1,4 @@
--- The laws of these definitions.
+-- Laws about tokens, faults, strings, characters and keys.
 use Rattle.std.specs.Prelude.{◌≡◌, ◌↔◌, ℕ, ◌<◌, ◌≤◌, ◌⊎◌, Bool, true, List, ◌∷◌, drop, length, slice_index, slice_range}
 use Rattle.std.specs.Ordering.{nat_cmp}
 use Rattle.std.specs.Cmp.Lexicographic.{slice_cmp}
@@ -25,13 +25,13 @@ OneToken = (text : List ℕ) (i j k : ℕ) (s t : Span) (l r : Lexeme) → IsLex
 abbrev pub OneFault : Type 0
 OneFault = (text : List ℕ) (i j k : ℕ) (e f : Error) → IsNoToken text i j e → IsNoToken text i k f → (j ≡ k) × (e ≡ f)
 
--- There is no fault where a token begins.
+-- A token and a fault are never at the same offset.
 abbrev pub TokenOrFault : Type 0
 TokenOrFault =
     (text : List ℕ) (i j k : ℕ) (s : Span) (l : Lexeme) (e : Error) → IsLexeme text i j s l → IsNoToken text i k e → ⊥
 
--- A token is at least one byte long and ends inside the text. A fault is found after at least one byte was read, inside
--- the text. So there is neither at the end of the text.
+-- A token is at least one byte long and ends inside the text. At least one byte is read to find a fault, and the bytes
+-- read are inside the text. So there is neither a token nor a fault at the end of the text.
 abbrev pub TokensWithin : Type 0
 TokensWithin = (text : List ℕ) (i j : ℕ) (s : Span) (l : Lexeme) → IsLexeme text i j s l → (i < j) × (j ≤ length text)
 
@@ -44,7 +44,7 @@ SomethingStands text i =
     (i ≡ length text)
     ⊎ (((j : ℕ) × (s : Span) × (l : Lexeme) × IsLexeme text i j s l) ⊎ ((j : ℕ) × (e : Error) × IsNoToken text i j e))
 
--- The content of a string has exactly one value, and ends at exactly one offset.
+-- The value of a string's content, the end of the content, and the end of the string are unique.
 abbrev pub OneContent : Type 0
 OneContent = (q : ℕ) (m : Bool) (text v w : List ℕ) (i s t j k : ℕ) → IsQuote q → IsContent q m text i v s j
     → IsContent q m text i w t k → (v ≡ w) × (s ≡ t) × (j ≡ k)
@@ -56,8 +56,8 @@ abbrev pub FoldedText : Type 0
 FoldedText =
     (text : List ℕ) (i c j : ℕ) → IsUtf8 (drop i text) → CharAt text i c j → folded text i ≡ (i, c) ∷ folded text j
 
--- A token that begins at a character of the folded text ends at one, or at its end. So does the text that was read when
--- a fault was found.
+-- A token that does not begin between the two bytes of a CRLF does not end between two such bytes. The text that is
+-- read to find a fault never ends there.
 abbrev pub TokensUnfolded : Type 0
 TokensUnfolded =
     (text : List ℕ) (i j : ℕ) (s : Span) (l : Lexeme) → KeepsLineEnd text i → IsLexeme text i j s l
@@ -90,6 +90,6 @@ BareKeys = (text : List ℕ) (i j : ℕ) (span : Span) (name : List ℕ) → IsL
 
 -- ---- tokens
 
--- Tokens are equal if and only if their contents are.
+-- Tokens are equal if and only if their kinds and contents are.
 abbrev pub TokensByContent : (Token → Token → Bool) → Type 0
 TokensByContent eq = (a b : Token) → (eq a b ≡ true) ↔ (lexeme a ≡ lexeme b)

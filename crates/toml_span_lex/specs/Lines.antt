@@ -4,7 +4,7 @@ use Rattle.std.specs.List.{suffix_len}
 use Rattle.toml_span_lex.specs.Bytes.{line_feed}
 
 -- The line and the column of the offset i, both counted from 0: the number of line feeds before i, and the number of
--- bytes since the last of them or, if there is none, since the start of the text.
+-- bytes from the start of the line to i.
 abbrev pub line_info : List ℕ → ℕ → ℕ × ℕ
 line_info text i =
     let before = take i text in

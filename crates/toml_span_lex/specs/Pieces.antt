@@ -1,4 +1,5 @@
--- The pieces of a string's content. The string is between the quotes q; `multi` says whether it is a multi-line string.
+-- The pieces of a string's content. The string is quoted with q (`"` or `'`), and `multi` says whether it is
+-- multi-line.
 use Rattle.std.specs.Prelude.{◌≡◌, ℕ, ◌+◌, ◌<◌, ◌≤◌, ◌⊎◌, min, Bool, true, false, not, ◌&&◌, ◌||◌, ◌==◌, if◌then◌else◌}
 use Rattle.std.specs.Prelude.{List, [], ◌∷◌, length, slice_index, slice_range, encode_utf8}
 use Rattle.toml_span_lex.specs.Bytes.{quotation_mark, backslash, line_feed, is_blank, is_printed, MaximalRun}
@@ -9,7 +10,7 @@ use Rattle.toml_span_lex.specs.declared.pieces.Piece.TheVariants as pieces
 use Rattle.toml_span_lex.specs.declared.tokens.Error.{Error}
 use Rattle.toml_span_lex.specs.declared.tokens.Error.TheVariants as errors
 
--- The bytes that may occur unescaped between these quotes:
+-- whether the byte c may occur unescaped in a single-line string that is quoted with q:
 -- `basic-unescaped = wschar / %x21 / %x23-5B / %x5D-7E / non-ascii`
 -- `literal-char = %x09 / %x20-26 / %x28-7E / non-ascii`
 abbrev pub is_plain : ℕ → ℕ → Bool
@@ -19,7 +20,8 @@ is_plain q c = is_printed c && not (c == q) && not (q == quotation_mark && c == 
 abbrev pub is_ws_or_newline : List ℕ → ℕ → Bool
 is_ws_or_newline text i = is_blank (slice_index text i) || slice_index text i == line_feed || is_crlf text i
 
--- `*( wschar / newline )`: from i to j there are only spaces, tabs and line ends, and at j there is something else
+-- `*( wschar / newline )`: from i to j there are only spaces, tabs and line ends, and at j there is something else or
+-- the end of the text
 pub record WsAndNewlines (text : List ℕ) (i j : ℕ) : Type 0 where
   pub forward : i ≤ j
   pub within : j ≤ length text
@@ -60,16 +62,16 @@ abbrev pub IsClose : ℕ → Bool → List ℕ → ℕ → ℕ → Type 0
 IsClose q false text i j = (slice_index text i ≡ q) × (i < length text) × (j ≡ i + 1)
 IsClose q true text i j = (r : ℕ) × MaximalRun (λ c. c == q) text i r × (i + 3 ≤ r) × (j ≡ min r (i + 5))
 
--- the fault if spaces and tabs follow the backslash at i up to j, and something other than a line end is at j
+-- the fault if spaces and tabs follow the backslash at i, up to j, and the text ends at j or goes on with something
+-- other than a line end
 abbrev pub drop_fault : ℕ → List ℕ → ℕ → ℕ → Error
 drop_fault start text i j =
     if j == length text then errors.UnterminatedString start
     else errors.InvalidEscape (i + 1) (slice_index text (i + 1))
 
--- In the string that was opened at `start`, neither a piece nor the closing quotes begin at i. The fault e says why:
+-- In the string that was opened at `start`, neither a piece nor the closing quotes begin at i. The error e reports why:
 -- the end of the text, a line end in a single-line string, a character that may not occur in a string, an invalid
--- escape, or a backslash before spaces and tabs that are not followed by a line end. The offset up to which was read is
--- j.
+-- escape, or a backslash before spaces and tabs that are not followed by a line end. The text was read up to j.
 abbrev pub IsContentFault : ℕ → Bool → ℕ → List ℕ → ℕ → ℕ → Error → Type 0
 IsContentFault q multi start text i j e =
     ((e ≡ errors.UnterminatedString start) × (i ≡ length text) × (j ≡ i))

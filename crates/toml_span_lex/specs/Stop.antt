@@ -4,7 +4,7 @@ use Rattle.std.specs.declared.alloc.AllocError.{AllocError}
 use Rattle.toml_span_lex.specs.declared.stop.Stop.{Stop}
 use Rattle.toml_span_lex.specs.declared.stop.Stop.TheVariants.{Memory, Fault}
 
--- the text of the fault, if its type has one, or `memory allocation failed`
+-- the text that is displayed: that of the fault, as `output` returns it, or `memory allocation failed`
 abbrev pub stop_text : {E : Type 0} → (E → Option (List ℕ)) → Stop E → Option (List ℕ)
 stop_text output (Fault fault) = output fault
 stop_text output (Memory error) = Some (codes "memory allocation failed")

@@ -41,7 +41,7 @@ pub record IsContent (q : ℕ) (multi : Bool) (text : List ℕ) (from : ℕ) (va
   pub to_is : to ≡ content_end multi end
   pub value_is : value ≡ content text from pieces ++ slice_range text at to
 
--- The content begins at `from` with pieces, and after them there is the fault e.
+-- From `from` on there are pieces of content, and after them there is the fault e. The text was read up to j.
 pub record IsContentCutOff (q : ℕ) (multi : Bool) (start : ℕ) (text : List ℕ) (from j : ℕ) (e : Error) : Type 0 where
   pub pieces : List (Piece × ℕ)
   pub at : ℕ
@@ -55,7 +55,8 @@ HasChange q text from to =
     (k : ℕ) × (from ≤ k) × (k < to)
     × (((q ≡ quotation_mark) × (slice_index text k ≡ backslash)) ⊎ (slice_index text k ≡ carriage_return))
 
--- One of the pieces has such a byte, so the value may have to be copied.
+-- In the content that begins at `from`, before the first fault or the closing quotes, there is a byte whose value may
+-- differ from its text. So the value may have to be copied.
 pub record NeedsCopy (q : ℕ) (multi : Bool) (text : List ℕ) (from : ℕ) : Type 0 where
   pub pieces : List (Piece × ℕ)
   pub at : ℕ
@@ -64,26 +65,26 @@ pub record NeedsCopy (q : ℕ) (multi : Bool) (text : List ℕ) (from : ℕ) : T
 
 -- ---- strings
 
--- `quotation-mark = %x22`, `apostrophe = %x27`
+-- q is a quote, `quotation-mark = %x22` or `apostrophe = %x27`.
 abbrev pub IsQuote : ℕ → Type 0
 IsQuote q = (q ≡ quotation_mark) ⊎ (q ≡ apostrophe)
 
--- three quotes open a multi-line string
+-- whether the quote at i is the first of three equal ones, which open a multi-line string
 abbrev pub opens_multi : List ℕ → ℕ → Bool
 opens_multi text i = slice_index text (i + 1) == slice_index text i && slice_index text (i + 2) == slice_index text i
 
--- `ml-basic-string-delim [ newline ]`, `ml-literal-string-delim [ newline ]`: the content begins after the opening
--- quotes, in a multi-line string after a line end that follows them directly
+-- `ml-basic-string-delim [ newline ]`, `ml-literal-string-delim [ newline ]`: the content begins at `from`: after the
+-- opening quotes and, in a multi-line string, after a line end that follows them directly
 abbrev pub ContentFrom : Bool → List ℕ → ℕ → ℕ → Type 0
 ContentFrom false text i from = from ≡ i + 1
 ContentFrom true text i from = LineEnd text (i + 3) from ⊎ (NoLineEnd text (i + 3) × (from ≡ i + 3))
 
--- A string has the span of its content or, if it is empty and on a single line, of its opening quote.
+-- The span of a string: that of its content or, if it is an empty single-line string, that of its opening quote.
 abbrev pub content_span : Bool → ℕ → ℕ → ℕ → Span
 content_span multi i from to =
     if not multi && from == to then record { start = i; end = i + 1 } else record { start = from; end = to }
 
--- The text from i to j is a string:
+-- The text from i to j, `source`, is a string with this span and value:
 -- `string = ml-basic-string / basic-string / ml-literal-string / literal-string`
 -- `basic-string = quotation-mark *basic-char quotation-mark`
 -- `ml-basic-string = ml-basic-string-delim [ newline ] ml-basic-body ml-basic-string-delim`
@@ -99,7 +100,7 @@ pub record IsString (text : List ℕ) (i j : ℕ) (span : Span) (source value : 
   pub source_is : source ≡ slice_range text i j
   pub span_is : span ≡ content_span multi i from to
 
--- The quote at i opens a string that is not valid, and the fault is e.
+-- The quote at i opens a string that is not valid, and the fault is e. The text was read up to j.
 pub record IsNoString (text : List ℕ) (i j : ℕ) (e : Error) : Type 0 where
   pub from : ℕ
   pub quote : IsQuote (slice_index text i)
@@ -113,7 +114,7 @@ pub record NeedsMemory (text : List ℕ) (i : ℕ) : Type 0 where
   pub begins : ContentFrom (opens_multi text i) text i from
   pub copy : NeedsCopy (slice_index text i) (opens_multi text i) text from
 
--- The text from i to j is two quotes and nothing else.
+-- The string from i to j is only two quotes, so it is empty and single-line.
 abbrev pub IsEmptyOnOneLine : ℕ → ℕ → Type 0
 IsEmptyOnOneLine i j = j ≡ i + 2
 
@@ -124,7 +125,7 @@ Borrows text i j span val =
     (IsEmptyOnOneLine i j → IsBorrowedStr val)
     × ((IsEmptyOnOneLine i j → ⊥) → (IsBorrowedStr val ↔ (cow_str_bytes val ≡ slice_range text span.start span.end)))
 
--- The same in terms of the span: a string is borrowed if and only if it equals the text at its span, or is empty and
+-- `Borrows` in terms of the span: a string is borrowed if and only if it equals the text at its span, or is empty and
 -- its span is one quote, as that of an empty single-line string is.
 abbrev pub BorrowsWhereSame : {Z : Type 0} → List ℕ → Span → CowStr Z → Type 0
 BorrowsWhereSame text span val = IsBorrowedStr val

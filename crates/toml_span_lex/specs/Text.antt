@@ -8,7 +8,7 @@ use Rattle.toml_span_lex.specs.Bytes.{line_feed, carriage_return, byte_order_mar
 
 -- ---- at an offset
 
--- a carriage return that a line feed follows directly
+-- whether there is a CRLF at i: a carriage return, and a line feed directly after it
 abbrev pub is_crlf : List ℕ → ℕ → Bool
 is_crlf text i = slice_index text i == carriage_return && slice_index text (i + 1) == line_feed
 
@@ -16,7 +16,7 @@ is_crlf text i = slice_index text i == carriage_return && slice_index text (i + 
 abbrev pub LineEnd : List ℕ → ℕ → ℕ → Type 0
 LineEnd text i j = ((slice_index text i ≡ line_feed) × (j ≡ i + 1)) ⊎ ((is_crlf text i ≡ true) × (j ≡ i + 2))
 
--- no line end begins at i
+-- No line end begins at i.
 abbrev pub NoLineEnd : List ℕ → ℕ → Type 0
 NoLineEnd text i = (slice_index text i == line_feed ≡ false) × (is_crlf text i ≡ false)
 
@@ -26,7 +26,7 @@ CharAt text i c j =
     ((is_crlf text i ≡ true) × (c ≡ line_feed) × (j ≡ i + 2))
     ⊎ ((is_crlf text i ≡ false) × (j ≡ i + len_utf8 c) × (drop i text ≡ encode_utf8 c ++ drop j text))
 
--- A new tokenizer is at the start of the text, after its byte order mark if it has one.
+-- Reading begins at the offset `at`: after the byte order mark, if the text begins with one, otherwise at 0.
 abbrev pub FirstPlace : List ℕ → ℕ → Type 0
 FirstPlace text at =
     CharAt text 0 byte_order_mark at
@@ -36,14 +36,14 @@ FirstPlace text at =
 abbrev pub KeepsLineEnd : List ℕ → ℕ → Type 0
 KeepsLineEnd text i = (k : ℕ) → i ≡ k + 1 → is_crlf text k ≡ false
 
--- an offset between two characters of the folded text, or at its start or end
+-- The offset is between two characters of the folded text, or at its start or end.
 abbrev pub IsFoldedPlace : List ℕ → ℕ → Type 0
 IsFoldedPlace text i = IsCharBoundary text i × KeepsLineEnd text i
 
 -- ---- the folded text
 
--- The characters with their offsets, the first of which is at i. CRLF is one line feed. `after_return` says whether the
--- character before the first one is a carriage return.
+-- These characters of a text, each with its offset, where CRLF becomes one line feed. The first character is at i.
+-- `after_return` says whether the character before it is a carriage return.
 abbrev pub folded_from : ℕ → Bool → List ℕ → List (ℕ × ℕ)
 folded_from i after_return [] = []
 folded_from i after_return (c ∷ cs) =

@@ -24,38 +24,41 @@ pub record Cursor : Type 0 where
 -- ---- failures
 
 -- No token was read at i. The tokenizer is then at j: still at i if an allocation failed, otherwise at the offset up to
--- which was read when the fault was found.
+-- which the text was read to find the fault.
 abbrev pub Fails : List ℕ → ℕ → Stop Error → ℕ → Type 0
 Fails text i (stops.Memory e) j = (j ≡ i) × NeedsMemory text i
 Fails text i (stops.Fault e) j = IsNoToken text i j e
 
--- The error says that a token was expected at an offset where another one was found.
+-- The error reports that at i, where a token with the name `due` was expected, one with the name `there` was found.
 abbrev pub ReportsExpected : Error → ℕ → List ℕ → List ℕ → Type 0
 ReportsExpected (errors.Wanted at expected found) i due there = (at ≡ i) × (expected.now ≡ due) × (found.now ≡ there)
 ReportsExpected _ i due there = ⊥
 
--- The token at i, which ends at j, is not the expected one, and the error says so.
+-- The token at i, which ends at j, does not satisfy `MayStand`, and the error reports it. `due` is the name of the
+-- expected token.
 abbrev pub IsOther : (Lexeme → Type 0) → List ℕ → List ℕ → ℕ → ℕ → Error → Type 0
 IsOther MayStand due text i j e = (span : Span) × (found : Lexeme) × IsLexeme text i j span found × (MayStand found → ⊥)
     × ReportsExpected e i due (words found)
 
--- The text ends at i, and the error says so.
+-- The text ends at i, and the error reports that a token with the name `due` was expected there.
 abbrev pub IsEndOf : List ℕ → List ℕ → ℕ → ℕ → Error → Type 0
 IsEndOf due text i j e = (i ≡ length text) × (j ≡ i) × ReportsExpected e i due (codes "eof")
 
 -- ---- the next token
 
+-- The result of reading the next token at i, and the offset j at which the tokenizer is then. None is the end of the
+-- text.
 abbrev pub StepGives : List ℕ → ℕ → Result (Option (Span × Token)) (Stop Error) → ℕ → Type 0
 StepGives text i (Ok None) j = (i ≡ length text) × (j ≡ i)
 StepGives text i (Ok (Some found)) j = IsLexeme text i j found.0 (lexeme found.1)
 StepGives text i (Err stop) j = Fails text i stop j
 
--- If a string was read at i, its value is borrowed as `Borrows` says.
+-- If the token at i is a string, `Borrows` decides whether its value is borrowed.
 abbrev pub BorrowsAt : List ℕ → ℕ → Result (Option (Span × Token)) (Stop Error) → ℕ → Type 0
 BorrowsAt text i (Ok (Some (span, tokens.String src val multi))) j = Borrows text i j span val
 BorrowsAt text i _ j = Unit {0}
 
--- At i there is another token, or the end of the text.
+-- At i there is a token other than the expected one, or the end of the text.
 abbrev pub Lacks : List ℕ → ℕ → Lexeme → Type 0
 Lacks text i expected =
     (i ≡ length text)
@@ -72,7 +75,8 @@ Eats old (Ok true) expected new = (span : Span) × IsLexeme old.text old.at new.
 Eats old (Ok false) expected new = (new ≡ old) × Lacks old.text old.at expected
 Eats old (Err stop) expected new = (new ≡ old) × ((j : ℕ) × Fails old.text old.at stop j)
 
--- If the next token is not the expected one, the call fails with this error.
+-- The call fails with this error, and the tokenizer is then at j: an allocation failed, no token can be read at i, the
+-- token at i does not satisfy `MayStand`, or the text ends at i.
 abbrev pub RefusesOther : (Lexeme → Type 0) → List ℕ → List ℕ → ℕ → Stop Error → ℕ → Type 0
 RefusesOther MayStand due text i (stops.Memory e) j = Fails text i (stops.Memory e) j
 RefusesOther MayStand due text i (stops.Fault e) j =
@@ -96,7 +100,7 @@ IsSimpleKey text i j key =
     ⊎ ((source : List ℕ) × IsLexeme text i j key.span (string source (cow_str_bytes key.name) false)
     × Borrows text i j key.span key.name)
 
--- the tokens that can be keys
+-- The token can be a key, or is a multi-line string, for which there is another error.
 abbrev pub MayBeKey : Lexeme → Type 0
 MayBeKey (keylike s) = Unit {0}
 MayBeKey (string source value multi) = Unit {0}
@@ -110,6 +114,7 @@ IsMultilineKey text i j (errors.MultilineStringKey at end) =
     × (end ≡ i + length value)
 IsMultilineKey text i j _ = ⊥
 
+-- The result of reading a simple key at i, and the offset j at which the tokenizer is then.
 abbrev pub TableKeyGives : List ℕ → ℕ → Result Key (Stop Error) → ℕ → Type 0
 TableKeyGives text i (Ok key) j = IsSimpleKey text i j key
 TableKeyGives text i (Err (stops.Memory e)) j = Fails text i (stops.Memory e) j

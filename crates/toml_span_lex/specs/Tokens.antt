@@ -13,7 +13,7 @@ use Rattle.toml_span_lex.specs.declared.tokens.Token.TheVariants as tokens
 use Rattle.toml_span_lex.specs.declared.tokens.Error.{Error}
 use Rattle.toml_span_lex.specs.declared.tokens.Error.TheVariants as errors
 
--- = . , : + { } [ ]
+-- whether the character is one of = . , : + { } [ ]
 abbrev pub is_punctuator : ℕ → Bool
 is_punctuator c =
     c == equals || c == period || c == comma || c == colon || c == plus
@@ -72,7 +72,7 @@ words (string src value false) = codes "a string"
 
 -- ---- tokens and faults at an offset
 
--- The text from i to j is `part`, a run of all bytes from i on that pass the test, at least one.
+-- The text from i to j is `part`, the longest run of bytes from i on that pass the test p. It has at least one byte.
 abbrev pub RunAt : (ℕ → Bool) → List ℕ → ℕ → ℕ → List ℕ → Type 0
 RunAt p text i j part = (i < j) × MaximalRun p text i j × (part ≡ slice_range text i j)
 
@@ -80,7 +80,7 @@ RunAt p text i j part = (i < j) × MaximalRun p text i j × (part ≡ slice_rang
 -- `ws = *wschar`, of one character at least
 -- `newline = %x0A / %x0D.0A`
 -- `comment = comment-start-symbol *non-eol`
--- `unquoted-key = 1*( ALPHA / DIGIT / %x2D / %x5F )`, or a part of a number or a date
+-- `unquoted-key = 1*( ALPHA / DIGIT / %x2D / %x5F )`, or a boolean, or a part of a number or a date
 abbrev pub IsToken : List ℕ → ℕ → ℕ → Lexeme → Type 0
 IsToken text i j (whitespace s) = RunAt is_blank text i j s
 IsToken text i j newline = LineEnd text i j
@@ -94,20 +94,21 @@ abbrev pub IsLexeme : List ℕ → ℕ → ℕ → Span → Lexeme → Type 0
 IsLexeme text i j span (string src value multi) = IsString text i j span src value multi
 IsLexeme text i j span l = IsToken text i j l × (span ≡ record { start = i; end = j })
 
--- the characters that alone decide which token they begin: a blank, a punctuator, a line feed or a hash
+-- whether this character alone decides which token begins with it: a blank, a punctuator, a line feed or a hash
 abbrev pub begins_alone : ℕ → Bool
 begins_alone c = is_blank c || is_punctuator c || c == line_feed || c == hash
 
--- all characters that begin a token, where CRLF is one line feed: also those of bare keys, and quotes
+-- whether this character begins a token: one of `begins_alone`, a character of a bare key, or a quote; CRLF is one line
+-- feed
 abbrev pub begins_token : ℕ → Bool
 begins_token c = (begins_alone c || is_keylike c) || (c == quotation_mark || c == apostrophe)
 
--- No token begins with the character at i, which ends at j, and the error says so.
+-- No token begins with the character at i, which ends at j, and the error reports this character.
 abbrev pub IsUnexpected : List ℕ → ℕ → ℕ → Error → Type 0
 IsUnexpected text i j (errors.Unexpected at c) = (at ≡ i) × CharAt text i c j × (begins_token c ≡ false)
 IsUnexpected text i j _ = ⊥
 
--- No token can be read at i, and the fault is e. The offset up to which was read is j: after the character that e
--- names, after the digits or blanks of an invalid escape, or the end of the text.
+-- No token can be read at i, and the fault is e. The text was read up to j: after the character or line end that e
+-- reports, after the digits or blanks of an invalid escape, or up to the end of the text.
 abbrev pub IsNoToken : List ℕ → ℕ → ℕ → Error → Type 0
 IsNoToken text i j e = IsUnexpected text i j e ⊎ IsNoString text i j e

@@ -49,8 +49,8 @@ pub fn is_printed(byte: u8) -> bool
     byte == b'\t' || (byte >= 0x20 && byte != 0x7F)
 }
 
-/// Returns the offset after the run of spaces and tabs that begins at the byte offset `from`; `from` itself if the run
-/// is empty: `ws = *wschar`.
+/// Returns the offset after the run of spaces and tabs (`ws = *wschar`) that begins at the byte offset `from`, or
+/// `from` itself if the run is empty.
 #[inline(always)]
 pub fn blanks_end(text: &str, from: usize) -> usize
     requires { IsCharBoundary text.now from }
@@ -66,8 +66,8 @@ pub fn blanks_end(text: &str, from: usize) -> usize
     bytes.len()
 }
 
-/// Returns the offset after the run of bare key bytes (`is_keylike`) that begins at the byte offset `from`; `from`
-/// itself if the run is empty: `unquoted-key = 1*( ALPHA / DIGIT / %x2D / %x5F )`.
+/// Returns the offset after the run of bare key bytes (`is_keylike`) that begins at the byte offset `from`, or `from`
+/// itself if the run is empty. A run that is not empty has the form `unquoted-key = 1*( ALPHA / DIGIT / %x2D / %x5F )`.
 pub fn keylike_end(text: &str, from: usize) -> usize
     requires { IsCharBoundary text.now from }
     ensures run { MaximalRun spec.is_keylike text.now from result }
@@ -90,8 +90,8 @@ pub fn keylike_end(text: &str, from: usize) -> usize
     bytes.len()
 }
 
-/// Returns the offset after the run of comment bytes (`is_printed`) that begins at the byte offset `from`; `from`
-/// itself if the run is empty: `comment = comment-start-symbol *non-eol`.
+/// Returns the offset after the run of comment bytes (`is_printed`, `*non-eol`) that begins at the byte offset `from`,
+/// or `from` itself if the run is empty.
 pub fn printed_end(text: &str, from: usize) -> usize
     requires { IsCharBoundary text.now from }
     ensures run { MaximalRun spec.is_printed text.now from result }

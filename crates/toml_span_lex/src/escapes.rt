@@ -45,7 +45,7 @@ fn hex_escape(
     }
 }
 
-/// Returns the character that a backslash and this letter stand for, or `None` if the letter needs digits or may not
+/// Returns the character that a backslash and this letter represent, or `None` if the letter needs digits or may not
 /// follow a backslash: `escape-seq-char = %x22 / %x5C / %x62 / %x66 / %x6E / %x72 / %x74 / %x65`.
 #[inline]
 fn simple_escape(letter: u8) -> Option<char>

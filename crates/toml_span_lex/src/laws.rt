@@ -21,7 +21,7 @@ pub fn one_fault()
     ensures { law.OneFault }
 {}
 
-/// There is no fault where a token begins.
+/// A token and a fault are never at the same offset.
 pub fn token_or_fault()
     ensures { law.TokenOrFault }
 {}
@@ -33,7 +33,7 @@ pub fn within_the_text()
     ensures faults { law.FaultsWithin }
 {}
 
-/// The content of a string has exactly one value, and ends at exactly one offset.
+/// The value of a string's content, the end of the content, and the end of the string are unique.
 pub fn one_content()
     ensures { law.OneContent }
 {}
@@ -59,7 +59,7 @@ pub fn keys_by_name()
     ensures { law.KeysByName ⟦<Key<'static> as PartialEq>⟧.eq ⟦<Key<'static> as Ord>⟧.cmp }
 {}
 
-/// Tokens are equal if and only if their contents are.
+/// Tokens are equal if and only if their kinds and contents are.
 pub fn tokens_by_content()
     ensures { law.TokensByContent ⟦<Token<'static> as PartialEq>⟧.eq }
 {}

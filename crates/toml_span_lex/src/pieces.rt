@@ -17,13 +17,14 @@ use std::simd::prelude::*;
 /// A piece of a string's content.
 #[derive(Clone, Copy)]
 pub enum Piece {
-    /// Characters that stand for themselves.
+    /// A run of unescaped characters, without line ends and quotes of the string's kind.
     Plain,
     /// One or two quotes in a multi-line string.
     Quotes,
     LineEnd,
     Escape(char),
-    /// A backslash at the end of a line, and all white space and line ends after it. None of this is part of the value.
+    /// A backslash at the end of a line, and all white space and line ends after it. They add nothing to the value of
+    /// the string.
     Dropped,
 }
 
@@ -38,9 +39,9 @@ fn is_plain(quote: u8, byte: u8) -> bool
     is_printed(byte) && byte != quote && !(quote == b'"' && byte == b'\\')
 }
 
-/// Skips the bytes from the byte offset `from` that may occur unescaped in a single-line string quoted with `quote`.
-/// Returns the offset after them, or `from` if there are none. `from` must be a character boundary, and `quote` must be
-/// an ASCII byte.
+/// Returns the offset of the first byte, from the byte offset `from` on, that may not occur unescaped in a single-line
+/// string quoted with `quote`, or the length of the text if all bytes may. `from` must be a character boundary, and
+/// `quote` must be an ASCII byte.
 #[inline(always)]
 pub fn plain_end(text: &str, quote: u8, from: usize) -> usize
     requires boundary { IsCharBoundary text.now from }
@@ -65,7 +66,7 @@ pub fn plain_end(text: &str, quote: u8, from: usize) -> usize
     bytes.len()
 }
 
-/// Returns the offset after the run of `quote` bytes that begins at `from`; `from` itself if the run is empty.
+/// Returns the offset after the run of `quote` bytes that begins at `from`, or `from` itself if the run is empty.
 fn quotes_end(text: &str, quote: u8, from: usize) -> usize
     requires boundary { IsCharBoundary text.now from }
     requires ascii { quote < 128 }
@@ -90,8 +91,8 @@ fn is_ws_or_newline(bytes: &[u8], at: usize) -> bool
     is_blank(bytes[at]) || bytes[at] == b'\n' || is_crlf(bytes, at)
 }
 
-/// Returns the offset after the spaces, tabs and line ends that begin at the byte offset `from`; `from` itself if there
-/// are none: `*( wschar / newline )`.
+/// Returns the offset after the run of spaces, tabs and line ends (`*( wschar / newline )`) that begins at the byte
+/// offset `from`, or `from` itself if the run is empty.
 fn ws_and_newlines_end(text: &str, from: usize) -> usize
     requires { IsCharBoundary text.now from }
     ensures run { spec.WsAndNewlines text.now from result }

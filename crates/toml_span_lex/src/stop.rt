@@ -5,8 +5,8 @@ use std::fmt::{Display, Formatter, Write};
 
 /// Why a call failed: an allocation failed (`Memory`), or an error of type `E` occurred (`Fault`).
 ///
-/// `Memory` means that the allocator refused a request; no contract states this. In `toml_span_serde`, `Memory` can
-/// also mean that a position or a count does not fit into its integer type.
+/// `Memory` means that the allocator refused a request, although no contract states this. In `toml_span_serde`,
+/// `Memory` can also mean that a position or a count does not fit into its integer type.
 #[derive(Debug, Drop)]
 pub enum Stop<E> {
     Memory(AllocError),

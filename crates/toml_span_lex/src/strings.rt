@@ -102,9 +102,9 @@ fn with_piece(
     }
 }
 
-/// Reads the content, from `from` on, and the closing quotes of a string that is quoted with `quote`, and multi-line if
-/// `multi`. Returns the value (`None` if it equals the text of the content), the offset at which the content ends, and
-/// the offset after the string.
+/// Reads the content of a string, from the byte offset `from` on, and its closing quotes. The string is quoted with
+/// `quote`, and `multi` says whether it is multi-line. Returns its value (`None` if the value equals the text of the
+/// content), the offset at which the content ends, and the offset after the string.
 ///
 /// Fails with the error and the offset up to which the string was read. `start` is the offset of the opening quote, for
 /// the error `UnterminatedString`.

@@ -57,9 +57,9 @@ pub fn first_place(text: &str) -> usize
     if c == '\u{feff}' { next } else { 0 }
 }
 
-/// Reads the token at the byte offset `at`, which must be before the end of the text and not at a quote. Returns the
-/// token with the offset after it. If no token begins with the character at `at`, fails with `Unexpected` and the
-/// offset after that character.
+/// Reads the token at the byte offset `at`, where a character other than a quote must begin. Returns the token with the
+/// offset after it. If no token begins with the character at `at`, fails with `Unexpected` and the offset after that
+/// character.
 ///
 /// `ws = *wschar`, `newline = %x0A / %x0D.0A`, `comment = comment-start-symbol *non-eol`,
 /// `unquoted-key = 1*( ALPHA / DIGIT / %x2D / %x5F )`
@@ -118,7 +118,7 @@ fn other_at(input: &str, at: usize) -> Result<(Token<'_>, usize), (Error, usize)
     }
 }
 
-/// Returns the offset after the first line end at or after `from`, or the length of the text if there is no line end.
+/// Returns the offset after the first line end at or after `from`, or the length of the text if no line end follows.
 fn line_after(text: &str, from: usize) -> usize
     requires { from ≤ length text.now }
     ensures skips { spec.SkipsLine text.now from result }

@@ -1,4 +1,4 @@
--- Output of which a prefix has been written, and the rest is in a buffer.
+-- Output whose beginning has been written, and whose rest is in a buffer.
 use Rattle.std.specs.Prelude.{◌≡◌, ℕ, Bool, true, false, List, ◌++◌, Option, Result, Ok, Err}
 use Rattle.std.specs.Io.KnownBytes.{Appends}
 use Rattle.toml_span_lines.specs.declared.held.Unwritten.{Unwritten}
@@ -9,9 +9,9 @@ use Rattle.toml_span_lines.specs.Run.{HasWritten}
 abbrev pub HoldsRest : Option (List ℕ) → Option (List ℕ) → List ℕ → List ℕ → Type 0
 HoldsRest old new text held = (front : List ℕ) × Appends old new front × (front ++ held ≡ text)
 
--- Either a prefix of the text has been written, and the buffer has the rest. Or a write or an allocation failed, as the
--- result says, and a prefix of the text has been written. `old` and `new` are what the writer has got before and after,
--- and `failed` says whether a write failed.
+-- The result of writing a text through a buffer. On success, a prefix of the text has been written, and the buffer has
+-- the rest. If a write or an allocation failed, a prefix of the text has been written. `old` and `new` are the bytes
+-- that the writer has received before and after, and `failed` is whether a write failed.
 abbrev pub Streams : {A : Type 0} → Result A Unwritten → Option (List ℕ) → Option (List ℕ) → Bool → List ℕ → List ℕ
     → Type 0
 Streams (Ok done) old new failed text held = (failed ≡ false) × HoldsRest old new text held

@@ -1,4 +1,4 @@
--- The output: a line for each value of a tree, before those inside it, or the line of an error.
+-- The output: a line for each value of a tree, before the lines of the values inside it, or the line of an error.
 use Rattle.std.specs.Prelude.{ℕ, suc, ◌+◌, ◌/◌, ◌%◌, ◌&&◌, Bool, not, nat_le, nat_lt, nat_eq, List, [], ◌∷◌, ◌++◌}
 use Rattle.std.specs.Prelude.{if◌then◌else◌, codes, unwrap_or}
 use Rattle.std.specs.List.{flat_map}
@@ -20,7 +20,7 @@ hex_digit n = if nat_lt n 10 then 48 + n else 55 + n
 abbrev pub shown_byte : ℕ → List ℕ
 shown_byte byte = if stands_for_itself byte then byte ∷ [] else 37 ∷ hex_digit (byte / 16) ∷ hex_digit (byte % 16) ∷ []
 
--- a segment: a slash, and a key or a position
+-- a segment of a path: a slash, and then a key or a position
 abbrev pub key_segment : List ℕ → List ℕ
 key_segment name = 47 ∷ flat_map shown_byte name
 

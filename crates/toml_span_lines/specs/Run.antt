@@ -6,11 +6,12 @@ use Rattle.toml_span_lines.specs.declared.run.Cut.TheVariants.{Failed, Memory}
 use Rattle.toml_span_lines.specs.Shown.{ShowsDocument, ShowsRefusal}
 use Rattle.std.specs.Io.KnownBytes.{Appends, Consumes, IsAtEnd, Keeps}
 
--- the maximum length of a document in bytes
+-- the maximum length of the input in bytes
 abbrev pub bound : ℕ
 bound = 16777216
 
--- the lines of a document, or the line of an error
+-- Either the status is 0, and the text has the lines of the tree, or the status is 1, and the text is the line of the
+-- error.
 abbrev pub IsShown : List ℕ → ℕ → ℕ → List ℕ → Type 0
 IsShown bytes limit status text =
     ((status ≡ 0) × ShowsDocument bytes limit text) ⊎ ((status ≡ 1) × ShowsRefusal bytes limit text)
@@ -26,11 +27,11 @@ pub record IsAnswer (bytes : List ℕ) (limit : ℕ) (status : ℕ) (text : List
 abbrev pub HasRead : Option (List ℕ) → Option (List ℕ) → List ℕ → Type 0
 HasRead old new bytes = Consumes old new bytes × (length bytes ≤ bound + 1)
 
--- The whole input was read, or more bytes than the maximum.
+-- These bytes were read: the whole input, or one byte more than the maximum.
 abbrev pub HasReadAll : Option (List ℕ) → Option (List ℕ) → List ℕ → Type 0
 HasReadAll old new bytes = HasRead old new bytes × ((length bytes ≡ bound + 1) ⊎ IsAtEnd new)
 
--- The first n bytes of a text were written.
+-- A prefix of the text was written.
 abbrev pub HasWritten : Option (List ℕ) → Option (List ℕ) → List ℕ → Type 0
 HasWritten old new text = (n : ℕ) × (n ≤ length text) × Appends old new (take n text)
 
@@ -47,7 +48,7 @@ pub record Runs (limit : ℕ) (left left' : Option (List ℕ)) (unread : Bool) (
   -- after a failed write a prefix of an answer has been written
   pub cut : IsTrue unwritten → (bytes text : List ℕ) × (answered : ℕ) × HasReadAll left left' bytes
       × IsAnswer bytes limit answered text × HasWritten written written' text
-  -- otherwise the status and the whole text of the answer
+  -- otherwise the status is that of an answer, and the whole text of the answer has been written
   pub answers : nat_lt status 3 ≡ true → (bytes text : List ℕ) × HasReadAll left left' bytes
       × IsAnswer bytes limit status text × Appends written written' text
   pub known : status ≤ 4

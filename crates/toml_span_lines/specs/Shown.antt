@@ -19,7 +19,8 @@ use Rattle.toml_span_lines.specs.Lines.{key_segment, position_segment, line, err
 
 -- ---- the order of paths
 
--- keys in the order of their bytes, and positions in numeric order
+-- whether a step comes before another: keys are in the order of their bytes, positions in numeric order, and a key and
+-- a position have no order
 abbrev pub IsStepBefore : Step → Step → Type 0
 IsStepBefore (key name) (key other) = IsNameBefore name other
 IsStepBefore (position i) (position j) = i < j
@@ -47,7 +48,7 @@ abbrev pub PathsAscend : List PlaceAt → Type 0
 PathsAscend [] = ⊤
 PathsAscend (e ∷ es) = AllByRecursion (λ f. IsPathBefore e.0 f.0) es × PathsAscend es
 
--- At each path there is the place that the list has there, or nothing if it has none.
+-- The list has exactly the places that `places` has, each with its path.
 abbrev pub HasPlaces : (Path → Option Place) → List PlaceAt → Type 0
 HasPlaces places es = (p : Path) (x : Place) → (places p ≡ Some x) ↔ IsIn (p, x) es
 
@@ -57,14 +58,14 @@ abbrev pub segment : Step → List ℕ
 segment (key name) = key_segment name
 segment (position i) = position_segment i
 
--- the name of the kind
+-- the name of a kind of value
 abbrev pub shape_name : Shape → List ℕ
 shape_name shape_taken = []
 shape_name (shape_scalar s) = scalar_kind s
 shape_name shape_array = codes "array"
 shape_name shape_table = codes "table"
 
--- the path, the kind and the span
+-- the line of a place: its path, its kind and its span
 abbrev pub entry_line : PlaceAt → List ℕ
 entry_line e = line (flat_map segment e.0) (shape_name e.1.shape) e.1.span.start e.1.span.end
 
@@ -74,14 +75,14 @@ ShowsPlaces places text = (es : List PlaceAt) × PathsAscend es × HasPlaces pla
 
 -- ---- whole texts
 
--- The bytes are read as sections within the limit, which do not clash, and the output shows their flat document.
+-- The bytes are read, within the limit, as sections that do not clash, and the output shows their flat document.
 pub record ShowsDocument (bytes : List ℕ) (limit : ℕ) (text : List ℕ) : Type 0 where
   pub sections : List ParsedSection
   pub read : document bytes limit (Ok sections)
   pub resolves : Resolves (claims sections)
   pub shown : ShowsPlaces (flat (length bytes) (claims sections)) text
 
--- The bytes have a fault, or are read as sections within the limit which clash. The output is the line of that fault,
+-- The bytes have a fault, or are read, within the limit, as sections that clash. The output is the line of that fault,
 -- or of the first clash.
 abbrev pub ShowsRefusal : List ℕ → ℕ → List ℕ → Type 0
 ShowsRefusal bytes limit text =

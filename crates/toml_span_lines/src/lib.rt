@@ -1,4 +1,5 @@
-//! Prints the tree of a TOML document as lines, one for each value with its span. `run` is the whole program.
+//! Prints the tree of a TOML document as lines, one for each value with its span. `run::run` is the whole program
+//! `toml_span_show`.
 #![tactic(auto)]
 
 pub mod held;

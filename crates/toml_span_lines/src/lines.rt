@@ -110,8 +110,8 @@ fn push_line(out: &mut Vec<u8>, path: &[u8], kind: &str, span: Span) -> Result<(
     Ok(())
 }
 
-/// Appends the line of a value to the buffer `held`, and writes the buffer if it has at least 64 KiB. If an allocation
-/// fails, `held` may have a part of the line.
+/// Appends the line of a value to the buffer `held`. If the buffer then has at least 64 KiB, writes and empties it. If
+/// an allocation fails, `held` may have a part of the line.
 fn write_line<W: Sink>(
     writer: &mut W,
     held: &mut Vec<u8>,
@@ -199,9 +199,10 @@ fn write_entries<W: Sink>(
     Ok(())
 }
 
-/// Writes the buffer `held`, and then the lines of a tree: one for each value that is not taken, before the lines of
-/// the values inside it, entries in the order of their names. The end of the output stays in the buffer. Fails if a
-/// write or an allocation fails; a prefix of the output has then been written. No earlier write may have failed.
+/// Writes the buffer `held`, and then a line for each value of a tree, except for taken values. The line of a value
+/// comes before the lines of the values inside it. The entries of a table are in the order of their names. The end of
+/// the output stays in the buffer. Fails if a write or an allocation fails; a prefix of the output has then been
+/// written. No earlier write may have failed.
 pub fn write_lines<W: Sink>(
     alloc: Global,
     writer: &mut W,
@@ -215,8 +216,8 @@ pub fn write_lines<W: Sink>(
     write_value(writer, held, &mut Vec::new(alloc), root)
 }
 
-/// Returns the lines of a tree: one for each value that is not taken, before the lines of the values inside it, entries
-/// in the order of their names. Fails if an allocation fails.
+/// Returns a line for each value of a tree, except for taken values. The line of a value comes before the lines of the
+/// values inside it. The entries of a table are in the order of their names. Fails if an allocation fails.
 pub fn tree_lines(alloc: Global, root: &Value<'_>) -> Result<Vec<u8>, AllocError>
     ensures { IfOk result (λ out. out.items ≡ spec.tree_lines (view root.now)) }
 {
@@ -230,7 +231,8 @@ pub fn tree_lines(alloc: Global, root: &Value<'_>) -> Result<Vec<u8>, AllocError
     Ok(out)
 }
 
-/// Returns the line of an error: `error`, its code, its span, and its line and column (`0:0` if they are not known).
+/// Returns the line of an error: the word `error`, the error's code, its span, and its line and column, counted from 0
+/// (`0:0` if they are not known).
 pub(crate) fn error_line(alloc: Global, error: &Error<'_>) -> Result<Vec<u8>, AllocError>
     ensures { IfOk result (λ out. out.items ≡ spec.error_line (content_of error.now)) }
 {

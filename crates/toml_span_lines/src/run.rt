@@ -1,4 +1,4 @@
-//! The program: reads a document, and prints its tree or its error.
+//! The program `toml_span_show`: reads TOML, and prints the tree or the error.
 ghost use Rattle.std.specs.Prelude.{◌≡◌, ◌≤◌, IfOk, IfErr, false};
 ghost use Rattle.toml_span_lines.specs.Run.{HasReadAll, HasCut, Runs, WritesOut, IsAnswer, IsShown};
 ghost use Rattle.toml_span_read.specs.Data.{depth_limit};
@@ -51,7 +51,8 @@ pub fn read_bytes<R: Source>(alloc: Global, reader: &mut R) -> Result<Vec<u8>, C
     Ok(bytes)
 }
 
-/// Writes the bytes, until a write fails. Returns whether all bytes were written. No earlier write may have failed.
+/// Writes the bytes of `text`, until a write fails. Returns whether all bytes were written. No earlier write may have
+/// failed.
 pub fn write_bytes<W: Sink>(writer: &mut W, text: &[u8]) -> bool
     requires { W.failed writer.old ≡ false }
     ensures { WritesOut (W.contents writer.old) (W.contents writer.new) text.now (W.failed writer.new) result }
@@ -98,8 +99,8 @@ fn answer(alloc: Global, bytes: &[u8], limit: usize) -> Result<(u8, Vec<u8>), Al
     }
 }
 
-/// Reads a document, and prints the lines of its tree, or the line of its error. `limit` is the limit on the depth of
-/// values and on the number of parts of a key, and must be from 1 to 128. No read or write may have failed before.
+/// Reads TOML, and prints the lines of its tree, or the line of its error. `limit` is the limit on the depth of values
+/// and on the number of parts of a key, and must be from 1 to 128. No read or write may have failed before.
 ///
 /// Returns the exit status:
 ///

@@ -1,4 +1,4 @@
-//! Adapts the readers and writers of std.
+//! Adapts the readers and writers of std to `Source` and `Sink`.
 ghost use Rattle.std.specs.Prelude.{◌≡◌, false};
 ghost use Rattle.std.specs.Io.{ReadsAtMost, WritesAtMost};
 ghost use Rattle.std.specs.Io.KnownBytes.{ReadConsumes, WriteAppends};

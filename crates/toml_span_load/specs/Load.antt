@@ -1,4 +1,4 @@
--- Why a file could not be read as a type.
+-- The result of reading a file as a type.
 use Rattle.std.specs.Prelude.{◌≡◌, ⊤, ℕ, List, [], ◌++◌, Result, Ok, Err, codes, map, string_bytes}
 use Rattle.toml_span_lex.specs.declared.stop.Stop.{Stop}
 use Rattle.toml_span_lex.specs.declared.stop.Stop.TheVariants as stops
@@ -17,7 +17,7 @@ use Rattle.toml_span_load.specs.declared.LoadError.{LoadError}
 use Rattle.toml_span_load.specs.declared.LoadError.TheVariants.{Memory, Io, Reported}
 use Rattle.toml_span_load.specs.declared.Unreadable.{Unreadable}
 
--- the message for the file with the first text as its name, where the second text is the system's message
+-- the message for the file `name`, which can't be read; `cause` is the message of the I/O error
 unfoldable pub unreadable_text : List ℕ → List ℕ → List ℕ
 unreadable_text name cause = codes "cannot read `" ++ visible name ++ codes "`: " ++ cause
 
@@ -31,29 +31,30 @@ NotOpened name (Memory e) = ⊤
 NotOpened name (Io u) = IsUnreadable name u
 NotOpened name (Reported r) = ⊥
 
--- The error of `read`: reading the text as the type returns errors, and these are their reports; or an allocation
--- failed.
+-- The error of `read`: an allocation failed, or reading the text as the type returns errors, and the LoadError has
+-- their reports.
 abbrev pub NotLoaded : {T : Type 0} → (Node → Result T Errors → Node → Type 0) → List ℕ → List ℕ → LoadError → Type 0
 NotLoaded reads name text (Memory e) = ⊤
 NotLoaded reads name text (Io u) = ⊥
 NotLoaded reads name text (Reported r) = (faults : Errors) × NotRead reads text (stops.Fault faults)
     × AreReported styles.Plain name text (all faults) (map report_content r.reports.items) (string_bytes r.text)
 
--- the reports of the warnings and of the errors of a read, and their text
+-- whether `reports` are the reports of the warnings of a read, and then of its errors, and `out` is their text
 abbrev pub AreShown : {T : Type 0} → Result T (Stop Errors) → List ErrorContent → List ℕ → List ℕ → List ReportContent
     → List ℕ → Type 0
 AreShown read warnings name text reports out =
     AreReportsOf read warnings text reports × AreReportTexts styles.Plain name text reports out
 
--- The result of `read_with_warnings`: the text is read as this value, and these are the reports of the warnings.
+-- The result of `read_with_warnings`: the text is read as the value x, `reports` are the reports of the warnings, and
+-- `out` is their text.
 abbrev pub IsLoaded : {T : Type 0} → (Node → Result T Errors → List ErrorContent → List ErrorContent → Type 0) → List ℕ
     → List ℕ → T → List ReportContent → List ℕ → Type 0
 IsLoaded reads name text x reports out =
     (warnings : List ErrorContent) × IsReadWithWarnings reads text (Ok x) [] warnings
     × AreShown (Ok x) warnings name text reports out
 
--- The error of `read_with_warnings`: reading the text as the type returns errors, and these are the reports of the
--- warnings and of the errors; or an allocation failed.
+-- The error of `read_with_warnings`: an allocation failed, or reading the text as the type returns errors, and the
+-- LoadError has the reports of the warnings and of the errors.
 abbrev pub NotLoadedWithWarnings : {T : Type 0}
     → (Node → Result T Errors → List ErrorContent → List ErrorContent → Type 0) → List ℕ → List ℕ → LoadError → Type 0
 NotLoadedWithWarnings reads name text (Memory e) = ⊤
@@ -63,7 +64,7 @@ NotLoadedWithWarnings {T} reads name text (Reported r) = (faults : Errors) × (w
     × AreShown {T = T} (Err (stops.Fault faults)) warnings name text (map report_content r.reports.items)
     (string_bytes r.text)
 
--- the error of a read that failed
+-- the error of a read that failed; `r` has the reports of the read
 abbrev pub failed : Stop Errors → reported.Reported → LoadError
 failed (stops.Fault faults) r = Reported r
 failed (stops.Memory e) r = Memory e

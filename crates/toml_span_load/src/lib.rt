@@ -28,7 +28,7 @@ pub enum LoadError {
     /// The file can't be read, or is not valid UTF-8.
     Io(Unreadable),
     /// The text is not valid TOML, or does not fit the type. Contains the reports of all errors and, for a type that
-    /// warns, of its warnings.
+    /// warns, of all warnings.
     Reported(Reported),
 }
 
@@ -37,7 +37,7 @@ pub enum LoadError {
 pub struct Unreadable {
     /// The name of the file, as it was passed.
     pub name: String,
-    /// The kind of the system's error.
+    /// The kind of the I/O error.
     pub kind: ErrorKind,
     /// The message, such as ``cannot read `a.toml`: No such file or directory (os error 2)``. Control characters in the
     /// name are escaped, and so are characters that end a line or change the direction of the text.
@@ -108,8 +108,9 @@ impl TextFile {
         }
     }
 
-    /// Reads the text as a type, like `toml_span::from_str`. Fails with `LoadError::Reported`, which has the reports of
-    /// all errors, without colors. Fails with `LoadError::Memory` if an allocation fails.
+    /// Reads the text as a type, like `toml_span::from_str`. If the text is not valid TOML or does not fit the type,
+    /// fails with `LoadError::Reported`, which has the reports of all errors, without colors. Fails with
+    /// `LoadError::Memory` if an allocation fails.
     ///
     /// For a type that warns, which does not implement `Deserialize`, use `read_with_warnings`.
     pub fn read<'de, T: Deserialize<'de>>(&'de self, alloc: Global) -> Result<T, LoadError>
@@ -127,8 +128,9 @@ impl TextFile {
     }
 
     /// Reads the text as a type that warns, like `toml_span::from_str_with_warnings`. Returns the value with the
-    /// reports of its warnings. Fails with `LoadError::Reported`, which has the reports of all warnings and errors,
-    /// without colors. Fails with `LoadError::Memory` if an allocation fails.
+    /// reports of all warnings. If the text is not valid TOML or does not fit the type, fails with
+    /// `LoadError::Reported`, which has the reports of all warnings and errors, without colors. Fails with
+    /// `LoadError::Memory` if an allocation fails.
     pub fn read_with_warnings<'de, T: DeserializeWithWarnings<'de>>(
         &'de self,
         alloc: Global,
@@ -181,7 +183,7 @@ fn failed(stop: Stop<DeserError<'_>>, reported: Reported) -> LoadError
     }
 }
 
-/// Returns the error of the file `name`, which can't be read because of `error`.
+/// Returns the error for the file `name`, which can't be read because of `error`.
 fn not_readable(alloc: Global, name: &str, error: io::Error) -> Result<Unreadable, AllocError>
     ensures { IfOk result (IsUnreadable name.now) }
 {

@@ -25,13 +25,14 @@ IsNotFetched report = (report.severity ≡ Warning) × (report.code ≡ codes "s
 abbrev pub IsWarning : ReportContent → Type 0
 IsWarning report = report.severity ≡ Warning
 
--- The second reports are the first reports, followed by warnings.
+-- The list `reports` is `errors`, followed by warnings.
 abbrev pub AddsWarnings : List ReportContent → List ReportContent → Type 0
 AddsWarnings errors reports = (warnings : List ReportContent) × (reports ≡ errors ++ warnings) × All IsWarning warnings
 
 -- Either the document is not checked, and the only report may be that its schema is not fetched. Or the document is
--- checked against some schema: then there are no reports, apart from warnings, if and only if the document is valid.
--- Since files have no contract, this leaves open which of the two is the case, and which schema is used.
+-- checked against some schema. Then the reports are errors, followed by warnings, and the list of errors is empty if
+-- and only if the document is valid. Since files have no contract, this leaves open whether the document is checked,
+-- and against which schema.
 abbrev pub IsChecked : Node → List ReportContent → Type 0
 IsChecked root reports =
     (reports ≡ [])

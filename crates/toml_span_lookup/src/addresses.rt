@@ -2,7 +2,7 @@
 use percent_encoding::{DecodeError, percent_decode};
 use std::alloc::{AllocError, Global};
 
-/// The address that the compiler of schemas gets for a schema's folder. Each `../` in a reference removes a `_/`.
+/// The address that replaces a schema's folder when a schema is compiled. Each `../` in a reference removes one `_/`.
 const HERE: &str = "file:///_/_/_/_/_/_/_/_/";
 
 /// `HERE`, and the folders above it except the root, from the inside out.
@@ -48,7 +48,7 @@ pub(crate) fn without_fragment(address: &str) -> &str {
     }
 }
 
-/// Appends `part` with its percent escapes decoded, or unchanged if the result is not UTF-8.
+/// Appends `part` to `out` with its percent escapes decoded, or unchanged if the result is not UTF-8.
 pub(crate) fn push_decoded(alloc: Global, out: &mut String, part: &str) -> Result<(), AllocError> {
     match percent_decode(part.as_bytes()).decode_utf8(alloc) {
         Ok(decoded) => out.push_str(decoded.as_ref()),

@@ -7,7 +7,8 @@ use toml_span_report::line_column;
 /// A schema of a catalog.
 #[derive(Drop)]
 struct Listed {
-    /// The patterns of the files to which the schema applies. The last pattern that matches a path decides.
+    /// The patterns of the files to which the schema applies. The last pattern that matches a path decides whether the
+    /// schema applies to the file.
     patterns: Vec<Pattern>,
     /// The path or the URL of the schema.
     address: String,
@@ -84,7 +85,8 @@ pub(crate) fn catalog_of(alloc: Global, text: &str) -> Result<Option<Catalog>, A
 }
 
 impl Catalog {
-    /// Returns the path or the URL of the first schema that applies to the file at `path`, or `None` if there is none.
+    /// Returns the path or the URL of the first schema that applies to the file at `path`, or `None` if no schema
+    /// applies.
     pub(crate) fn address_for(
         &self,
         alloc: Global,
@@ -100,8 +102,8 @@ impl Catalog {
     }
 }
 
-/// Returns the line and the column of the first error in a JSON text, or `None` if there is none. Both are counted from
-/// 1, the column in characters. Nesting more than 128 levels deep is an error.
+/// Returns the line and the column of the first error in a JSON text, or `None` if the text has no error. Both are
+/// counted from 1, the column in characters. Nesting more than 128 levels deep is an error.
 pub(crate) fn json_fault(alloc: Global, text: &str) -> Result<Option<(usize, usize)>, AllocError> {
     let mut scratch = Scratch::new(alloc);
     let mut reader = Reader::new(text, &mut scratch)?;

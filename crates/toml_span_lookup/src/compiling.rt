@@ -127,7 +127,8 @@ fn refuse_text(
     Ok(())
 }
 
-/// Adds an error to `complaint`: `error` is why the schema at `path` can't be compiled.
+/// Adds an error to `complaint` that says why the schema at `path` can't be compiled. If `error` is `Json`, the error
+/// names the path of the document that is not valid JSON instead.
 fn refuse(
     alloc: Global,
     options: &Options,

@@ -18,7 +18,7 @@ fn trimmed(line: &str) -> &str {
     line.trim_matches([' ', '\t', '\r'].as_slice())
 }
 
-/// Returns the directive in a line, or `None` if no address follows `#:schema` and a space or tab. `start` is the
+/// Returns the directive in a line, or `None` if no address follows `#:schema` and a space or tab. `start` is the byte
 /// offset of the line in the file.
 fn directive_in<'t>(line: &'t str, start: usize) -> Option<Directive<'t>> {
     let (_, rest) = line.split_once(SCHEMA)?;
@@ -36,7 +36,8 @@ fn directive_in<'t>(line: &'t str, start: usize) -> Option<Directive<'t>> {
     })
 }
 
-/// Returns the first directive above the first header or assignment of a file, or `None` if there is none.
+/// Returns the first directive above the first header or assignment of a file, or `None` if the file has no such
+/// directive.
 pub fn directive_of<'t>(text: &'t str) -> Option<Directive<'t>> {
     let mut rest = text.strip_prefix('\u{feff}').unwrap_or(text);
     for _ in 0..text.len() {

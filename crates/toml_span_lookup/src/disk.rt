@@ -22,7 +22,7 @@ pub trait Disk {
         path: &str,
     ) -> Result<Result<Vec<u8>, String>, AllocError>;
 
-    /// Returns the stamp of a file, or `None` if the stamp is not known, for example because there is no such file.
+    /// Returns the stamp of a file, or `None` if the stamp is not known, for example because the file does not exist.
     fn stamp(&mut self, path: &str) -> Option<Stamp>;
 }
 

@@ -22,7 +22,7 @@ fn push_warnings(reports: &mut Vec<Report>, found: Vec<Report>) -> Result<(), Al
     Ok(())
 }
 
-/// Returns the reports on a document: the violations of the schema, and then warnings of deprecated values. Fails as
+/// Returns the reports on a document: the violations of the schema, and then warnings about deprecated values. Fails as
 /// `Schema::check` does.
 pub(crate) fn findings(
     alloc: Global,

@@ -41,7 +41,7 @@ pub struct Lookup {
     catalog: Option<Catalog>,
     /// The stamp of the catalog before it was read.
     stamp: Option<Stamp>,
-    /// Whether the catalog has been read, or there is none to read.
+    /// Whether `prepare` has already read the catalog, tried to read it, or found that the options name no catalog.
     is_ready: bool,
     used: Vec<Used>,
     /// Error lines that have not been returned yet. They say why catalogs or schemas can't be used, or why documents
@@ -82,7 +82,7 @@ impl Lookup {
         self.path_of(alloc, address, folder_of(name))
     }
 
-    /// Returns the path of the local copy of the schema at `address` or, if there is no copy, of the schema itself. A
+    /// Returns the path of the local copy of the schema at `address` or, without a local copy, of the schema itself. A
     /// relative address starts at `folder`. Returns `None` if the schema is on a server and has no local copy.
     fn path_of(
         &self,
@@ -181,7 +181,7 @@ impl Lookup {
         Ok(())
     }
 
-    /// Returns the position in `used` of the schema at a path, or `None` if there is none.
+    /// Returns the position in `used` of the schema at a path, or `None` if `used` does not have it.
     fn position_of(&self, path: &str) -> Option<usize> {
         for (at, used) in self.used.as_slice().iter().enumerate() {
             if used.path.as_str() == path {
@@ -191,8 +191,8 @@ impl Lookup {
         None
     }
 
-    /// Adds an error to `complaint` on the first call: the schema at the URL `address`, which the option `schema`
-    /// names, is not fetched.
+    /// Adds an error to `complaint` on the first call with this address: the schema at the URL `address`, which the
+    /// option `schema` names, is not fetched.
     fn refuse_remote(&mut self, alloc: Global, address: &str) -> Result<(), AllocError> {
         if self.position_of(address).is_some() {
             return Ok(());
@@ -256,8 +256,9 @@ impl Lookup {
         }
     }
 
-    /// Reads the catalog, and the schema of the file `name`, whose content is `text`. Does not read again what has not
-    /// changed. If the catalog or the schema can't be used, `take_complaint` says why. Fails if an allocation fails.
+    /// Reads the catalog, and the schema of the file `name`, whose content is `text`. Does not read them again if their
+    /// files have not changed. If the catalog or the schema can't be used, `take_complaint` returns the reason. Fails
+    /// if an allocation fails.
     pub fn refresh<D: Disk>(
         &mut self,
         alloc: Global,
@@ -346,8 +347,8 @@ impl Lookup {
         mem::replace(&mut self.complaint, String::new(alloc))
     }
 
-    /// Checks a document against its schema, as `Schemas::check` says. Reads the catalog and the schema if they have
-    /// not been read. Fails if an allocation fails.
+    /// Checks a document against its schema, as `Schemas::check` does. Before that, reads the catalog and the schema if
+    /// they have not been read. Fails if an allocation fails.
     pub fn check_reading<D: Disk>(
         &mut self,
         alloc: Global,

@@ -23,9 +23,9 @@ pub struct LocalCopy {
 /// The options about schemas, from the command line or an editor.
 #[derive(Clone, Drop)]
 pub struct Options {
-    /// The path or the URL of the schema of all files, or an empty text.
+    /// The path or the URL of the schema of all files. Empty if no schema is named.
     pub schema: String,
-    /// The path of a catalog, or an empty text.
+    /// The path of a catalog. Empty if no catalog is named.
     pub catalog: String,
     /// The local copies of schemas.
     pub copies: Vec<LocalCopy>,
@@ -47,7 +47,8 @@ impl Options {
         }
     }
 
-    /// Returns the path of the local copy of the schema at `address`, or `None` if there is none. Ignores fragments.
+    /// Returns the path of the local copy of the schema at `address`, or `None` if the schema has no local copy.
+    /// Ignores fragments.
     pub(crate) fn copy_of(&self, address: &str) -> Option<&str> {
         for copy in self.copies.as_slice() {
             if without_fragment(copy.address.as_str()) == without_fragment(address) {

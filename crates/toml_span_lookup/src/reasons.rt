@@ -5,8 +5,8 @@ use crate::options::Place;
 use std::alloc::{AllocError, Global};
 use toml_span_report::visible::push_visible;
 
-/// Adds an error line about the file at `path`, which may be a URL, to `complaint`. `what` is what can't be done with
-/// the file, such as `read the catalog`, and `reason` says why.
+/// Adds an error line about the file at `path`, which may be a URL, to `complaint`. `what` names the failed action,
+/// such as `read the catalog`, and `reason` says why it failed.
 pub(crate) fn complain(
     complaint: &mut String,
     what: &str,
@@ -34,7 +34,7 @@ pub(crate) fn copy_help(alloc: Global, place: Place, url: &str) -> Result<String
     }
 }
 
-/// Returns the message that nothing is fetched, and how to name a local copy of the schema at `url`.
+/// Returns the message that nothing is fetched. It also says how to name a local copy of the schema at `url`.
 pub(crate) fn remote_reason(alloc: Global, place: Place, url: &str) -> Result<String, AllocError> {
     match place {
         Place::Arguments => format!(in alloc;

@@ -7,8 +7,9 @@ use Rattle.toml_span_editor.specs.declared.diagnostics.Diagnosed.{Diagnosed}
 use Rattle.toml_span_editor.specs.declared.positions.Encoding.{Encoding}
 use Rattle.toml_span_lookup.specs.Findings.{file_says}
 
--- The diagnostics of a text with this name are those of `check`, with a schema that the file or the settings name, if
--- there is one. This leaves open who names the schema, and which schema it is.
+-- `made` has the diagnostics of `text`, the text of the file `name`. They are those of `toml-span check` with the
+-- schema that the file or the settings choose, if there is one. The relation leaves open which of the two chooses the
+-- schema, and which schema it is.
 abbrev pub AreChecked : Version → List ℕ → Encoding → List ℕ → Diagnosed → Type 0
 AreChecked version name encoding text made =
     (chooser : Chooser) × Diagnoses file_says version chooser name encoding text

@@ -12,14 +12,14 @@ frame_of content = codes "Content-Length: " ++ decimal (length content) ++ codes
 abbrev pub AreFrames : List ℕ → Type 0
 AreFrames bytes = (contents : List (List ℕ)) × (bytes ≡ flat_map frame_of contents)
 
--- Only whole frames were written.
+-- Between the contents `old` and `new` of the output, only whole frames were written.
 abbrev pub WritesFrames : Option (List ℕ) → Option (List ℕ) → Type 0
 WritesFrames old new = (bytes : List ℕ) × AreFrames bytes × Appends old new bytes
 
--- Frames were written, or only a prefix of them, since a write failed.
+-- Frames were written or, if a write failed, only a prefix of them.
 abbrev pub WritesFront : Option (List ℕ) → Option (List ℕ) → Type 0
 WritesFront old new = (bytes : List ℕ) × AreFrames bytes × HasWritten old new bytes
 
--- Frames were written. If the server ends, a prefix of them is enough.
+-- Frames were written. If `result` is not `None`, that is, if the server ends, a prefix of them is enough.
 abbrev pub Writes : {A : Type 0} → Option A → Option (List ℕ) → Option (List ℕ) → Type 0
 Writes result old new = MatchOption result (WritesFrames old new) (λ _. WritesFront old new)

@@ -22,8 +22,8 @@ const FIX_ALL: &str = "source.fixAll";
 /// The kind of an action that converts a table or an array to another form.
 const REWRITE: &str = "refactor.rewrite";
 
-/// Returns whether the kind of action `kind` is `wanted` or a part of `wanted`, as `source.fixAll` is a part of
-/// `source`. Every kind is a part of the empty kind.
+/// Returns whether the kind of action `kind` is `wanted` or a sub-kind of `wanted`, as `source.fixAll` is a sub-kind of
+/// `source`. Every kind is a sub-kind of the empty kind.
 fn is_kind(kind: &str, wanted: &str) -> bool {
     match kind.strip_prefix(wanted) {
         Some(rest) => rest.is_empty() || wanted.is_empty() || rest.starts_with('.'),
@@ -86,7 +86,8 @@ fn write_conversions(
     Ok(())
 }
 
-/// Writes an action for each repair of a diagnostic that touches `span`. `document` is the text as `read` returns it.
+/// Writes an action for each repair of a diagnostic that touches `span`. `document` is the result of `read` for the
+/// text.
 fn write_repairs(
     alloc: Global,
     out: &mut Writer,
@@ -108,8 +109,8 @@ fn write_repairs(
     Ok(())
 }
 
-/// Writes an action that makes all safe repairs of a text, if there are any. `document` is the text as `read` returns
-/// it.
+/// Writes an action that makes all safe repairs of a text, if there are any. `document` is the result of `read` for the
+/// text.
 fn write_fix_all(
     alloc: Global,
     out: &mut Writer,
@@ -160,7 +161,7 @@ pub(crate) fn write_actions(
     out.end_array()
 }
 
-/// Returns the range of a request as a span, or `None` if the request has no range.
+/// Returns the range of a request as a span, or `None` if the request has no valid range.
 pub(crate) fn span_of(table: &PositionTable<'_>, params: &Value<'_>) -> Option<Span> {
     let range = range_of(params.get("range")?)?;
     let start = offset_at(table.encoding, table.text, range.start);

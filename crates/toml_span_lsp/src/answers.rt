@@ -58,8 +58,8 @@ fn write_proposal(out: &mut Writer, proposal: &Proposal) -> Result<(), AllocErro
     out.end_object()
 }
 
-/// Writes the proposals for an offset: what `suggestions` returns for the schema `guide` or, if `guide` is `None` or
-/// `suggestions` returns `None`, those of `write_proposals`.
+/// Writes the completion items for the offset `at`: the `suggestions` of the schema `guide`. If `guide` is `None` or
+/// `suggestions` returns `None`, writes the items of `write_proposals`.
 pub(crate) fn write_completion(
     alloc: Global,
     out: &mut Writer,
@@ -77,7 +77,7 @@ pub(crate) fn write_completion(
     write_proposals(alloc, out, table, document, at)
 }
 
-/// Writes the proposals for an offset that need no schema.
+/// Writes the completion items for the offset `at` that `proposals` returns, without a schema.
 fn write_proposals(
     alloc: Global,
     out: &mut Writer,

@@ -1,4 +1,4 @@
-//! The answer to `initialize`, which lists the capabilities of the server.
+//! Answers `initialize`: stores the capabilities of the client, and writes those of the server.
 use crate::configuration::{settings_in, use_settings};
 use crate::incoming::{member, text_in};
 use crate::outgoing::{flag, number, text};
@@ -32,7 +32,8 @@ fn offers_utf8(params: &Value<'_>) -> bool {
     }
 }
 
-/// Returns whether `names` select a member of `capabilities` that is `true`, in the parameters of `initialize`.
+/// Returns whether the client has a capability: whether the member at the path `names` in `params.capabilities` is
+/// `true`. `params` are the parameters of `initialize`.
 fn can(params: &Value<'_>, names: &[&str]) -> bool {
     let said = params
         .get("capabilities")
@@ -125,7 +126,7 @@ fn list(out: &mut Writer, name: &str, items: &[&str]) -> Result<(), AllocError> 
     out.end_array()
 }
 
-/// Writes which notifications the client must send: changes as ranges, and when a document is opened, saved or closed.
+/// Writes which notifications the client must send: when a document is opened, saved or closed, and changes as ranges.
 fn write_sync(out: &mut Writer) -> Result<(), AllocError> {
     out.key("textDocumentSync")?;
     out.begin_object()?;

@@ -76,7 +76,7 @@ pub(crate) fn use_settings(alloc: Global, state: &mut State, given: Given) {
     state.lookup = Lookup::new(alloc, given.options);
 }
 
-/// Returns a value, or `None` if it is null or an empty object.
+/// Returns `value`, or `None` if it is missing, null or an empty object.
 fn not_empty<'v, 'j>(value: Option<&'v Value<'j>>) -> Option<&'v Value<'j>> {
     match value? {
         Value::Null => None,

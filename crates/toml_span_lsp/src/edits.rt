@@ -13,8 +13,8 @@ use toml_span_format::Options;
 use toml_span_lex::span::Span;
 use toml_span_lex::stop::Stop;
 
-/// Writes the edits that rename the key at an offset. Fails with a `Refusal` if the rename is refused, or if the
-/// document has errors.
+/// Writes the edits that rename the key at the offset `at` to the `newName` in `params`. Fails with a `Refusal` if
+/// `newName` is not a string, if the document has errors, or if the rename is refused.
 pub(crate) fn write_rename(
     alloc: Global,
     out: &mut Writer,

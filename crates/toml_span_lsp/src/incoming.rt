@@ -66,8 +66,8 @@ pub(crate) fn message_of<'v, 'j>(value: &'v Value<'j>) -> Message<'v, 'j> {
     }
 }
 
-/// Returns the member that `names` select in nested objects, from the outermost object inwards, or `None` if there is
-/// none.
+/// Returns the value at the path `names` in the nested objects of `value`, or `None` if a member of the path is
+/// missing.
 pub(crate) fn member<'v, 'j>(value: &'v Value<'j>, names: &[&str]) -> Option<&'v Value<'j>> {
     let [name, rest @ ..] = names else {
         return Some(value);
@@ -75,8 +75,8 @@ pub(crate) fn member<'v, 'j>(value: &'v Value<'j>, names: &[&str]) -> Option<&'v
     member(value.get(*name)?, rest)
 }
 
-/// Returns the string that `names` select in nested objects, from the outermost object inwards. Returns `None` if the
-/// member is missing or not a string.
+/// Returns the string at the path `names` in the nested objects of `value`. Returns `None` if a member of the path is
+/// missing, or if the last is not a string.
 pub(crate) fn text_in<'v>(value: &'v Value<'_>, names: &[&str]) -> Option<&'v str> {
     member(value, names)?.as_str()
 }

@@ -7,8 +7,8 @@ use toml_span_editor::table::PositionTable;
 use toml_span_lookup::directive::directive_of;
 use toml_span_lookup::lookup::Lookup;
 
-/// Returns the URI of the schema that the file `name` names by `address`. Returns `address` itself if the schema is on
-/// a server and has no local copy, and `None` if the schema's path is not absolute.
+/// Returns the URI of the schema that the file `name` refers to by `address`. Returns `address` itself if the schema is
+/// on a server and has no local copy, and `None` if the schema's path is not absolute.
 fn target_of(
     alloc: Global,
     lookup: &Lookup,

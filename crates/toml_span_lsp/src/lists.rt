@@ -161,8 +161,9 @@ fn token_type(meaning: Meaning) -> usize {
     }
 }
 
-/// Writes the tokens of a document, each as five numbers (LSP 3.17, SemanticTokens). The numbers are the line and the
-/// start relative to the previous token, the length, the type, and 0 for no modifiers.
+/// Writes the tokens of a document, each as five numbers (LSP 3.17, SemanticTokens). The numbers are the line relative
+/// to the previous token, the start (relative to the previous token if that is on the same line), the length, the type,
+/// and 0 for no modifiers.
 pub(crate) fn write_tokens(
     alloc: Global,
     out: &mut Writer,

@@ -47,8 +47,8 @@ fn write_deprecated(out: &mut Writer) -> Result<(), AllocError> {
     out.end_array()
 }
 
-/// Returns the range to mark for a diagnostic. For a diagnostic of a schema on several lines, such as a missing key,
-/// returns only the first line.
+/// Returns the range to mark for a diagnostic. If a schema caused the diagnostic and its range has several lines, as
+/// for a missing key, returns only the first line of the range.
 fn shown_range(diagnostic: &Diagnostic) -> Range {
     let Range { start, end } = diagnostic.range;
     if start.line < end.line && diagnostic.code.as_str().starts_with("schema") {
@@ -116,8 +116,8 @@ fn diagnosed(
     Ok(made)
 }
 
-/// Adds `complaint`, error lines about the schema of a document, to `notices`, unless the complaint shown last for this
-/// document is the same.
+/// Adds `complaint`, error lines about the schema of `document`, to `notices`. Does nothing if `complaint` is empty, or
+/// if it was the last to be shown for this document.
 fn show_complaint(
     document: &mut Open,
     notices: &mut String,

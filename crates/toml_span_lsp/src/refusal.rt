@@ -35,7 +35,7 @@ pub(crate) fn refusal_with(alloc: Global, code: i64, message: &str) -> Result<Re
     })
 }
 
-/// Returns the error of a refusal with a copy of `message`, or of a failed allocation.
+/// Returns `Stop::Fault` with a refusal that has a copy of `message`, or `Stop::Memory` if an allocation fails.
 pub(crate) fn refused(alloc: Global, code: i64, message: &str) -> Stop<Refusal> {
     match refusal_with(alloc, code, message) {
         Ok(refusal) => Stop::Fault(refusal),

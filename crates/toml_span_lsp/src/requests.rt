@@ -30,7 +30,7 @@ struct Wishes {
     width: Option<usize>,
 }
 
-/// Returns the offset of the position in a request. Fails with `INVALID_PARAMS` if the request has no position.
+/// Returns the offset of the position in a request. Fails with `INVALID_PARAMS` if the request has no valid position.
 fn offset_of(
     alloc: Global,
     table: &PositionTable<'_>,
@@ -134,7 +134,7 @@ fn write_of(
 }
 
 /// Writes the answer to a request about a document. If the document has errors, answers about the text that `readable`
-/// keeps, or writes null if there is none. Fails with a `Refusal` if the request is refused.
+/// returns, or writes null if `readable` returns `None`. Fails with a `Refusal` if the request is refused.
 fn write_readable(
     alloc: Global,
     method: Method,
@@ -162,7 +162,7 @@ fn write_readable(
 }
 
 /// Writes the actions for the range in a request. `name` is the path of the file. Reads no files. Fails with
-/// `INVALID_PARAMS` if the request has no range.
+/// `INVALID_PARAMS` if the request has no valid range.
 fn write_actions_of(
     alloc: Global,
     out: &mut Writer,

@@ -16,8 +16,8 @@ use toml_span_lookup::disk::Disk;
 /// How the server ended.
 #[derive(Clone, Copy, Debug, PartialEq, Eq)]
 pub struct Ended {
-    /// The exit status: 0 after `shutdown` and `exit`, 1 if the client has left without them, 2 if the input is not
-    /// made of frames, 3 if a read or a write failed, or 4 if an allocation failed.
+    /// The exit status: 0 after `shutdown` and `exit`, 1 if the client left without one of them, 2 if the input is not
+    /// a sequence of whole frames, 3 if a read or a write failed, or 4 if an allocation failed.
     pub status: u8,
     /// What was wrong, or an empty text.
     pub reason: &'static str,

@@ -85,7 +85,7 @@ fn read_width(value: &Value<'_>, read: &mut Read) -> Result<(), AllocError> {
     }
 }
 
-/// Returns the version of TOML that the setting `toml` calls `name`, or `None` if there is none.
+/// Returns the version of TOML that `name` denotes in the setting `toml`, or `None` if `name` is unknown.
 fn version_named(name: &str) -> Option<Version> {
     match name {
         "auto" => Some(Version::Auto),
@@ -112,7 +112,7 @@ fn read_version(value: &Value<'_>, read: &mut Read) -> Result<(), AllocError> {
     }
 }
 
-/// Reads the setting `formats`, whether the keyword `format` is checked. Adds a fault if the value is wrong.
+/// Reads the setting `formats`, which says whether the keyword `format` is checked. Adds a fault if the value is wrong.
 fn read_formats(value: &Value<'_>, read: &mut Read) -> Result<(), AllocError> {
     match set_in(value, "formats") {
         None => Ok(()),
@@ -124,7 +124,7 @@ fn read_formats(value: &Value<'_>, read: &mut Read) -> Result<(), AllocError> {
     }
 }
 
-/// Returns an address that is empty or a URL unchanged. Returns any other address as a path, as `rooted` does.
+/// Returns `address` unchanged if it is empty or a URL. Otherwise, it is a path, and the result is that of `rooted`.
 fn address_in(alloc: Global, root: &str, address: &str) -> Result<String, AllocError> {
     if address.is_empty() || address.contains("://") {
         String::from_str(alloc, address)
@@ -159,8 +159,9 @@ fn read_paths(
     }
 }
 
-/// Reads the setting `schemaMap`, the local copies of schemas, whose paths are relative to `root`. Adds a fault if the
-/// value is not an object, or at the first path that is not a string. Uses the copies before that path.
+/// Reads the setting `schemaMap`, an object that maps the URL of a schema to the path of a local copy. Paths are
+/// relative to `root`. Adds a fault if the value is not an object, or at the first path that is not a string. Uses the
+/// copies before that path.
 fn read_copies(
     alloc: Global,
     root: &str,
@@ -185,7 +186,7 @@ fn read_copies(
     Ok(())
 }
 
-/// Reads the settings in a value. A setting that is missing, null or wrong has its default value, but a wrong
+/// Reads the settings in `value`. A setting that is missing, null or wrong has its default value, but a wrong
 /// `schemaMap` may be used in part (see `read_copies`). Ignores unknown settings. Paths are relative to `root`.
 pub(crate) fn read_settings(
     alloc: Global,

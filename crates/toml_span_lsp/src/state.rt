@@ -31,7 +31,7 @@ pub(crate) struct Client {
     pub has_settings: bool,
     /// Whether the client reports changes of the settings when the server asks it to.
     pub registers_settings: bool,
-    /// Whether the client supports snippets: texts with places to fill in.
+    /// Whether the client supports snippets: texts with placeholders for the user to fill in.
     pub has_snippets: bool,
 }
 

@@ -155,9 +155,9 @@ fn push_notices(
     Ok(())
 }
 
-/// Answers the message in a frame with this content. Returns the contents of the frames to send, in order. Reads
-/// schemas from `disk` when a document is opened or saved, or when settings change. Fails if an allocation fails. The
-/// message may then be carried out in part.
+/// Answers the message in `content`, the content of a frame. Returns the contents of the frames to send, in order.
+/// Reads schemas from `disk` when a document is opened or saved, or when settings change. Fails if an allocation fails.
+/// The message may then be carried out in part.
 pub fn step<D: Disk>(
     alloc: Global,
     state: &mut State,

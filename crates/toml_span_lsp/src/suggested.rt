@@ -26,7 +26,7 @@ fn rank_of(suggestion: &Suggestion) -> &'static str {
     }
 }
 
-/// Writes the description of a suggestion as Markdown.
+/// Writes the documentation of a suggestion as Markdown.
 fn write_documentation(out: &mut Writer, documentation: &str) -> Result<(), AllocError> {
     out.key("documentation")?;
     out.begin_object()?;
@@ -36,7 +36,7 @@ fn write_documentation(out: &mut Writer, documentation: &str) -> Result<(), Allo
 }
 
 /// Writes the range that a suggestion replaces, and the new text: the snippet if there is one and `has_snippets` is
-/// set, otherwise the text without places to fill in.
+/// set, otherwise `suggestion.text`.
 fn write_edit(
     out: &mut Writer,
     table: &PositionTable<'_>,

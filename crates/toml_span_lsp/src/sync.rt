@@ -65,8 +65,8 @@ fn judge<D: Disk>(
     publish(alloc, state, uri, out)
 }
 
-/// Opens a document, reads its schema, and appends the notification with its diagnostics, as `publish` does. Only
-/// appends a warning if the parameters are wrong.
+/// Opens a document, reads its schema, and appends the notification with its diagnostics, as `publish` does. If the
+/// parameters are wrong, only appends a warning.
 pub(crate) fn open<D: Disk>(
     alloc: Global,
     state: &mut State,
@@ -104,7 +104,7 @@ fn range_in(change: &Value<'_>) -> Result<Option<Range>, ()> {
     }
 }
 
-/// Returns a text after changes, or `None` if a change is not valid.
+/// Returns `text` after `changes`, or `None` if a change is not valid.
 fn text_after(
     alloc: Global,
     encoding: Encoding,

@@ -42,8 +42,8 @@ fn last_part(uri: &str) -> &str {
     uri.rsplit('/').next().unwrap_or(uri)
 }
 
-/// Returns a path relative to the folder `root` as a path in that folder, or after `./` if `root` is empty. `root` must
-/// end with a slash or be empty. Returns an absolute path unchanged.
+/// Returns `path`, without `./` at its start, after the folder `root`, or after `./` if `root` is empty. Returns an
+/// absolute path unchanged. `root` must end with a slash or be empty.
 pub(crate) fn rooted(alloc: Global, root: &str, path: &str) -> Result<String, AllocError> {
     let mut out = String::new(alloc);
     if !path.starts_with('/') {

@@ -29,7 +29,7 @@ error at fault = record { at = at; fault = fault }
 
 -- ---- keys
 
--- The text from i to j is a key of this name: `simple-key = quoted-key / unquoted-key`
+-- The text from i to j is a key with the name `name`: `simple-key = quoted-key / unquoted-key`
 abbrev pub IsKey : List ℕ → ℕ → ℕ → List ℕ → Type 0
 IsKey text i j name =
     RunAt is_keylike text i j name
@@ -40,7 +40,7 @@ abbrev pub string_error : ℕ → ℕ → Error → PathError
 string_error i j (errors.UnterminatedString at) = error i faults.Open
 string_error i j other = error j faults.Quoted
 
--- No key can be read at i, and the error says why: neither a bare key nor a quote is there, or the string is a
+-- No key can be read at i, and the error says why: neither a bare key nor a quote is there, or the string there is a
 -- multi-line string, or it is not valid.
 abbrev pub NoKey : List ℕ → ℕ → PathError → Type 0
 NoKey text i e =
@@ -51,7 +51,7 @@ NoKey text i e =
 
 -- ---- positions
 
--- digits without a leading zero
+-- whether `digits`, which are not empty, are ASCII digits without a leading zero, or `0`
 abbrev pub is_position : List ℕ → Bool
 is_position digits =
     list_all is_ascii_digit digits && (length digits == 1 || not (slice_index digits 0 == digit_zero))
@@ -60,7 +60,7 @@ is_position digits =
 abbrev pub is_closed : List ℕ → List ℕ → ℕ → Bool
 is_closed text digits k = is_position digits && slice_index text k == right_bracket
 
--- the text from i to j is a position of these digits, in brackets
+-- the text from i to j is a position in brackets with the digits `digits`
 abbrev pub IsPosition : List ℕ → ℕ → ℕ → List ℕ → Type 0
 IsPosition text i j digits =
     (k : ℕ) × (slice_index text i ≡ left_bracket) × RunAt is_keylike text (i + 1) k digits
@@ -112,7 +112,8 @@ abbrev pub IsPathOf : Option (List (List ℕ)) → List ℕ → Outcome → Type
 IsPathOf (Some names) text all = all ≡ Ok names
 IsPathOf None text all = IsDotted text all
 
--- the segments of a path, or its first error: those of a pointer, or else of a dotted key
+-- `all` is what reading the path `text` yields: the segments of a pointer if it is one, otherwise the segments or the
+-- first error of a dotted key with positions
 abbrev pub IsPath : List ℕ → Outcome → Type 0
 IsPath text all = IsPathOf (pointer_segments text) text all
 
@@ -122,7 +123,7 @@ Reads is (Ok parts) = is (Ok (map cow_str_bytes parts.items))
 Reads is (Err (memory_or.Fault e)) = is (Err e)
 Reads is (Err (memory_or.Memory e)) = Unit {0}
 
--- the value that segments name
+-- the value that the segments name, beginning at the value `n`
 abbrev pub named : List (List ℕ) → Node → Option Node
 named segments n = option_and_then (λ path. node_at path n) (path_named segments n)
 

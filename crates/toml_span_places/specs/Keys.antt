@@ -13,7 +13,8 @@ use Rattle.toml_span_places.specs.declared.keys.Role.{Role}
 abbrev pub is_quote : ℕ → Bool
 is_quote c = c == quotation_mark || c == apostrophe
 
--- The span with the quotes. An empty string has the span of its opening quote, and the closing one follows it.
+-- The span, with its quotes, of a key or single-line string that is read with the span `span`: that of the content or,
+-- if the content is empty, of the opening quote.
 abbrev pub with_quotes : List ℕ → Span → Span
 with_quotes text span =
     if nat_lt span.end (length text) && (nat_lt 0 span.start && is_quote (slice_index text (span.start - 1)))
@@ -29,7 +30,7 @@ pub record KeyMention : Type 0 where
   pub whole : Span
   pub role : Role
 
--- the result as plain data
+-- a `KeyPlace` as plain data
 abbrev pub key_mention : KeyPlace → KeyMention
 key_mention place =
     record { path = map step_of place.path.items; span = place.span; whole = place.whole; role = place.role }
@@ -39,6 +40,6 @@ mentioned_key text m =
     option_map (λ role. record { path = m.0; span = m.1.key; whole = with_quotes text m.1.key; role = role })
     m.1.role
 
--- all keys of the sections
+-- all keys in the sections `bs`, in the order of the text
 abbrev pub document_keys : List ℕ → List ParsedSection → List KeyMention
 document_keys text bs = filter_map (mentioned_key text) (mentions true bs)

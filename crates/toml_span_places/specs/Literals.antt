@@ -7,25 +7,26 @@ use Rattle.toml_span_tree.specs.Node.{Node}
 use Rattle.toml_span_tree.specs.Value.{inner_of, span_of, text_in}
 use Rattle.toml_span_places.specs.Keys.{is_quote}
 
--- the byte `back` bytes before an offset, or 0 before the start
+-- the byte `back` bytes before the offset `at`, or 0 if the text has no such byte
 abbrev pub byte_before : List ℕ → ℕ → ℕ → ℕ
 byte_before text at back = if nat_lt at back then 0 else slice_index text (at - back)
 
--- The end of the opening quotes of a string whose content begins at an offset. A line end may be between the quotes and
--- the content; it is dropped.
+-- The end of the opening quotes of a string whose content begins at the offset `from`. A line end may be between the
+-- quotes and the content; it belongs to neither.
 abbrev pub after_quotes : List ℕ → ℕ → ℕ
 after_quotes text from =
     if not (byte_before text from 1 == line_feed) then from
     else if byte_before text from 2 == carriage_return then from - 2
     else from - 1
 
--- the number of quotes before an offset: three or one
+-- the number of quotes that open the string whose opening quotes end at the offset `at`: three or one
 abbrev pub quotes_before : List ℕ → ℕ → ℕ
 quotes_before text at =
     let quote = byte_before text at 1 in
     if is_quote quote && (byte_before text at 2 == quote && byte_before text at 3 == quote) then 3 else 1
 
--- The span of a string with its quotes. An empty single-line string has the span of its opening quote.
+-- The span, with its quotes, of a string that is read with the span `span`: that of the content or, for an empty
+-- single-line string, of the opening quote.
 abbrev pub string_literal : List ℕ → Span → Bool → Span
 string_literal text span empty =
     if not (nat_lt span.end (length text)) then span

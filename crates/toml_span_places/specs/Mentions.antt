@@ -1,5 +1,5 @@
--- The mentions: where a text names the tables and values of its document, in the order of the text. Keys, tables and
--- sections are picked from this list.
+-- The mentions: where a text names the tables and values of its document, in the order of the text. `Keys`, `Tables`
+-- and `Sections` pick from this list.
 use Rattle.std.specs.Prelude.{ℕ, zero, suc, Bool, if◌then◌else◌, List, [], ◌∷◌, ◌++◌, map, Option, Some, None, Vec}
 use Rattle.std.specs.Global.{Global}
 use Rattle.toml_span_lex.specs.declared.span.Span.{Span}
@@ -16,10 +16,11 @@ use Rattle.toml_span_places.specs.declared.keys.Role.TheVariants as roles
 use Rattle.toml_span_places.specs.declared.tables.TableForm.{TableForm}
 use Rattle.toml_span_places.specs.declared.tables.TableForm.TheVariants as forms
 
--- a path of borrowed names, and a mention, as plain data
+-- a path of borrowed names as plain data
 abbrev pub steps_of : Vec Lent Global → Path
 steps_of path = map step_of path.items
 
+-- a mention as plain data: its path and its details
 abbrev pub Mentioned : Type 0
 Mentioned = Path × Details
 
@@ -44,7 +45,8 @@ abbrev pub by_header : ParsedSection → Option ℕ → Option Role → Option T
 by_header b e role form key =
     record { element = e; role = role; form = form; key = key; span = b.header_span; extent = b.extent }
 
--- a table in single brackets, or a new element of an array
+-- The mention by `k`, the last part of the header of the section `b`, which names the path `p`. In single brackets it
+-- names a table, in double brackets a new element of the array at `p`.
 abbrev pub last_mention : (Path → ℕ) → ParsedSection → Path → SimpleKey → Mentioned
 last_mention counts b p k =
     let role = Some roles.HeaderLast in (
@@ -53,8 +55,9 @@ last_mention counts b p k =
           else by_header b None role (Some forms.Header) k.span,
     )
 
--- Each part except the last passes through a table or, in an array of tables, through its latest element. A section
--- without a header is that of the root.
+-- The mentions by the parts of a section's header that come after those in the path `p`. Each part except the last
+-- passes through a table or, in an array of tables, through its latest element. The section without a header mentions
+-- the root.
 abbrev pub header_mentions : (Path → ℕ) → ParsedSection → Path → List SimpleKey → List Mentioned
 header_mentions counts b p [] = (p, by_header b None None None b.header_span) ∷ []
 header_mentions counts b p (k ∷ []) = last_mention counts b (with_key p k) k ∷ []
@@ -69,7 +72,8 @@ abbrev pub by_value : Option Role → Option TableForm → Span → Span → Det
 by_value role form key span =
     record { element = None; role = role; form = form; key = key; span = span; extent = span }
 
--- the parts of the key of an assignment with this extent
+-- the mentions by the parts of an assignment's key that come after those in the path `p`; `extent` is the span of the
+-- assignment
 abbrev pub parts_mentions : Span → Path → List SimpleKey → List Mentioned
 parts_mentions extent p [] = []
 parts_mentions extent p (k ∷ []) = (with_key p k, by_value (Some roles.Last) None k.span extent) ∷ []
@@ -77,13 +81,13 @@ parts_mentions extent p (k ∷ l ∷ more) =
     (with_key p k, by_value (Some roles.Dotted) (Some forms.Dotted) k.span extent)
     ∷ parts_mentions extent (with_key p k) (l ∷ more)
 
--- the path with these parts at its end
+-- the path `p` with these parts appended
 abbrev pub below : Path → List SimpleKey → Path
 below p [] = p
 below p (k ∷ ks) = below (with_key p k) ks
 
 abbrev mutual
-  -- the braces and keys in the value at a path, at any depth
+  -- the mentions by braces and keys in the value at the path `p`, at any depth
   pub value_mentions : Path → ParsedValue → List Mentioned
   value_mentions p (parsed i span) = inner_mentions p span i
 
@@ -92,12 +96,13 @@ abbrev mutual
   inner_mentions p span (array vs) = item_mentions p 0 vs
   inner_mentions p span (inline ps) = (p, by_value None (Some forms.Inline) span span) ∷ pair_mentions p ps
 
-  -- the elements of the array at a path, beginning at a position
+  -- the mentions in elements of the array at the path `p`, the first of them at the position `i`
   pub item_mentions : Path → ℕ → ParsedItems → List Mentioned
   item_mentions p i no_items = []
   item_mentions p i (item v vs) = value_mentions (with_position p i) v ++ item_mentions p (suc i) vs
 
-  -- the assignments in the table at a path, each key before its value
+  -- the mentions in assignments of the table at the path `p`, for each assignment those by the key before those in the
+  -- value
   pub pair_mentions : Path → ParsedPairs → List Mentioned
   pair_mentions p no_pairs = []
   pair_mentions p (pair ks v extent ps) =
@@ -105,19 +110,20 @@ abbrev mutual
 
 -- ---- sections
 
--- the mentions in a section, where `counts` is the number of elements that each array of tables has before it
+-- the mentions in the header of the section `b` and, if `with_assignments`, in its assignments; `counts` has the number
+-- of elements that earlier headers added to each array of tables
 abbrev pub section_mentions : Bool → (Path → ℕ) → ParsedSection → List Mentioned
 section_mentions with_assignments counts b =
     header_mentions counts b [] b.header
     ++ (if with_assignments then pair_mentions (section_path counts b) (pairs_onto b.assignments no_pairs) else [])
 
--- The mentions in sections that follow others. The others are in the first list, the latest first.
+-- The mentions in sections that follow those in `earlier`, which lists the latest section first.
 abbrev pub mentions_after : Bool → List ParsedSection → List ParsedSection → List Mentioned
 mentions_after with_assignments earlier [] = []
 mentions_after with_assignments earlier (b ∷ bs) =
     section_mentions with_assignments (elements_added (opened_by earlier)) b
     ++ mentions_after with_assignments (b ∷ earlier) bs
 
--- all mentions in these sections
+-- all mentions in the headers of the sections `bs` and, if `with_assignments`, in their assignments
 abbrev pub mentions : Bool → List ParsedSection → List Mentioned
 mentions with_assignments bs = mentions_after with_assignments [] bs

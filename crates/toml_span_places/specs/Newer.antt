@@ -20,14 +20,14 @@ use Rattle.toml_span_places.specs.declared.newer.NewerForm.{NewerForm}
 use Rattle.toml_span_places.specs.declared.newer.NewerKind.{NewerKind}
 use Rattle.toml_span_places.specs.declared.newer.NewerKind.TheVariants as kinds
 
--- one use
+-- a list of one use, of the kind `kind`, with the span from `start` to `end`
 abbrev pub form : NewerKind → ℕ → ℕ → List NewerForm
 form kind start end = record { kind = kind; span = from_to start end } ∷ []
 
 -- ---- strings and keys
 
--- `escape-seq-char =/ %x65` and `escape-seq-char =/ %x78 2HEXDIG`: the byte at an offset, if it is the letter of such
--- an escape
+-- `escape-seq-char =/ %x65` and `escape-seq-char =/ %x78 2HEXDIG`: the escape whose letter is at the offset `at`, if it
+-- is one of these; `is_letter` says whether the byte there is the letter of an escape
 abbrev pub escape : List ℕ → Bool → ℕ → List NewerForm
 escape text is_letter at =
     if slice_index text at == small_e && is_letter then form kinds.EscapeEscape (at - 1) (at + 1)
@@ -37,7 +37,8 @@ escape text is_letter at =
 abbrev pub begins_escape : List ℕ → Bool → ℕ → Bool
 begins_escape text is_letter at = not is_letter && slice_index text at == backslash
 
--- The uses in this many bytes from an offset on. `is_letter` says whether the first byte is the letter of an escape.
+-- The uses in the given number of bytes from the offset `at` on. `is_letter` says whether the byte at `at` is the
+-- letter of an escape.
 abbrev pub escapes : List ℕ → Bool → ℕ → ℕ → List NewerForm
 escapes text is_letter at zero = []
 escapes text is_letter at (suc n) =
@@ -55,12 +56,13 @@ key_forms text keys = flat_map (λ key. string_forms text key.span) keys
 
 -- ---- dates and times
 
--- `partial-time = time-hour ":" time-minute [ ":" time-second [ time-secfrac ] ]`: the offset at which it begins, alone
--- or after a date
+-- `partial-time = time-hour ":" time-minute [ ":" time-second [ time-secfrac ] ]`: the offset at which it begins in
+-- `date`: 0 if it is alone, otherwise 11, after the date
 abbrev pub time_start : List ℕ → ℕ
 time_start date = if slice_index date 2 == colon then 0 else 11
 
--- `time-hour ":" time-minute`, if no colon follows. The span is that of the whole date or time.
+-- The use of `time-hour ":" time-minute` without a colon after it. `date` is the text of a date or time, and `span` its
+-- span.
 abbrev pub date_forms : List ℕ → Span → List NewerForm
 date_forms date span =
     let from = time_start date in
@@ -83,12 +85,13 @@ comment_kind AtEquals = kinds.CommentAtEquals
 comment_kind BeforePair = kinds.Comment
 comment_kind AfterLast = kinds.Comment
 
--- the comment from its start, if a comment has started, to the offset `end`
+-- the comment that begins at `start`, up to the offset `end`; none without a start
 abbrev pub comment_form : Gap → Option ℕ → ℕ → List NewerForm
 comment_form gap None end = []
 comment_form gap (Some start) end = form (comment_kind gap) start end
 
--- `[ comment ] newline` of a `ws-comment-newline`
+-- `[ comment ] newline` of a `ws-comment-newline`: the comment that begins at `comment`, if that is not None, and the
+-- newline whose %x0A is at the offset `at`
 abbrev pub line_end : List ℕ → Gap → Option ℕ → ℕ → List NewerForm
 line_end text gap comment at =
     comment_form gap comment (line_end_start text at)
@@ -99,7 +102,8 @@ is_after_last BeforePair = false
 is_after_last AtEquals = false
 is_after_last AfterLast = true
 
--- the uses that end with the byte at an offset; `comment` is the start of the comment that contains the byte
+-- the uses that end with the byte at the offset `at`; `comment` is the start of the comment that this byte continues or
+-- ends, if there is one
 abbrev pub byte_forms : List ℕ → Gap → Option ℕ → ℕ → List NewerForm
 byte_forms text gap comment at =
     if slice_index text at == line_feed then line_end text gap comment at
@@ -107,14 +111,15 @@ byte_forms text gap comment at =
     then form kinds.TrailingComma at (at + 1)
     else []
 
--- the start of the comment that contains the next byte
+-- the start of the comment that the byte after the offset `at` continues or ends, if there is one; `comment` is the
+-- same for the byte at `at`
 abbrev pub next_comment : List ℕ → Option ℕ → ℕ → Option ℕ
 next_comment text comment at =
     if slice_index text at == line_feed then None
     else if slice_index text at == hash then Some (unwrap_or comment at)
     else comment
 
--- whether a byte may occur in a gap, or between two gaps, outside comments
+-- whether a byte may occur in a gap, outside comments; a gap lies between a key, value or brace and the next one
 abbrev pub is_between : ℕ → Bool
 is_between c =
     is_blank c || (c == line_feed || c == carriage_return || c == hash || c == comma || c == equals)
@@ -122,7 +127,7 @@ is_between c =
 abbrev pub ends_gap : List ℕ → Option ℕ → ℕ → Bool
 ends_gap text comment at = is_none comment && not (is_between (slice_index text at))
 
--- the uses in this many bytes from an offset on, up to the first byte of a key, a value or a brace
+-- the uses in the given number of bytes from the offset `at` on, up to the first byte of a key, a value or a brace
 abbrev pub gap_from : List ℕ → Gap → Option ℕ → ℕ → ℕ → List NewerForm
 gap_from text gap comment at zero = []
 gap_from text gap comment at (suc n) =
@@ -141,12 +146,12 @@ scalar_forms text span (float x) = []
 scalar_forms text span (boolean b) = []
 scalar_forms text span (datetime d) = date_forms d span
 
--- the offset after the last of these keys, with its quotes
+-- the offset after the last of these keys, quotes included, or `end` for an empty list
 abbrev pub keys_end : List ℕ → ℕ → List SimpleKey → ℕ
 keys_end text end [] = end
 keys_end text end (key ∷ keys) = keys_end text (with_quotes text key.span).end keys
 
--- the gap after a pair, given the pairs after it
+-- the kind of the gap after a pair, given the pairs after it
 abbrev pub gap_before : ParsedPairs → Gap
 gap_before no_pairs = AfterLast
 gap_before (pair keys v extent ps) = BeforePair
@@ -164,7 +169,7 @@ abbrev mutual
   items_forms text no_items = []
   items_forms text (item v vs) = value_forms text v ++ items_forms text vs
 
-  -- for each pair: its key, the gaps around `=`, its value, and the gap after it
+  -- for each pair, the uses in its key, in the gap around its `=`, in its value, and in the gap after it
   pub pairs_forms : List ℕ → ParsedPairs → List NewerForm
   pairs_forms text no_pairs = []
   pairs_forms text (pair keys v extent ps) =
@@ -172,11 +177,11 @@ abbrev mutual
       ++ gap_forms text (gap_before ps) extent.end)
       ++ pairs_forms text ps
 
--- the gap after the pair at a position, given the number of pairs
+-- the kind of the gap after the pair at a position, given the number of pairs
 abbrev pub gap_after : ℕ → ℕ → Gap
 gap_after position count = if position + 1 == count then AfterLast else BeforePair
 
--- a pair, and the gap after it
+-- the uses in a pair, and in the gap after it, which is of the kind `after`
 abbrev pub pair_forms : List ℕ → ParsedAssignment → Gap → List NewerForm
 pair_forms text e after =
     ((key_forms text e.parts ++ gap_forms text AtEquals (keys_end text 0 e.parts)) ++ value_forms text e.value)
@@ -193,6 +198,6 @@ section_forms text b = key_forms text b.header ++ assignments_forms text b.assig
 abbrev pub mark_forms : List ℕ → List NewerForm
 mark_forms text = if text_start text == 0 then [] else form kinds.ByteOrderMark 0 (text_start text)
 
--- all uses in these sections
+-- all uses in the text, whose sections are `bs`
 abbrev pub newer_forms : List ℕ → List ParsedSection → List NewerForm
 newer_forms text bs = mark_forms text ++ flat_map (section_forms text) bs

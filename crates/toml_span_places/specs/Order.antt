@@ -9,6 +9,6 @@ abbrev pub or_key : ℕ → Option Key → ℕ
 or_key start None = start
 or_key start (Some key) = min start key.span.start
 
--- the same for a visited value
+-- the start of a visited value or of its key, whichever comes first
 abbrev pub start_of : Visited → ℕ
 start_of node = or_key (span_of (view node.value.now)).start (option_map (λ key. key.now) node.key)

@@ -15,20 +15,21 @@ abbrev pub text_start : List ℕ → ℕ
 text_start text =
     if slice_index text 0 == 0xEF && (slice_index text 1 == 0xBB && slice_index text 2 == 0xBF) then 3 else 0
 
--- The point after the lines of a section, whose assignments have this body. A line without a line end is the last of
--- the text.
+-- The point after the lines of a section's assignments, whose span is `body`. If the last of these lines has no line
+-- end, one must be written first.
 abbrev pub after_body : List ℕ → Span → InsertionPoint
 after_body text body = record { offset = body.end; needs_line_end = not (byte_before text body.end 1 == line_feed) }
 
--- The point if no section fills the table: for the root the start of the text, otherwise None.
+-- The point for a table that no section fills: for the root the start of the text, otherwise None.
 abbrev pub without_section : List ℕ → Path → Option InsertionPoint
 without_section text [] = Some (record { offset = text_start text; needs_line_end = false })
 without_section text (s ∷ p) = None
 
--- the point after this section if it fills the table at the path, otherwise the same as before
+-- the point after the section `s` if it fills the table at the path `p`, otherwise `point`
 abbrev pub later_point : List ℕ → Path → Option InsertionPoint → SectionMention → Option InsertionPoint
 later_point text p point s = if same_path s.path p then Some (after_body text s.body) else point
 
--- The point after the last section that fills the table at the path. (If no claims clash, there is at most one.)
+-- The point after the last section that fills the table at the path, or that of `without_section` if no section does.
+-- (If no claims clash, there is at most one.)
 abbrev pub insertion_point : List ℕ → Path → List ParsedSection → Option InsertionPoint
 insertion_point text p bs = fold (later_point text p) (without_section text p) (document_sections text bs)

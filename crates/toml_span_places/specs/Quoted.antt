@@ -9,7 +9,8 @@ use Rattle.toml_span_lex.specs.Bytes.{quotation_mark, apostrophe, backslash, is_
 
 -- ---- between quotation marks
 
--- the letter of a character's short escape
+-- the letter of a character's short escape, such as `n` for a line feed; None for a tab, which needs no escape, and for
+-- a character without a short escape
 abbrev pub letter_of : ℕ → Option ℕ
 letter_of c =
     if c == quotation_mark || c == backslash then Some c
@@ -26,7 +27,7 @@ is_control c = (nat_lt c space && not (c == tab)) || c == 0x7F
 abbrev pub digit : ℕ → List ℕ
 digit n = encode_utf8 (digit_char n)
 
--- an escape by number, such as `\x1f`
+-- the escape of a character by its number, such as `\x1f`
 abbrev pub number_escape : ℕ → List ℕ
 number_escape c = codes "\\x" ++ (digit (c / 16) ++ digit (c % 16))
 
@@ -45,10 +46,11 @@ basic text = flat_map basic_char (chars text)
 
 -- ---- strings and keys
 
--- whether the byte must be escaped in a basic string; then, whether it must not occur in a literal string
+-- whether the byte is a quotation mark or a backslash, which must be escaped in a basic string
 abbrev pub is_escaped : ℕ → Bool
 is_escaped c = c == quotation_mark || c == backslash
 
+-- whether the byte must not occur in a literal string
 abbrev pub is_unliteral : ℕ → Bool
 is_unliteral c = c == apostrophe || is_control c
 

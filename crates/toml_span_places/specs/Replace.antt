@@ -23,7 +23,8 @@ abbrev pub edited : List ℕ → ℕ → List Edit → List ℕ
 edited text from [] = drop from text
 edited text from ((s, with) ∷ es) = slice_range text from s.start ++ (with ++ edited text s.end es)
 
--- Bytes from 0x80 to 0xBF continue a character.
+-- Whether the offset is at the start of a character, or not below the length of the text. Bytes from 0x80 to 0xBF
+-- continue a character.
 abbrev pub is_boundary : List ℕ → ℕ → Bool
 is_boundary text at = nat_lt (slice_index text at) 0x80 || nat_le 0xC0 (slice_index text at)
 
@@ -40,13 +41,14 @@ abbrev pub or_later : ℕ → Option SpanFault → Option ReplaceError → Optio
 or_later index (Some fault) later = Some (record { index = index; fault = fault })
 or_later index None later = later
 
--- the first invalid edit and its index
+-- the index of the first edit whose span is invalid, and what is wrong with the span; `index` is the index of the first
+-- edit in the list, and `from` the end of the span before it
 abbrev pub first_fault : List ℕ → ℕ → ℕ → List Edit → Option ReplaceError
 first_fault text index from [] = None
 first_fault text index from ((s, with) ∷ es) =
     or_later index (fault_of text from s) (first_fault text (suc index) s.end es)
 
--- All spans are replaced, or the first invalid one is the error.
+-- The result is the text with all spans replaced or, if a span is invalid, the error about the first such span.
 abbrev pub Replaces : List ℕ → List Edit → Result (String Global) (Stop ReplaceError) → Type 0
 Replaces text es (Ok new) = (first_fault text 0 0 es ≡ None) × (string_bytes new ≡ edited text 0 es)
 Replaces text es (Err (stops.Fault e)) = first_fault text 0 0 es ≡ Some e

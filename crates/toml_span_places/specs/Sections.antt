@@ -20,19 +20,20 @@ pub record SectionMention : Type 0 where
   pub header : Span
   pub body : Span
 
--- the result as plain data
+-- a `SectionPlace` as plain data
 abbrev pub section_mention : SectionPlace → SectionMention
 section_mention place =
     record { path = map step_of place.path.items; form = place.form; header = place.header; body = place.body }
 
--- How a section begins, given how the mention at its start names a table. Only the root is not named.
+-- How a section begins, given the form in which its header names its table, or None without a header.
 abbrev pub form_of : Option TableForm → Option SectionForm
 form_of None = Some forms.Root
 form_of (Some tables.Header) = Some forms.Table
 form_of (Some tables.Element) = Some forms.Element
 form_of (Some _) = None
 
--- the start of the assignments: after the header's line or, without a header, the line of the first assignment
+-- the start of a section's body: the end of the header's line or, without a header, the start of the spaces and tabs
+-- before the first assignment
 abbrev pub body_start : List ℕ → SectionForm → Details → ℕ
 body_start text forms.Root d = blanks_start text d.extent.start
 body_start text forms.Table d = d.span.end
@@ -46,6 +47,6 @@ section_of text m =
     option_map (λ form. record { path = path_of m; form = form; header = m.1.span; body = body_of text form m.1 })
     (form_of m.1.form)
 
--- all sections
+-- the sections `bs`, each with the path of its table, in the order of the text
 abbrev pub document_sections : List ℕ → List ParsedSection → List SectionMention
 document_sections text bs = filter_map (section_of text) (mentions false bs)

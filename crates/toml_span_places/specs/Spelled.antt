@@ -20,7 +20,7 @@ separator first = if first then [] else codes ", "
 abbrev pub key_equals : List ℕ → List ℕ
 key_equals name = key_text name ++ codes " = "
 
--- A value that has been taken has no text.
+-- The text of a value, an array's elements or a table's entries. A value that has been taken has an empty text.
 abbrev mutual
   pub value_text : Node → List ℕ
   value_text (node i span) = inner_text i

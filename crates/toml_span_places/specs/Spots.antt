@@ -19,7 +19,7 @@ pub record Spot : Type 0 where
   pub span : Span
   pub value : Node
 
--- the result as plain data
+-- a `NodePlace` as plain data
 abbrev pub spot : NodePlace → Spot
 spot place = record {
   path = map step_of place.path.items;
@@ -31,8 +31,8 @@ spot place = record {
 abbrev pub holds : Span → ℕ → Bool
 holds span offset = nat_le span.start offset && nat_lt offset span.end
 
--- The value or its key, whichever contains the offset. If both do, it is the one that starts last, and if neither does,
--- the value.
+-- The value or its key, whichever contains the offset. If both do, it is the one that starts later, or the value if
+-- they start together. If neither does, it is the value.
 abbrev pub chosen : ℕ → Span → Option Span → Part × Span
 chosen offset literal None = (parts.Value, literal)
 chosen offset literal (Some quoted) =
@@ -40,7 +40,7 @@ chosen offset literal (Some quoted) =
     then (parts.Key, quoted)
     else (parts.Value, literal)
 
--- a value of the tree or its key, whichever contains the offset
+-- a value of the tree or its key, as `chosen` chooses, or None if neither contains the offset
 abbrev pub spot_of : List ℕ → ℕ → Listed → Option Spot
 spot_of text offset (p, k, n) =
     let c = chosen offset (literal_span text n) (option_map (λ named. with_quotes text named.1) k) in

@@ -9,23 +9,23 @@ use Rattle.toml_span_places.specs.Mentions.{Mentioned, mentions, path_of}
 use Rattle.toml_span_places.specs.declared.tables.TableForm.{TableForm}
 use Rattle.toml_span_places.specs.declared.tables.TablePlace.{TablePlace}
 
--- a mention of a table: its path, how it is named, and where
+-- a mention of a table: the path of the table, how the text names it, and where
 pub record TableMention : Type 0 where
   pub path : Path
   pub form : TableForm
   pub span : Span
 
--- the result as plain data
+-- a `TablePlace` as plain data
 abbrev pub table_mention : TablePlace → TableMention
 table_mention place = record { path = map step_of place.path.items; form = place.form; span = place.span }
 
 abbrev pub table_of : Mentioned → Option TableMention
 table_of m = option_map (λ form. record { path = path_of m; form = form; span = m.1.span }) m.1.form
 
--- all tables of the sections
+-- the tables that the sections `bs` name, one for each mention, in the order of the text
 abbrev pub document_tables : List ParsedSection → List TableMention
 document_tables bs = filter_map table_of (mentions true bs)
 
--- how the mentions of the table at a path name it
+-- the form of each mention of the table at the path `p`
 abbrev pub forms_at : Path → List TableMention → List TableForm
 forms_at p tables = map (λ t. t.form) (filter (λ t. same_path t.path p) tables)

@@ -1,4 +1,5 @@
-//! Paths as text: pointers, and dotted keys with positions in brackets.
+//! Reads paths that are written as text, as pointers or as dotted keys with positions in brackets, and finds the values
+//! that they name.
 ghost use Rattle.std.specs.Prelude.{◌≡◌, ◌<◌, ◌++◌, IfOk, OnOk, length, map, option_and_then, option_map, slice_index};
 ghost use Rattle.std.specs.Char.{is_ascii_digit};
 ghost use Rattle.std.specs.Cow.{cow_str_bytes};
@@ -44,7 +45,7 @@ pub enum PathFault {
 #[derive(Clone, Copy, Debug, PartialEq, Eq, Error)]
 #[error("{fault}")]
 pub struct PathError {
-    /// The offset in the path, in bytes.
+    /// The byte offset of the error in the path.
     pub at: usize,
     pub fault: PathFault,
 }
@@ -144,31 +145,30 @@ fn is_digit(byte: u8) -> bool
     byte.is_ascii_digit()
 }
 
-/// Returns whether all bytes are ASCII digits.
+/// Returns whether all of `bytes` are ASCII digits.
 fn are_digits(bytes: &[u8]) -> bool
     ensures { result ≡ list_all is_ascii_digit bytes.now }
 {
     bytes.iter().all(|byte| is_digit(*byte))
 }
 
-/// Returns whether `run`, some bare key bytes, is a position: digits without a leading zero, or `0`. `run` must not be
-/// empty.
+/// Returns whether `run` is a position: ASCII digits without a leading zero, or `0`. `run` must not be empty.
 fn is_position(run: &str) -> bool
     ensures { result ≡ spec.is_position run.now }
 {
     are_digits(run.as_bytes()) && (run.len() == 1 || byte_at(run, 0) != b'0')
 }
 
-/// Returns whether `digits`, some bare key bytes that end at the byte offset `end`, are a position, and a closing
-/// bracket follows them.
+/// Returns whether `digits`, which end at the byte offset `end` of `path`, are a position, and a closing bracket
+/// follows them.
 fn is_closed(path: &str, digits: &str, end: usize) -> bool
     ensures { result ≡ spec.is_closed path.now digits.now end }
 {
     is_position(digits) && byte_at(path, end) == b']'
 }
 
-/// Reads the position after the opening bracket at the byte offset `at`. Returns its digits and the offset after the
-/// closing bracket. Fails unless a position and a closing bracket follow.
+/// Reads the position after the opening bracket at the byte offset `at`. Returns the digits of the position, and the
+/// offset after the closing bracket. Fails unless a position and a closing bracket follow.
 #[tactic(auto, using(toml_span_read::proofs::Places::run_some))]
 fn opened_at<'p>(path: &'p str, at: usize) -> Result<(CowStr<'p>, usize), Stop<PathError>>
     requires { slice_index path.now at ≡ left_bracket }
@@ -187,8 +187,8 @@ fn opened_at<'p>(path: &'p str, at: usize) -> Result<(CowStr<'p>, usize), Stop<P
     }
 }
 
-/// Reads the position in brackets at the byte offset `at`. Returns its digits and the offset after the closing bracket.
-/// Fails if anything else is there.
+/// Reads the position in brackets at the byte offset `at`. Returns the digits of the position, and the offset after the
+/// closing bracket. Fails if anything else is there.
 fn position_at<'p>(path: &'p str, at: usize) -> Result<(CowStr<'p>, usize), Stop<PathError>>
     ensures { PositionGives path.now at result }
 {
@@ -199,8 +199,8 @@ fn position_at<'p>(path: &'p str, at: usize) -> Result<(CowStr<'p>, usize), Stop
     }
 }
 
-/// Reads the step at the byte offset `at`: a dot and a key, or a position in brackets. Returns its segment and the
-/// offset after it. Fails if anything else is there.
+/// Reads the step at the byte offset `at`: a dot and a key, or a position in brackets. Returns the name of the key or
+/// the digits of the position, and the offset after the step. Fails if anything else is there.
 fn step_at<'p>(
     alloc: Global,
     path: &'p str,
@@ -215,8 +215,8 @@ fn step_at<'p>(
     }
 }
 
-/// Reads a dotted key with positions, such as `a.b[0]`, and returns its segments. Fails at the first place that can't
-/// be read.
+/// Reads a dotted key with positions, such as `a.b[0]`. Returns the names of its keys and the digits of its positions,
+/// in order. Fails at the first place that can't be read.
 #[tactic(auto, using(crate::proofs::DottedLemmas::after_first, crate::proofs::DottedLemmas::after_more))]
 fn dotted<'p>(alloc: Global, path: &'p str) -> Result<Vec<CowStr<'p>>, Stop<PathError>>
     ensures { Reads (IsDotted path.now) result }
@@ -231,8 +231,8 @@ fn dotted<'p>(alloc: Global, path: &'p str) -> Result<Vec<CowStr<'p>>, Stop<Path
     Ok(parts)
 }
 
-/// Returns the text before the first slash of a path, and the text after it. Without a slash, returns the path and
-/// `None`.
+/// Returns the text before the first slash of `path`, and the text after that slash. Without a slash, returns `path`
+/// and `None`.
 fn cut<'p>(path: &'p str) -> (&'p str, Option<&'p str>)
     ensures { SplitAtSlash path.now result.0.now (option_map (λ rest. rest.now) result.1) }
 {
@@ -242,8 +242,7 @@ fn cut<'p>(path: &'p str) -> (&'p str, Option<&'p str>)
     }
 }
 
-/// Appends to `parts` the segments of `path`, which are separated by slashes. If an allocation fails, `parts` has some
-/// of them.
+/// Appends to `parts` the segments of `path`, which are separated by slashes.
 fn push_segments<'p>(path: &'p str, parts: &mut Vec<CowStr<'p>>) -> Result<(), AllocError>
     ensures { OnOk result (map cow_str_bytes parts.new.items
         ≡ map cow_str_bytes parts.old.items ++ segments path.now) }
@@ -258,9 +257,9 @@ fn push_segments<'p>(path: &'p str, parts: &mut Vec<CowStr<'p>>) -> Result<(), A
 
 /// Returns the segments of `path`: names of keys, and positions of elements in decimal digits.
 ///
-/// An empty path, or one that begins with a slash, is a pointer such as `/a/0`, and can always be read. Any other path
-/// is a dotted key with positions in brackets, such as `a."b/c"[0]`. Fails at the first place that can't be read, or if
-/// an allocation fails.
+/// An empty path, or one that begins with a slash, is a pointer such as `/a/0`, and can always be read. It has no
+/// escapes, unlike a JSON Pointer. Any other path is a dotted key with positions in brackets, such as `a."b/c"[0]`.
+/// Fails at the first place that can't be read, or if an allocation fails.
 pub fn path_segments<'p>(alloc: Global, path: &'p str) -> Result<Vec<CowStr<'p>>, Stop<PathError>>
     ensures { Reads (IsPath path.now) result }
 {
@@ -313,7 +312,8 @@ fn entry_named<'v, 'de>(table: &'v Table<'de>, name: &str) -> Option<&'v Value<'
     None
 }
 
-/// Returns the element, or the value of the entry, that `segment` names. Returns `None` if `segment` names nothing.
+/// Returns the element, or the value of the entry, that `segment` names in `inner`. Returns `None` if `segment` names
+/// nothing.
 fn entry_of<'v, 'de>(inner: &'v ValueInner<'de>, segment: &str) -> Option<&'v Value<'de>>
     ensures { option_map (λ v. view v.now) result ≡ entry segment.now (inner_view inner.now) }
 {
@@ -336,8 +336,8 @@ fn child_of<'v, 'de>(value: &'v Value<'de>, segment: &str) -> Option<&'v Value<'
     if child.is_taken() { None } else { Some(child) }
 }
 
-/// Returns the value at `path`, which begins at `value`. Returns `None` if `path` names nothing, or if the value or one
-/// around it is taken. An empty path always leads to `value`.
+/// Returns the value at `path`, which begins at `value`. Returns `None` if `path` names nothing, or if the value at
+/// `path`, or a value around it, is taken. An empty path always leads to `value`.
 ///
 /// A segment of the path is the name of a key in a table, or a position in an array (see `path_segments`). Takes time
 /// linear in the number of entries of each table on the way.
@@ -350,7 +350,7 @@ pub fn value_at<'v, 'de>(value: &'v Value<'de>, path: &[CowStr<'_>]) -> Option<&
     value_at(child_of(value, segment.as_ref())?, rest)
 }
 
-/// Returns the segments as string slices, as `Edits` of `toml_span_edit` takes them. Fails if an allocation fails.
+/// Returns `segments` as string slices, as `Edits` of `toml_span_edit` takes them. Fails if an allocation fails.
 pub fn segment_names<'s>(
     alloc: Global,
     segments: &'s [CowStr<'_>],

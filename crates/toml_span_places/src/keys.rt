@@ -44,9 +44,10 @@ pub(crate) fn is_quote(byte: u8) -> bool
     byte == b'"' || byte == b'\''
 }
 
-/// Returns the span of a key, or of a single-line string, with its quotes. Returns the span of a bare key unchanged.
+/// Returns the span of a key or single-line string with its quotes. For a bare key, returns `span` unchanged.
 ///
-/// `span` is the span in the tree: it covers the content or, if the content is empty, the opening quote.
+/// `span` is the span that parsing `text` gives the key or string: it covers the content or, if the content is empty,
+/// the opening quote.
 pub fn with_quotes(text: &str, span: Span) -> Span
     ensures { result ≡ spec.with_quotes text.now span }
 {
@@ -65,7 +66,7 @@ pub fn with_quotes(text: &str, span: Span) -> Span
     }
 }
 
-/// Returns the key in a mention, or `None` if the mention has no key.
+/// Returns the key of `mention` with its place in `text`, or `None` if `mention` has no key.
 fn key_of<'t>(text: &str, mention: Mention<'t>) -> Option<KeyPlace<'t>>
     ensures { option_map key_mention result ≡ spec.mentioned_key text.now (mentioned mention.entry) }
 {
@@ -81,10 +82,10 @@ fn key_of<'t>(text: &str, mention: Mention<'t>) -> Option<KeyPlace<'t>>
     })
 }
 
-/// Lists the keys in these sections, in the order of the text: the parts of each header, and the parts of each
-/// assignment's key before the keys inside its value.
+/// Lists the keys in `sections`, in the order of the text: the parts of each header, and the parts of each assignment's
+/// key before the keys inside its value.
 ///
-/// `sections` must be what `read_sections` returned for the text. Fails if an allocation fails.
+/// `sections` must be what `read_sections` returned for `text`. Fails if an allocation fails.
 pub fn key_places<'t, 'de>(
     alloc: Global,
     text: &str,

@@ -1,4 +1,5 @@
-//! Finds the keys, tables, values and lines of a TOML text, for editors and lints, and replaces parts of a text.
+//! Finds the keys, tables, values and lines of a TOML text, for editors and lints. Replaces parts of a text, and writes
+//! keys and values as TOML.
 #![tactic(auto)]
 
 mod dotted;

@@ -1,4 +1,4 @@
-//! The lines that assignments and sections take up.
+//! Finds the lines that assignments and sections take up.
 ghost use Rattle.std.specs.Prelude.{◌≡◌};
 ghost use Rattle.toml_span_read.specs.Data.{parsed_section, parsed_assignment};
 ghost use Rattle.toml_span_places.specs.Lines as spec;
@@ -43,7 +43,7 @@ fn extent_of(assignment: &Assignment<'_>) -> Span
 /// Returns the span of an assignment's lines, including the spaces and tabs before it, a comment after it, and the line
 /// end. To remove the assignment, remove this span.
 ///
-/// `assignment` must be from a section that `read_sections` returned for the text, and must not be a pair of an inline
+/// `assignment` must be from a section that `read_sections` returned for `text`, and must not be a pair of an inline
 /// table.
 pub fn assignment_lines(text: &str, assignment: &Assignment<'_>) -> Span
     ensures { result ≡ spec.lines_of text.now (parsed_assignment assignment.now).extent }
@@ -55,8 +55,8 @@ pub fn assignment_lines(text: &str, assignment: &Assignment<'_>) -> Span
     }
 }
 
-/// Returns the byte offset after the line of a section's last assignment or, without assignments, of its header.
-/// `header` is the span of the header's line, and `extent` the span of the section.
+/// Returns the byte offset after the line of a section's last assignment or, if the section has no assignments, after
+/// the line of its header. `header` is the section's `header_span`, and `extent` its `extent`.
 pub(crate) fn body_end(text: &str, header: Span, extent: Span) -> usize
     ensures { result ≡ spec.body_end text.now header extent }
 {
@@ -71,7 +71,7 @@ pub(crate) fn body_end(text: &str, header: Span, extent: Span) -> usize
 /// has the header or, without a header, the first assignment. The last line has the last assignment or, without
 /// assignments, the header.
 ///
-/// `section` must be one that `read_sections` returned for the text.
+/// `section` must be one that `read_sections` returned for `text`.
 pub fn section_lines(text: &str, section: &Section<'_>) -> Span
     ensures { result ≡ spec.section_lines text.now (parsed_section section.now) }
 {

@@ -1,4 +1,4 @@
-//! The literals that spell values.
+//! Finds the literals that spell values.
 ghost use Rattle.std.specs.Prelude.{◌≡◌};
 ghost use Rattle.toml_span_tree.specs.Value.{view};
 ghost use Rattle.toml_span_places.specs.Literals as spec;
@@ -69,10 +69,10 @@ fn string_literal(text: &str, span: Span, is_empty: bool) -> Span
     }
 }
 
-/// Returns the span of the literal that spells `value`. For a string, the span includes the quotes, and a line end
-/// directly after three opening quotes. For any other value, it is the value's own span.
+/// Returns the span of the literal that spells `value`. For a string, this span includes the quotes and, if a line end
+/// directly follows three opening quotes, that line end. For any other value, returns `value.span`.
 ///
-/// `value` must be in the tree that `parse` returned for the text.
+/// `value` must be in the tree that `parse` returned for `text`.
 pub fn literal_span(text: &str, value: &Value<'_>) -> Span
     ensures { result ≡ spec.literal_span text.now (view value.now) }
 {

@@ -1,4 +1,5 @@
-//! Lists each place where a text names a table or a value. Keys, tables and sections are picked from this list.
+//! Lists each place where a text names a table or a value. The modules `keys`, `tables` and `sections` pick their
+//! places from this list.
 ghost use Rattle.std.specs.Prelude.{◌≡◌, ◌++◌, ◌∷◌, [], IfOk, OnOk, map};
 ghost use Rattle.toml_span_read.specs.Data.{parsed_section, parsed_value, parsed_assignment, onto, no_items};
 ghost use Rattle.toml_span_read.specs.Data.{pairs_onto, no_pairs, simple_key};
@@ -127,9 +128,9 @@ fn push_last<'t, 'de>(
     push(alloc, path, details, out)
 }
 
-/// Appends to `out` a mention for each of `parts`, the parts of a section's header that come after those in `path`.
-/// Without a header, appends the mention of the root. Returns the path that the header names. `opened` counts the
-/// elements that earlier headers added to arrays of tables. If an allocation fails, `out` has some of the mentions.
+/// Appends to `out` a mention for each of `parts`, the parts of the header of `section` that come after those in
+/// `path`. Without a header, appends the mention of the root. Returns the path that the header names. `opened` counts
+/// the elements that earlier headers added to arrays of tables.
 fn push_header<'t, 'de>(
     alloc: Global,
     section: &Section<'_>,
@@ -163,8 +164,7 @@ fn push_header<'t, 'de>(
 }
 
 /// Appends to `out` a mention for each part of an assignment's key that comes after those in `path`: the parts `inner`
-/// and `last`. Returns the path that the key names. `extent` is the span of the assignment. If an allocation fails,
-/// `out` has some of the mentions.
+/// and `last`. Returns the path that the key names. `extent` is the span of the assignment.
 fn push_parts<'t, 'de>(
     alloc: Global,
     extent: Span,
@@ -192,8 +192,7 @@ fn push_parts<'t, 'de>(
     push_parts(alloc, extent, rest, last, path_below, out)
 }
 
-/// Appends to `out` the mentions in the assignments `pairs` of the table at `path`. If an allocation fails, `out` has
-/// some of them.
+/// Appends to `out` the mentions in `pairs`, assignments of the table at `path`.
 #[cycle(push_value)]
 fn push_pairs<'t, 'de>(
     alloc: Global,
@@ -210,8 +209,7 @@ fn push_pairs<'t, 'de>(
     Ok(())
 }
 
-/// Appends to `out` the mentions in an assignment of the table at `path`: by its key, and in its value. If an
-/// allocation fails, `out` has some of them.
+/// Appends to `out` the mentions by the key and in the value of `pair`, an assignment of the table at `path`.
 #[cycle(push_value)]
 fn push_pair<'t, 'de>(
     alloc: Global,
@@ -232,7 +230,7 @@ fn push_pair<'t, 'de>(
     push_value(alloc, &pair.value, path_below.as_slice(), out)
 }
 
-/// Appends to `out` the mentions in the value at `path`. If an allocation fails, `out` has some of them.
+/// Appends to `out` the mentions in `value`, which is at `path`.
 #[cycle(push_value)]
 fn push_value<'t, 'de>(
     alloc: Global,
@@ -258,8 +256,7 @@ fn push_value<'t, 'de>(
     }
 }
 
-/// Appends to `out` the mentions in the elements of the array at `path`. If an allocation fails, `out` has some of
-/// them.
+/// Appends to `out` the mentions in `items`, the elements of the array at `path`.
 #[cycle(push_value)]
 fn push_items<'t, 'de>(
     alloc: Global,
@@ -277,9 +274,8 @@ fn push_items<'t, 'de>(
     Ok(())
 }
 
-/// Appends to `out` the mentions in a section's header and, if `with_assignments`, in its assignments. Counts in
-/// `opened` the element that a header with double brackets adds. After a failure, `out` has some of the mentions, and
-/// `opened` has unspecified counts.
+/// Appends to `out` the mentions in the header of `section` and, if `with_assignments`, in its assignments. Counts in
+/// `opened` the element that a header with double brackets adds.
 fn push_section<'t, 'de>(
     alloc: Global,
     section: &'t Section<'de>,
@@ -306,8 +302,8 @@ fn push_section<'t, 'de>(
     )
 }
 
-/// Lists the mentions in the headers of these sections and, if `with_assignments`, in their assignments, in the order
-/// of the text.
+/// Lists the mentions in the headers of `sections` and, if `with_assignments`, in their assignments, in the order of
+/// the text.
 pub(crate) fn mentions<'t, 'de>(
     alloc: Global,
     sections: &'t [Section<'de>],

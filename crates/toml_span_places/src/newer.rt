@@ -39,7 +39,7 @@ pub enum NewerKind {
     ByteOrderMark,
 }
 
-/// One place in a text that uses a form of syntax that TOML 1.0 lacks.
+/// One use of syntax that TOML 1.0 lacks.
 #[derive(Clone, Copy, Debug, PartialEq, Eq)]
 pub struct NewerForm {
     pub kind: NewerKind,
@@ -47,12 +47,13 @@ pub struct NewerForm {
     pub span: Span,
 }
 
-/// A gap in an inline table: where blanks, line ends and comments may be.
+/// The kind of a gap in an inline table. A gap lies between a key, value or brace and the next one. It consists of
+/// blanks, line ends and comments, and may have a comma or an `=`.
 #[derive(Clone, Copy)]
 pub(crate) enum Gap {
     /// After the opening brace, or between two pairs.
     BeforePair,
-    /// Before or after the `=` of a pair.
+    /// Around the `=` of a pair, between the key and the value.
     AtEquals,
     /// After the last pair, before the closing brace.
     AfterLast,
@@ -103,7 +104,7 @@ fn begins_escape(text: &str, is_letter: bool, at: usize) -> bool
 }
 
 /// Appends to `out` each `\e` and `\xHH` in the string or key with the span `span`. Appends nothing for a literal
-/// string or a bare key. If an allocation fails, `out` has some of the escapes.
+/// string or a bare key.
 #[tactic(auto, using(crate::proofs::Uses::escapes_next, crate::proofs::Uses::escapes_end))]
 fn push_escapes(text: &str, span: Span, out: &mut Vec<NewerForm>) -> Result<(), AllocError>
     ensures { OnOk result (out.new.items ≡ out.old.items ++ spec.string_forms text.now span) }
@@ -119,7 +120,7 @@ fn push_escapes(text: &str, span: Span, out: &mut Vec<NewerForm>) -> Result<(), 
     Ok(())
 }
 
-/// Appends to `out` each `\e` and `\xHH` in `keys`. If an allocation fails, `out` has some of them.
+/// Appends to `out` each `\e` and `\xHH` in `keys`.
 fn push_keys<'de>(text: &str, keys: &[Key<'de>], out: &mut Vec<NewerForm>) -> Result<(), AllocError>
     ensures { OnOk result (out.new.items ≡ out.old.items ++ spec.key_forms text.now (map simple_key keys.now)) }
 {
@@ -129,7 +130,7 @@ fn push_keys<'de>(text: &str, keys: &[Key<'de>], out: &mut Vec<NewerForm>) -> Re
     Ok(())
 }
 
-/// Appends to `out` each `\e` and `\xHH` in the parts of `key`. If an allocation fails, `out` has some of them.
+/// Appends to `out` each `\e` and `\xHH` in the parts of `key`.
 fn push_parts<'de>(
     text: &str,
     key: &DottedKey<'de>,
@@ -183,7 +184,7 @@ fn line_end_start(text: &str, at: usize) -> usize
     }
 }
 
-/// Returns the `NewerKind` of a comment in this gap.
+/// Returns the `NewerKind` of a comment in a gap of this kind.
 fn comment_kind(gap: Gap) -> NewerKind
     ensures { result ≡ spec.comment_kind gap }
 {
@@ -193,7 +194,7 @@ fn comment_kind(gap: Gap) -> NewerKind
     }
 }
 
-/// Returns the `NewerKind` of a line end in this gap.
+/// Returns the `NewerKind` of a line end in a gap of this kind.
 fn line_end_kind(gap: Gap) -> NewerKind
     ensures { result ≡ spec.line_end_kind gap }
 {
@@ -203,8 +204,8 @@ fn line_end_kind(gap: Gap) -> NewerKind
     }
 }
 
-/// Appends to `out` the line end in `gap` whose line feed is at the byte offset `at`. If a comment before it begins at
-/// the offset `comment`, appends this comment first. If an allocation fails, `out` may have the comment alone.
+/// Appends to `out` the line end whose line feed is at the byte offset `at`, in a gap of the kind `gap`. If `comment`
+/// is not `None`, it is the start of the comment that ends at this line end, and this comment is appended first.
 fn push_line_end(
     text: &str,
     gap: Gap,
@@ -222,9 +223,9 @@ fn push_line_end(
     push(line_end_kind(gap), end, at + 1, out)
 }
 
-/// Appends to `out` the newer forms in `gap` that end with the byte at the offset `at`: a line end and the comment
-/// before it, or the trailing comma. `comment` is where the comment begins that is open before this byte, or `None` if
-/// no comment is. If an allocation fails, `out` may have the comment alone.
+/// Appends to `out` the newer forms that end with the byte at the offset `at`, in a gap of the kind `gap`: a line end
+/// and the comment before it, or the trailing comma. `comment` is the start of the comment that this byte continues or
+/// ends, or `None` outside comments.
 fn push_byte(
     text: &str,
     gap: Gap,
@@ -244,7 +245,7 @@ fn push_byte(
     }
 }
 
-/// Returns whether `byte` may occur in a gap or between two gaps, outside comments.
+/// Returns whether `byte` may occur in a gap, outside comments.
 fn is_between(byte: u8) -> bool
     ensures { result ≡ spec.is_between byte }
 {
@@ -252,15 +253,15 @@ fn is_between(byte: u8) -> bool
 }
 
 /// Returns whether the gap ends at the byte offset `at`: outside comments, at a key, a value or a brace. `comment` is
-/// where the comment begins that is open before the byte at `at`, or `None` if no comment is.
+/// the start of the comment that the byte at `at` continues or ends, or `None` outside comments.
 fn ends_gap(text: &str, comment: Option<usize>, at: usize) -> bool
     ensures { result ≡ spec.ends_gap text.now comment at }
 {
     comment.is_none() && !is_between(byte_at(text, at))
 }
 
-/// Returns where the comment begins that is open after the byte at `at`, or `None` if no comment is open there.
-/// `comment` is where the comment begins that is open before that byte.
+/// Returns the start of the comment that the byte at the byte offset `at + 1` continues or ends, or `None` outside
+/// comments. `comment` is the same for the byte at `at`.
 fn next_comment(text: &str, comment: Option<usize>, at: usize) -> Option<usize>
     ensures { result ≡ spec.next_comment text.now comment at }
 {
@@ -271,8 +272,8 @@ fn next_comment(text: &str, comment: Option<usize>, at: usize) -> Option<usize>
     }
 }
 
-/// Appends to `out` the newer forms in the gap that begins at the byte offset `from`, up to the next key, value or
-/// brace. If an allocation fails, `out` has some of the forms.
+/// Appends to `out` the newer forms in the gap of the kind `gap` that begins at the byte offset `from`, up to the next
+/// key, value or brace.
 #[tactic(auto, using(crate::proofs::Uses::gap_next, crate::proofs::Uses::gap_stop, crate::proofs::Uses::gap_end))]
 fn push_gap(text: &str, gap: Gap, from: usize, out: &mut Vec<NewerForm>) -> Result<(), AllocError>
     ensures { OnOk result (out.new.items ≡ out.old.items ++ spec.gap_forms text.now gap from) }
@@ -288,8 +289,7 @@ fn push_gap(text: &str, gap: Gap, from: usize, out: &mut Vec<NewerForm>) -> Resu
     Ok(())
 }
 
-/// Appends to `out` the newer forms in the gap after the opening brace at the byte offset `at`. If an allocation fails,
-/// `out` has some of the forms.
+/// Appends to `out` the newer forms in the gap after the opening brace at the byte offset `at`.
 #[tactic(auto, using(crate::proofs::Uses::gap_past))]
 fn push_opened(text: &str, at: usize, out: &mut Vec<NewerForm>) -> Result<(), AllocError>
     ensures { OnOk result (out.new.items ≡ out.old.items ++ spec.gap_forms text.now Gap.BeforePair (at + 1)) }
@@ -311,7 +311,7 @@ fn key_end<'de>(text: &str, key: &DottedKey<'de>) -> usize
     with_quotes(text, key.last.span).end
 }
 
-/// Returns the kind of gap after the pair at `position` among `count` pairs.
+/// Returns the kind of the gap after the pair at `position`, counted from 0, in an inline table with `count` pairs.
 fn gap_after(position: usize, count: usize) -> Gap
     requires { position < count }
     ensures { result ≡ spec.gap_after position count }
@@ -324,7 +324,7 @@ fn gap_after(position: usize, count: usize) -> Gap
 }
 
 /// Appends to `out` the newer forms in a pair of an inline table, and in the gap after the pair, which is of the kind
-/// `after`. If an allocation fails, `out` has some of the forms.
+/// `after`.
 #[cycle(push_value)]
 fn push_pair<'de>(
     text: &str,
@@ -341,8 +341,7 @@ fn push_pair<'de>(
     push_gap(text, after, pair.extent.end, out)
 }
 
-/// Appends to `out` the newer forms in the pairs of an inline table, and in the gaps after them. If an allocation
-/// fails, `out` has some of the forms.
+/// Appends to `out` the newer forms in the pairs of an inline table, and in the gaps after them.
 #[cycle(push_value)]
 fn push_pairs<'de>(
     text: &str,
@@ -358,7 +357,7 @@ fn push_pairs<'de>(
     Ok(())
 }
 
-/// Appends to `out` the newer forms in the elements of an array. If an allocation fails, `out` has some of the forms.
+/// Appends to `out` the newer forms in the elements of an array.
 #[cycle(push_value)]
 fn push_items<'de>(
     text: &str,
@@ -374,7 +373,7 @@ fn push_items<'de>(
     Ok(())
 }
 
-/// Appends to `out` the newer forms in `value`. If an allocation fails, `out` has some of the forms.
+/// Appends to `out` the newer forms in `value`.
 #[cycle(push_value)]
 fn push_value<'de>(text: &str, value: &Val<'de>, out: &mut Vec<NewerForm>) -> Result<(), AllocError>
     ensures { OnOk result (out.new.items ≡ out.old.items ++ spec.value_forms text.now (parsed_value value.now)) }
@@ -393,7 +392,7 @@ fn push_value<'de>(text: &str, value: &Val<'de>, out: &mut Vec<NewerForm>) -> Re
 
 // ---- the document
 
-/// Appends to `out` the newer forms in `assignments`. If an allocation fails, `out` has some of the forms.
+/// Appends to `out` the newer forms in `assignments`.
 fn push_assignments<'de>(
     text: &str,
     assignments: &[Assignment<'de>],
@@ -412,7 +411,7 @@ fn push_assignments<'de>(
 /// Lists each use of syntax that TOML 1.0 lacks, in the order of the text: forms that TOML 1.1 added, and forms that
 /// only this parser accepts.
 ///
-/// `sections` must be what `read_sections` returned for the text. Takes time linear in the length of the text. Fails if
+/// `sections` must be what `read_sections` returned for `text`. Takes time linear in the length of the text. Fails if
 /// an allocation fails.
 pub fn newer_forms<'de>(
     alloc: Global,

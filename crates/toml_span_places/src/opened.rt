@@ -17,7 +17,7 @@ enum SortedStep<'t> {
     Position(usize),
 }
 
-/// How many elements the headers so far have added to each array of tables, by the path of the array.
+/// The number of elements that the headers so far have added to each array of tables, by the path of the array.
 #[derive(Drop)]
 pub(crate) struct Opened<'t> {
     elements: BTreeMap<Vec<SortedStep<'t>>, usize>,
@@ -45,7 +45,7 @@ fn sorted_path<'t>(alloc: Global, path: &[Step<'t>]) -> Result<Vec<SortedStep<'t
 }
 
 impl<'t> Opened<'t> {
-    /// Returns an `Opened` without elements.
+    /// Returns an `Opened` in which every count is 0.
     pub fn new(alloc: Global) -> Self
         ensures { counts_of result ≡ spec.no_counts }
     {
@@ -55,8 +55,7 @@ impl<'t> Opened<'t> {
     }
 }
 
-/// Returns how many elements the headers so far have added to the array of tables at `path`, or 0 if `path` names no
-/// such array.
+/// Returns how many elements `opened` counts for the array of tables at `path`, or 0 if `opened` has no such array.
 pub(crate) fn elements_of<'t>(
     alloc: Global,
     opened: &Opened<'t>,
@@ -71,8 +70,8 @@ pub(crate) fn elements_of<'t>(
     }
 }
 
-/// Counts in `opened` one more element of the array of tables at `path`. Fails if an allocation fails, or if the count
-/// does not fit into a `usize`; `opened` then has unspecified counts.
+/// Adds 1 to the number of elements that `opened` counts for the array of tables at `path`. Also fails, with
+/// `AllocError`, if the number would not fit into a `usize`.
 pub(crate) fn add<'t>(
     alloc: Global,
     opened: &mut Opened<'t>,
@@ -89,9 +88,9 @@ pub(crate) fn add<'t>(
     Ok(())
 }
 
-/// Returns the path of the table that a section fills. `path` is the path of its header. If the header has double
-/// brackets (`array`), counts in `opened` the element that the header adds, and appends the position of this element to
-/// the path. After a failure, `opened` has unspecified counts.
+/// Returns the path of the table that a section fills. `path` is the path that the section's header names. If the
+/// header has double brackets (`array`), counts in `opened` the element that the header adds, and returns `path` with
+/// the position of this element appended.
 pub(crate) fn section_path<'t>(
     alloc: Global,
     array: bool,

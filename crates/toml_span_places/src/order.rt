@@ -21,8 +21,8 @@ fn first_start(node: &Visited<'_, '_>) -> usize
 }
 
 /// Lists `value` and all values inside it, with their paths and keys, in the order in which they begin in the text. A
-/// value begins where its key or its span begins, whichever comes first. A table that headers name begins with the
-/// first of these headers.
+/// value begins where its key or its span begins, whichever comes first. A table that headers name begins at the first
+/// of these headers.
 ///
 /// Values that begin at the same byte are in the order of `toml_span_tree::nodes`, a value before the values inside it:
 /// for `[[a]]`, the array before its first element. Fails if an allocation fails.

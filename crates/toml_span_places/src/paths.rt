@@ -84,8 +84,8 @@ pub(crate) fn same_path(path: &[Step<'_>], other: &[Step<'_>]) -> bool
     same_step(step, other_step) && same_path(path_rest, other_rest)
 }
 
-/// Returns the position of the latest element in `opened` of the array of tables at `path`, or `None` if the array has
-/// no elements.
+/// Returns the position of the latest element that `opened` counts for the array of tables at `path`, or `None` if
+/// `opened` counts no elements there.
 pub(crate) fn latest<'t>(
     alloc: Global,
     opened: &Opened<'t>,
@@ -97,7 +97,7 @@ pub(crate) fn latest<'t>(
     Ok(added.checked_sub(1))
 }
 
-/// Returns `path` with the position `element` appended, if there is one.
+/// Returns `path` with the position `element` appended, or `path` unchanged if `element` is `None`.
 pub(crate) fn entered<'t>(
     path: Vec<Step<'t>>,
     element: Option<usize>,

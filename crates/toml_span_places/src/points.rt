@@ -58,7 +58,8 @@ fn after_body(text: &str, body: Span) -> InsertionPoint
     }
 }
 
-/// Returns the insertion point after the last of `places` that fills the table at `path`, or `point` if none does.
+/// Returns the insertion point after the last section in `places` that fills the table at `path`, or `point` if no
+/// section there does.
 fn last_point(
     text: &str,
     path: &[Step<'_>],
@@ -85,7 +86,7 @@ fn last_point(
 /// name it, if it is an inline table or an array, or if it does not exist.
 ///
 /// Write the line with a line end after it and, if `needs_line_end`, another line end before it. `sections` must be
-/// what `read_sections` returned for the text. Fails if an allocation fails.
+/// what `read_sections` returned for `text`. Fails if an allocation fails.
 pub fn insertion_point<'t, 'de>(
     alloc: Global,
     text: &str,

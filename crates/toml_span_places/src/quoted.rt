@@ -40,7 +40,7 @@ fn push_digit(out: &mut String, digit: u32) -> Result<(), AllocError>
     out.push(char::from_digit(digit, 16).unwrap_or('0'))
 }
 
-/// Appends the escape `\xHH` of `c` to `out`. If an allocation fails, `out` may have a part of it.
+/// Appends the escape `\xHH` of `c` to `out`.
 fn push_number(out: &mut String, c: char) -> Result<(), AllocError>
     requires { c < 256 }
     ensures { OnOk result (string_bytes out.new ≡ string_bytes out.old ++ spec.number_escape c) }
@@ -50,7 +50,7 @@ fn push_number(out: &mut String, c: char) -> Result<(), AllocError>
     push_digit(out, c as u32 % 16)
 }
 
-/// Appends a backslash and `letter` to `out`. If an allocation fails, `out` may have the backslash alone.
+/// Appends a backslash and `letter` to `out`.
 fn push_letter(out: &mut String, letter: char) -> Result<(), AllocError>
     ensures { OnOk result (string_bytes out.new ≡ string_bytes out.old ++ spec.letter_escape letter) }
 {
@@ -58,7 +58,7 @@ fn push_letter(out: &mut String, letter: char) -> Result<(), AllocError>
     out.push(letter)
 }
 
-/// Appends `c` to `out` as it is written in a basic string. If an allocation fails, `out` may have a part of it.
+/// Appends `c` to `out` as it is written in a basic string.
 fn push_char(out: &mut String, c: char) -> Result<(), AllocError>
     ensures { OnOk result (string_bytes out.new ≡ string_bytes out.old ++ spec.basic_char c) }
 {
@@ -69,8 +69,7 @@ fn push_char(out: &mut String, c: char) -> Result<(), AllocError>
     }
 }
 
-/// Appends `text` to `out` as it is written in a basic string, without the quotes. If an allocation fails, `out` may
-/// have a part of it.
+/// Appends `text` to `out` as it is written in a basic string, without the quotes.
 fn push_basic(out: &mut String, text: &str) -> Result<(), AllocError>
     ensures { OnOk result (string_bytes out.new ≡ string_bytes out.old ++ spec.basic text.now) }
 {
@@ -95,14 +94,14 @@ fn is_unliteral(byte: u8) -> bool
     byte == b'\'' || (byte < b' ' && byte != b'\t') || byte == 0x7f
 }
 
-/// Returns whether one of the bytes is a quotation mark or a backslash.
+/// Returns whether any of `bytes` is a quotation mark or a backslash.
 fn has_escaped(bytes: &[u8]) -> bool
     ensures { result ≡ list_any spec.is_escaped bytes.now }
 {
     bytes.iter().any(|byte| is_escaped(*byte))
 }
 
-/// Returns whether one of the bytes must not occur in a literal string (see `is_unliteral`).
+/// Returns whether any of `bytes` must not occur in a literal string (see `is_unliteral`).
 fn has_unliteral(bytes: &[u8]) -> bool
     ensures { result ≡ list_any spec.is_unliteral bytes.now }
 {
@@ -116,7 +115,7 @@ fn is_literal(text: &str) -> bool
     has_escaped(text.as_bytes()) && !has_unliteral(text.as_bytes())
 }
 
-/// Returns `text` as a basic or literal string, whichever is shorter.
+/// Returns `text` as a basic string or, if that is possible and shorter, as a literal string.
 fn spelled_string(alloc: Global, text: &str) -> Result<String, AllocError>
     ensures { IfOk result (λ out. string_bytes out ≡ spec.quoted text.now) }
 {
@@ -133,11 +132,11 @@ fn spelled_string(alloc: Global, text: &str) -> Result<String, AllocError>
     Ok(out)
 }
 
-/// Returns the shortest string on one line that spells `text`: a basic string with the necessary escapes, or a literal
-/// string if that is possible and shorter.
+/// Returns a TOML string whose value is `text`: a basic string with only the necessary escapes or, if that is possible
+/// and shorter, a literal string.
 ///
-/// Where a string may begin in a document, the result is read as a string with this value, unless the bytes after the
-/// result continue it (see `parts_off` in `toml_span_read`). Fails if an allocation fails.
+/// Where a string may begin in a document, the result is read as a string with the value `text`, unless the bytes after
+/// the result continue it (see `parts_off` in `toml_span_read`). Fails if an allocation fails.
 ///
 /// `basic-string = quotation-mark *basic-char quotation-mark`, `literal-string = apostrophe *literal-char apostrophe`
 /// (TOML 1.1, String)
@@ -148,7 +147,7 @@ pub fn quote_string(alloc: Global, text: &str) -> Result<String, AllocError>
     spelled_string(alloc, text)
 }
 
-/// Returns whether all bytes may occur in a bare key.
+/// Returns whether all of `bytes` may occur in a bare key.
 fn all_keylike(bytes: &[u8]) -> bool
     ensures { result ≡ list_all is_keylike_byte bytes.now }
 {
@@ -173,11 +172,11 @@ fn spelled_key(alloc: Global, name: &str) -> Result<String, AllocError>
     }
 }
 
-/// Returns the shortest key that spells `name`: `name` itself if it is not empty and consists of ASCII letters, digits,
-/// `-` and `_`, otherwise a string.
+/// Returns the shortest TOML key that spells `name`: `name` itself if it is not empty and consists of ASCII letters,
+/// digits, `-` and `_`, otherwise a string.
 ///
-/// Where a key may begin in a document, the result is read as one simple key with this name, unless the bytes after the
-/// result continue it (see `parts_off` in `toml_span_read`). Fails if an allocation fails.
+/// Where a key may begin in a document, the result is read as one simple key with the name `name`, unless the bytes
+/// after the result continue it (see `parts_off` in `toml_span_read`). Fails if an allocation fails.
 ///
 /// `simple-key = quoted-key / unquoted-key` (TOML 1.1, Keys)
 pub fn quote_key(alloc: Global, name: &str) -> Result<String, AllocError>

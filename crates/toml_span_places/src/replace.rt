@@ -47,7 +47,8 @@ fn is_boundary(text: &str, at: usize) -> bool
     byte < 0x80 || byte >= 0xC0
 }
 
-/// Returns what is wrong with `span`, or `None` if it is valid. `from` is the end of the span before it.
+/// Returns what is wrong with `span`, or `None` if it is valid. `from` is the end of the span before it, or 0 for the
+/// first span.
 fn fault_of(text: &str, from: usize, span: Span) -> Option<SpanFault>
     ensures { result ≡ spec.fault_of text.now from span }
 {
@@ -64,8 +65,7 @@ fn fault_of(text: &str, from: usize, span: Span) -> Option<SpanFault>
     }
 }
 
-/// Appends to `new` the bytes `from..to` of `text`, and then `then`. If an allocation fails, `new` may have those bytes
-/// without `then`.
+/// Appends to `new` the bytes `from..to` of `text`, and then `then`.
 fn push_part(
     new: &mut String,
     text: &str,

@@ -35,13 +35,13 @@ pub struct SectionPlace<'t> {
     /// The header's line, from its first bracket to the end of the line, including the line end. 0..0 without a header.
     pub header: Span,
     /// From the end of the header's line to the end of the last assignment's line, including the line end. Without a
-    /// header, begins with the first assignment and the spaces and tabs before it. Without assignments, the empty span
-    /// after the header's line.
+    /// header, begins at the spaces and tabs before the first assignment. Without assignments, the empty span after the
+    /// header's line.
     pub body: Span,
 }
 
-/// Returns how a section begins, given `named`, the form in which its header names its table (`None` for the root).
-/// Returns `None` for a form in which no header names the table of its section.
+/// Returns how a section begins. `named` is the form in which the section's header names its table, or `None` without a
+/// header. Returns `None` for the forms `Passed`, `Dotted` and `Inline`.
 fn form_of(named: Option<TableForm>) -> Option<SectionForm>
     ensures { result ≡ spec.form_of named }
 {
@@ -54,7 +54,7 @@ fn form_of(named: Option<TableForm>) -> Option<SectionForm>
 }
 
 /// Returns the `body` of a `SectionPlace`. `form` is how the section begins, and `details` has the details of a mention
-/// in its header or, without a header, of the root.
+/// in the section's header or, without a header, of the root.
 fn body_of(text: &str, form: SectionForm, details: Details) -> Span
     ensures { result ≡ spec.body_of text.now form details }
 {
@@ -66,8 +66,8 @@ fn body_of(text: &str, form: SectionForm, details: Details) -> Span
     Span { start, end }
 }
 
-/// Returns the section of `mention` if the mention is by the last part of the section's header, or names the root.
-/// Otherwise returns `None`.
+/// Returns the section of `mention`, which must be a mention by a part of a header, or the mention of the root. Returns
+/// `None` if it is by a part of a header before the last.
 fn section_of<'t>(text: &str, mention: Mention<'t>) -> Result<Option<SectionPlace<'t>>, AllocError>
     ensures { IfOk result (λ place. option_map section_mention place
         ≡ spec.section_of text.now (mentioned mention.entry)) }
@@ -87,10 +87,10 @@ fn section_of<'t>(text: &str, mention: Mention<'t>) -> Result<Option<SectionPlac
     }))
 }
 
-/// Lists these sections, in the order of the text, each with the path of the table that it fills.
+/// Lists `sections`, in the order of the text, each with the path of the table that it fills.
 ///
-/// `sections` must be what `read_sections` returned for the text. The root is listed only if there are assignments
-/// before the first header. Fails if an allocation fails.
+/// `sections` must be what `read_sections` returned for `text`. A section of the root is listed only if there are
+/// assignments before the first header. Fails if an allocation fails.
 pub fn section_places<'t, 'de>(
     alloc: Global,
     text: &str,

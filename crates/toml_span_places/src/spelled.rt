@@ -23,7 +23,7 @@ fn push_string(alloc: Global, text: &str, out: &mut String) -> Result<(), AllocE
     out.push_str(spelled.as_str())
 }
 
-/// Appends `name` to `out` as a TOML key, and then ` = `. If an allocation fails, `out` may have the key alone.
+/// Appends `name` to `out` as a TOML key, and then ` = `.
 fn push_key(alloc: Global, name: &str, out: &mut String) -> Result<(), AllocError>
     ensures text { OnOk result (string_bytes out.new ≡ string_bytes out.old ++ spec.key_equals name.now) }
     ensures held { OnOk result (IsUtf8 name.now) }
@@ -33,7 +33,7 @@ fn push_key(alloc: Global, name: &str, out: &mut String) -> Result<(), AllocErro
     out.push_str(" = ")
 }
 
-/// Appends `number` to `out` in decimal. If an allocation fails, `out` may have a part of it.
+/// Appends `number` to `out` in decimal.
 fn push_integer(number: i64, out: &mut String) -> Result<(), AllocError>
     ensures text { OnOk result (string_bytes out.new ≡ string_bytes out.old ++ signed_decimal number) }
     ensures held { OnOk result (IsHeldScalar (integer number)) }
@@ -48,7 +48,7 @@ fn push_separator(is_first: bool, out: &mut String) -> Result<(), AllocError>
     out.push_str(if is_first { "" } else { ", " })
 }
 
-/// Appends `value` to `out`. Appends nothing for a taken value. If an allocation fails, `out` has a part of the text.
+/// Appends `value` to `out` as TOML on one line. Appends nothing for a taken value.
 #[cycle(push_value)]
 fn push_value(alloc: Global, value: &Value<'_>, out: &mut String) -> Result<(), AllocError>
     ensures text { OnOk result (string_bytes out.new ≡ string_bytes out.old ++ spec.value_text (view value.now)) }
@@ -76,8 +76,7 @@ fn push_value(alloc: Global, value: &Value<'_>, out: &mut String) -> Result<(), 
     }
 }
 
-/// Appends the elements of an array to `out`, separated by commas. If an allocation fails, `out` has a part of the
-/// text.
+/// Appends the elements of an array to `out`, separated by commas, without the brackets.
 #[cycle(push_value)]
 fn push_elements(alloc: Global, elements: &[Value<'_>], out: &mut String) -> Result<(), AllocError>
     ensures text { OnOk result (string_bytes out.new ≡ string_bytes out.old
@@ -93,7 +92,7 @@ fn push_elements(alloc: Global, elements: &[Value<'_>], out: &mut String) -> Res
     Ok(())
 }
 
-/// Appends the entries of a table to `out`, separated by commas. If an allocation fails, `out` has a part of the text.
+/// Appends the entries of a table to `out`, separated by commas, without the braces.
 #[cycle(push_value)]
 fn push_entries(alloc: Global, table: &Table<'_>, out: &mut String) -> Result<(), AllocError>
     ensures text { OnOk result (string_bytes out.new ≡ string_bytes out.old
@@ -125,8 +124,8 @@ fn spelled_value(alloc: Global, value: &Value<'_>) -> Result<String, AllocError>
 /// order of the names.
 ///
 /// Where a value may begin in a document, the result is read as this value, unless the bytes after the result continue
-/// it (see `parts_off` in `toml_span_read`). The value must be whole (`is_whole`), the texts of its floats must be
-/// valid, as in every tree that `parse` returns, and it must not be nested deeper than the limit of the read. Otherwise
+/// it (see `parts_off` in `toml_span_read`). That holds if `value` is whole (`is_whole`), if the texts of its floats
+/// are valid, as in every tree that `parse` returns, and if it is not nested deeper than the reader's limit. Otherwise
 /// the result may be read as another value, or not at all. Fails if an allocation fails.
 pub fn to_toml(alloc: Global, value: &Value<'_>) -> Result<String, AllocError>
     ensures spelling { IfOk result (λ text. string_bytes text ≡ spec.value_text (view value.now)) }

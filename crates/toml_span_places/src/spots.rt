@@ -56,7 +56,7 @@ fn chosen(offset: usize, literal: Span, quoted: Option<Span>) -> (Part, Span)
     }
 }
 
-/// Returns the value of `node` or its key, as `chosen` chooses, or `None` if neither contains the byte offset `offset`.
+/// Returns the value or the key of `node`, as `chosen` chooses, or `None` if neither contains the byte offset `offset`.
 fn spot_of<'t, 'de>(text: &str, offset: usize, node: Visited<'t, 'de>) -> Option<NodePlace<'t, 'de>>
     ensures { option_map spot result ≡ spec.spot_of text.now offset (seen node.entry) }
 {
@@ -91,7 +91,7 @@ fn later<'t, 'de>(best: Option<NodePlace<'t, 'de>>, place: NodePlace<'t, 'de>) -
 /// If several start at the same offset, it is the deepest in the tree. The tree keeps only one key of each table: where
 /// another key names the table again, the result is the innermost value that contains the byte.
 ///
-/// `root` must be the tree that `parse` returned for the text. Fails if an allocation fails.
+/// `root` must be the tree that `parse` returned for `text`. Fails if an allocation fails.
 pub fn node_at<'t, 'de>(
     alloc: Global,
     root: &'t Value<'de>,

@@ -1,4 +1,4 @@
-//! Lists the tables of a text, once for each place that names them.
+//! Lists each table of a text once for each place that names it.
 ghost use Rattle.std.specs.Prelude.{◌≡◌, IfOk, map, option_map};
 ghost use Rattle.toml_span_read.specs.Data.{parsed_section};
 ghost use Rattle.toml_span_tree.specs.Nodes.{step_of};
@@ -52,8 +52,8 @@ fn table_of<'t>(mention: Mention<'t>) -> Result<Option<TablePlace<'t>>, AllocErr
     Ok(Some(TablePlace { path, form, span }))
 }
 
-/// Lists the tables of these sections in the order of the text, once for each header, dotted key or pair of braces that
-/// names one. The root is not listed.
+/// Lists the tables in `sections` in the order of the text: each table once for each header, dotted key or pair of
+/// braces that names it. The root is not listed.
 ///
 /// For `[a]`, `b.c = 1` and `[a.b.d]`, the table `a` is listed as `Header` and as `Passed`, and `a.b` as `Dotted` and
 /// as `Passed`. `sections` must be what `read_sections` returned for the text. Fails if an allocation fails.
@@ -92,7 +92,7 @@ fn forms_of(
 }
 
 /// Returns how the text names the table at `path`: one form for each place that names it, in the order of the text. The
-/// list is empty for the root, and if there is no such table.
+/// list is empty if `path` is the root, or if no table is at `path`.
 ///
 /// `sections` must be what `read_sections` returned for the text. Fails if an allocation fails.
 pub fn table_forms<'t, 'de>(

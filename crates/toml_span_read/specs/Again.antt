@@ -1,4 +1,4 @@
--- Texts of values that are read as these values again, wherever they occur.
+-- Texts that are read as a given string, key or value wherever they occur.
 use Rattle.std.specs.Prelude.{◌≡◌, ℕ, ◌+◌, ◌≤◌, Bool, true, false, not, ◌||◌, List, [], ◌∷◌, ◌++◌, length, slice_index}
 use Rattle.toml_span_lex.specs.Strings.{IsString}
 use Rattle.toml_span_lex.specs.declared.span.Span.{Span}
@@ -38,7 +38,7 @@ ReadsAsKey name part =
 
 -- ---- values
 
--- What was read equals the value of the tree, except for spans. Each key in its tables is read as one part.
+-- The value that was read equals the value of the tree, except for spans. Each key in its inline tables has one part.
 abbrev mutual
   pub HasValue : ParsedValue → Node → Type 0
   HasValue (parsed k span) (node i at) = HoldsValue k i
@@ -71,7 +71,7 @@ abbrev pub IsScalarText : Scalar → Type 0
 IsScalarText (float x) = IsFloatText x
 IsScalarText _ = Unit {0}
 
--- the same for each float in the value
+-- The text of each float in the value that has digits is a literal of that float.
 abbrev mutual
   pub HasFloatTexts : Node → Type 0
   HasFloatTexts (node i span) = InnerHasFloatTexts i
@@ -91,7 +91,7 @@ abbrev mutual
   MembersHaveFloatTexts (member name key n ms) = HasFloatTexts n × MembersHaveFloatTexts ms
 
 -- Neither this value nor any value in it is nested deeper than the limit. d is the depth of this value: the number of
--- brackets, braces and parts of keys around it. An entry of a table counts as one part of a key.
+-- brackets, braces and parts of keys around it. The key of an entry of a table counts as one part.
 abbrev mutual
   pub IsWithin : ℕ → ℕ → Node → Type 0
   IsWithin limit d (node i span) = (d ≤ limit) × InnerIsWithin limit d i

@@ -19,7 +19,7 @@ pub data Written : Type 0 where
   string : CowStr Global → Span → Written
   name : CowStr Global → Span → Written
 
--- It is borrowed if and only if it equals the text at its span, or is empty and its span is one quote.
+-- The string or key is borrowed if and only if it equals the text at its span, or is empty and its span is one quote.
 abbrev pub IsWrittenRight : List ℕ → Written → Type 0
 IsWrittenRight text (string s span) = BorrowsWhereSame text span s
 IsWrittenRight text (name s span) = BorrowsWhereSame text span s
@@ -41,8 +41,8 @@ keys_written keys = map key_written keys
 abbrev pub dotted_written : DottedKey → List Written
 dotted_written key = keys_written key.inner.items ++ (key_written key.last ∷ [])
 
--- one level of each type, with the strings and keys of the values inside collected already; a string has the span of
--- its value
+-- The strings and keys in the content of a value, in a value and in an assignment, given those in the values inside it.
+-- A string has the span of its value.
 abbrev pub kind_step : ValKind-F (Span → List Written) (List Written) (List Written) → Span → List Written
 kind_step (ValKind-F.String s) span = string s span ∷ []
 kind_step (ValKind-F.Array v) span = joined v.items

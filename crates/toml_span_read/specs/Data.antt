@@ -13,7 +13,7 @@ use Rattle.toml_span_read.specs.declared.value.ValKind.{ValKind}
 use Rattle.toml_span_read.specs.declared.value.Assignment.{Assignment}
 use Rattle.toml_span_read.specs.declared.section.Section.{Section}
 
--- a key: its name and its span
+-- a simple key, or a part of a dotted key: its name and its span
 pub record SimpleKey : Type 0 where
   pub name : List ℕ
   pub span : Span
@@ -50,7 +50,7 @@ parsed_span (parsed inner span) = span
 
 -- A section: the parts of its header (an empty list for the section before the first header); whether the header has
 -- double brackets; the span of the header's line; the extent, from the header or the first assignment to the end of the
--- last assignment; and the assignments.
+-- last assignment (without assignments, of the header's line); and the assignments.
 pub record ParsedSection : Type 0 where
   pub header : List SimpleKey
   pub array : Bool
@@ -62,13 +62,13 @@ pub record ParsedSection : Type 0 where
 abbrev pub from_to : ℕ → ℕ → Span
 from_to i j = record { start = i; end = j }
 
--- the end of the last of these assignments, or n if there are none
+-- the end of the last of these assignments, or n without assignments
 abbrev pub last_end : ℕ → List ParsedAssignment → ℕ
 last_end n [] = n
 last_end n (ev ∷ evs) = last_end ev.extent.end evs
 
--- The assignments before the first header are a section, if there are any. Its header has no parts and the span 0..0.
--- Its extent is from the first assignment to the end of the last.
+-- The section of the assignments before the first header, as a list, which is empty without such assignments. The
+-- header of the section has no parts and the span 0..0. Its extent is from the first assignment to the end of the last.
 abbrev pub headerless_section : List ParsedAssignment → List ParsedSection
 headerless_section [] = []
 headerless_section (ev ∷ evs) =
@@ -95,14 +95,14 @@ abbrev pub pairs_onto : List ParsedAssignment → ParsedPairs → ParsedPairs
 pairs_onto [] rest = rest
 pairs_onto (p ∷ ps) rest = pair p.parts p.value p.extent (pairs_onto ps rest)
 
--- the code's key as plain data, and the same for the parts of a dotted key
+-- a key of the code as plain data; `parts` does the same for the parts of a dotted key
 abbrev pub simple_key : Key → SimpleKey
 simple_key key = record { name = cow_str_bytes key.name; span = key.span }
 
 abbrev pub parts : DottedKey → List SimpleKey
 parts key = map simple_key key.inner.items ++ (simple_key key.last ∷ [])
 
--- one level of each type, with the values inside already converted
+-- the content of a value, a value and an assignment as plain data, where the values inside are converted already
 abbrev pub kind_step : ValKind-F ParsedInner ParsedAssignment ParsedValue → ParsedInner
 kind_step (ValKind-F.String s) = scalar (text (cow_str_bytes s))
 kind_step (ValKind-F.Integer n) = scalar (integer n)

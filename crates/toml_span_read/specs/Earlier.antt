@@ -21,15 +21,15 @@ unfoldable pub value_at : List ParsedAssignment → List (List ℕ) → Option S
 value_at es names =
     option_map (λ e. last_span e.parts) (find (λ e. pointwise bytes_eq (part_names e.parts) names) es)
 
--- The first part of the key, other than its last, whose path has a value: the offset at which that part starts, and the
--- span that `value` has for its path, which consists of the names of the parts up to it.
+-- Finds the first part of a key, except the last, whose path has a value. The path of a part consists of the names of
+-- the parts up to this part. Returns the offset at which the part starts, and the span that `value` has for its path.
 unfoldable pub crossed : (List (List ℕ) → Option Span) → List SimpleKey → Option (ℕ × Span)
 crossed value (p ∷ q ∷ rest) =
     option_or (option_map (λ first. (p.span.start, first)) (value (p.name ∷ [])))
     (crossed (λ names. value (p.name ∷ names)) (q ∷ rest))
 crossed value parts = None
 
--- the fault of an assignment whose key goes through the value of an earlier one
+-- the fault of the assignment `next` if its key goes through the value of an earlier one, otherwise None
 unfoldable pub crossing : List ParsedAssignment → ParsedAssignment → Option Fault
 crossing earlier next =
     option_map (λ (start, first). record {

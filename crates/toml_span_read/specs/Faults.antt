@@ -71,7 +71,7 @@ error_kind (kinds.Wanted expected found) = tree.wanted (expected_words expected)
 error_kind kinds.MultilineStringKey = tree.multiline_string_key
 error_kind (kinds.DottedKeyInvalidType first) = tree.dotted_key_invalid_type first
 
--- The span starts inside the text, and is not reversed. It may end after the text.
+-- The span starts inside the text or at its end, and is not reversed. It may end after the text.
 pub record StartsInside (text : List ℕ) (span : Span) : Type 0 where
   pub within : span.start ≤ length text
   pub forward : span.start ≤ span.end
@@ -98,7 +98,7 @@ token_fault (errors.MultilineStringKey start end) =
     record { kind = kinds.MultilineStringKey; span = record { start = start; end = end } }
 token_fault (errors.Wanted at expected found) = fault_at kinds.UnexpectedEof at
 
--- ---- another token than the expected one
+-- ---- a token other than the expected one
 
 -- the name of a token that was found where another one was expected
 abbrev pub found_of : Lexeme → FoundToken
@@ -118,22 +118,22 @@ found_of (punctuator c) =
     else if c == left_bracket then found_tokens.LeftBracket
     else found_tokens.RightBracket
 
--- At i there is another token than the expected one, or the text ends. The fault is as long as the name of what was
--- found, so it may end after the text.
+-- The fault for a token at i that is not the expected one, or for the end of the text there. Its span begins at i and
+-- is as long as the name of what was found, so it may end after the text.
 abbrev pub wanted_fault : ExpectedToken → FoundToken → ℕ → Fault
 wanted_fault expected found i =
     record { kind = kinds.Wanted expected found; span = record { start = i; end = i + length (found_words found) } }
 
 -- ---- how values begin
 
--- the first byte of a bare value, which may be a plus sign
+-- whether a number, boolean, date or time can begin with this byte: a bare-key byte or a plus sign
 abbrev pub begins_bare : ℕ → Bool
 begins_bare c = is_keylike c || c == plus
 
--- an opening bracket or brace
+-- whether this byte opens an array or an inline table
 abbrev pub opens_nested : ℕ → Bool
 opens_nested c = c == left_bracket || c == left_brace
 
--- the first byte of a number: a digit, a dash or a plus sign
+-- whether a number, except for `inf` and `nan` without a sign, can begin with this byte: a digit, a dash or a plus sign
 abbrev pub begins_number : ℕ → Bool
 begins_number c = (is_ascii_digit c || c == dash) || c == plus

@@ -4,7 +4,7 @@ use Rattle.std.specs.Prelude.{slice_index}
 use Rattle.toml_span_lex.specs.Bytes.{is_blank, is_printed, MaximalRun, comma, equals, hash, line_feed, period}
 use Rattle.toml_span_lex.specs.Text.{LineEnd, is_crlf, NoLineEnd}
 
--- a space or a tab, a line end, or a comment
+-- The text from i to j is a space or a tab, a line end, or a comment.
 --
 -- `wschar = %x20 / %x09`, `newline = %x0A / %x0D.0A`, `comment = comment-start-symbol *non-eol`
 abbrev pub GapPiece : List ℕ → ℕ → ℕ → Type 0
@@ -18,7 +18,7 @@ abbrev pub begins_gap : List ℕ → ℕ → Bool
 begins_gap text i =
     ((is_blank (slice_index text i) || slice_index text i == line_feed) || is_crlf text i) || slice_index text i == hash
 
--- Such pieces follow one another from i to j. The list has the end of each.
+-- From i to j there are only spaces, tabs, line ends and comments. The list has the end of each.
 abbrev pub GapBy : List ℕ → ℕ → List ℕ → ℕ → Type 0
 GapBy text i [] j = i ≡ j
 GapBy text i (k ∷ ks) j = GapPiece text i k × GapBy text k ks j
@@ -32,18 +32,19 @@ pub record MaximalGap (text : List ℕ) (i j : ℕ) : Type 0 where
   pub forward : i ≤ j
   pub stops : begins_gap text j ≡ false
 
--- spaces and tabs, and a comment if one is there: `ws [ comment ]`, where `ws = *wschar`
+-- From i to j there are spaces and tabs, and a comment if one follows them: `ws [ comment ]`, where `ws = *wschar`.
 pub record Skipped (text : List ℕ) (i j : ℕ) : Type 0 where
   pub at : ℕ
   pub blank : MaximalRun is_blank text i at
   pub comment : ((slice_index text at ≡ hash) × MaximalRun is_printed text at j)
       ⊎ (((slice_index text at == hash) ≡ false) × (j ≡ at))
 
--- the rest of a line: `ws [ comment ]`, then a line end or the end of the text
+-- The text from i to j is the rest of a line: `ws [ comment ]`, then a line end or the end of the text.
 abbrev pub Tail : List ℕ → ℕ → ℕ → Type 0
 Tail text i j = (k : ℕ) × Skipped text i k × (LineEnd text k j ⊎ ((k ≡ length text) × (j ≡ k)))
 
--- Spaces, tabs and a comment are from i to k, and neither a line end nor the end of the text is at k.
+-- From i to k there are spaces and tabs, and a comment if one follows them. At k there is neither a line end nor the
+-- end of the text.
 abbrev pub NoTail : List ℕ → ℕ → ℕ → Type 0
 NoTail text i k = Skipped text i k × (k < length text) × NoLineEnd text k
 
@@ -60,7 +61,7 @@ AfterLines text i = (i ≡ length text) ⊎ (is_printed (slice_index text i) ≡
 
 -- ---- separators and closing brackets, with the white space around them
 
--- a dot, with spaces and tabs around it: `dot-sep = ws %x2E ws`
+-- The text from i to j is a dot, with the spaces and tabs around it: `dot-sep = ws %x2E ws`.
 pub record Dot (text : List ℕ) (i j : ℕ) : Type 0 where
   pub at : ℕ
   pub before : MaximalRun is_blank text i at
@@ -73,29 +74,29 @@ pub record NoDot (text : List ℕ) (i : ℕ) : Type 0 where
   pub before : MaximalRun is_blank text i at
   pub here : (slice_index text at == period) ≡ false
 
--- this byte, with gaps around it: `array-sep = %x2C`, `inline-table-sep = %x2C`, and the `%x3D` of a pair, around which
--- the standard allows only `ws`
+-- The text from i to j is the byte c, with the gaps around it: `array-sep = %x2C`, `inline-table-sep = %x2C`, or the
+-- `%x3D` of a pair, around which the standard allows only `ws`.
 pub record Separator (c : ℕ) (text : List ℕ) (i j : ℕ) : Type 0 where
   pub at : ℕ
   pub before : MaximalGap text i at
   pub here : slice_index text at ≡ c
   pub after : MaximalGap text (at + 1) j
 
--- a closing bracket after a gap: `ws-comment-newline array-close`, where `array-close = %x5D`, or
--- `ws-comment-newline inline-table-close`, where `inline-table-close = %x7D`
+-- The text from i to j is a gap and the closing bracket or brace c: `ws-comment-newline array-close`, where
+-- `array-close = %x5D`, or `ws-comment-newline inline-table-close`, where `inline-table-close = %x7D`.
 pub record Closes (c : ℕ) (text : List ℕ) (i j : ℕ) : Type 0 where
   pub at : ℕ
   pub before : MaximalGap text i at
   pub here : slice_index text at ≡ c
   pub ends : j ≡ at + 1
 
--- After a gap, which ends at j, there is neither a comma nor this bracket.
+-- After a gap, which ends at j, there is neither a comma nor the closing bracket or brace c.
 pub record Neither (c : ℕ) (text : List ℕ) (i j : ℕ) : Type 0 where
   pub before : MaximalGap text i j
   pub no_comma : (slice_index text j == comma) ≡ false
   pub no_bracket : (slice_index text j == c) ≡ false
 
--- an equals sign, with spaces and tabs around it: `keyval-sep = ws %x3D ws`
+-- The text from i to j is an equals sign, with the spaces and tabs around it: `keyval-sep = ws %x3D ws`.
 pub record Equals (text : List ℕ) (i j : ℕ) : Type 0 where
   pub at : ℕ
   pub before : MaximalRun is_blank text i at

@@ -21,13 +21,14 @@ use Rattle.toml_span_read.specs.Earlier.{crossing}
 
 -- ---- values
 
--- `boolean = true / false`
+-- the text of a boolean: `boolean = true / false`
 abbrev pub truth_text : Bool → List ℕ
 truth_text true = codes "true"
 truth_text false = codes "false"
 
--- The text from i to j is this string, number, boolean or date, with this span. A string has the span of its content. A
--- number is read only where no date begins.
+-- The text from i to j is this string, number, boolean or date, with this span. The span of a string is that of its
+-- content or, if it is an empty single-line string, that of its opening quote. A number is read only where no date
+-- begins.
 --
 -- `string = ml-basic-string / basic-string / ml-literal-string / literal-string`, `boolean = true / false`,
 -- `date-time = offset-date-time / local-date-time / local-date / local-time`
@@ -53,6 +54,8 @@ abbrev mutual
   pub SpellsWith : Scalars → ParsedValue → List ℕ → ℕ → ℕ → ℕ → ℕ → Type 0
   SpellsWith S (parsed k span) t limit d i j = (d ≤ limit) × InnerWith S k span t limit d i j
 
+  -- The text from i to j spells this content of a value, whose span is `span` and whose depth is d.
+  --
   -- `array = array-open [ array-values ] ws-comment-newline array-close`
   -- `inline-table = inline-table-open [ inline-table-keyvals ] ws-comment-newline inline-table-close`
   pub InnerWith : Scalars → ParsedInner → Span → List ℕ → ℕ → ℕ → ℕ → ℕ → Type 0
@@ -64,7 +67,7 @@ abbrev mutual
       (slice_index t i ≡ left_brace) × (span ≡ from_to i j) × (k : ℕ) × MaximalGap t (i + 1) k
       × PairsWith S ps [] t limit (d + 1) k j
 
-  -- values separated by commas, an optional trailing comma, and the closing bracket
+  -- From i to j there are these values, separated by commas, an optional trailing comma, and the closing bracket.
   --
   -- `array-values = ws-comment-newline val ws-comment-newline array-sep array-values`
   -- `array-values =/ ws-comment-newline val ws-comment-newline [ array-sep ]`
@@ -75,10 +78,10 @@ abbrev mutual
       × (((vs ≡ no_items) × Closes right_bracket t m j)
       ⊎ ((p : ℕ) × Separator comma t m p × ItemsWith S vs t limit d p j))
 
-  -- Pairs separated by commas, an optional trailing comma, and the closing brace. The pairs of `es` come before them.
-  -- Each key has at most `limit` parts, and does not go through the value of an earlier pair. Unlike in the standard's
-  -- `keyval = key keyval-sep val`, where `keyval-sep = ws %x3D ws`, line ends and comments are allowed around the
-  -- equals sign. The extent of a pair is from its key to the end of its value.
+  -- From i to j there are these pairs, separated by commas, an optional trailing comma, and the closing brace. The
+  -- pairs of `es` come before them. Each key has at most `limit` parts, and does not go through the value of an earlier
+  -- pair. Unlike in the standard's `keyval = key keyval-sep val`, where `keyval-sep = ws %x3D ws`, line ends and
+  -- comments are allowed around the equals sign. The extent of a pair is from its key to the end of its value.
   --
   -- `inline-table-keyvals = ws-comment-newline keyval ws-comment-newline inline-table-sep inline-table-keyvals`
   -- `inline-table-keyvals =/ ws-comment-newline keyval ws-comment-newline [ inline-table-sep ]`
@@ -93,7 +96,7 @@ abbrev mutual
       ⊎ ((p : ℕ) × Separator comma t m p
       × PairsWith S ps (es ++ (record { parts = ss; value = v; extent = extent } ∷ [])) t limit d p j))
 
--- the values of TOML, which include dates
+-- `SpellsWith` with the scalars of TOML, which include dates and times
 abbrev pub Spells : ParsedValue → List ℕ → ℕ → ℕ → ℕ → ℕ → Type 0
 Spells = SpellsWith SpellsScalar
 
@@ -123,14 +126,14 @@ AssignmentsWith S (ev ∷ evs) earlier text limit i j =
 abbrev pub LinesWith : Scalars → List ParsedAssignment → List ℕ → ℕ → ℕ → ℕ → Type 0
 LinesWith S evs text limit i j = (k : ℕ) × MaximalGap text i k × AssignmentsWith S evs [] text limit k j
 
--- the same for the scalars of TOML, which include dates
+-- `LinesWith` with the scalars of TOML, which include dates and times
 abbrev pub SpellsLines : List ParsedAssignment → List ℕ → ℕ → ℕ → ℕ → Type 0
 SpellsLines = LinesWith SpellsScalar
 
 -- ---- headers
 
--- One bracket that is not followed by another one, or two brackets. The white space after them is part of
--- `HeaderFront`.
+-- The text from i to j is the opening bracket of a header, not followed by another bracket, or the two opening
+-- brackets. The white space after them is part of `HeaderFront`.
 --
 -- `std-table-open = %x5B ws`, `array-table-open = %x5B.5B ws`
 abbrev pub OpensHeader : Bool → List ℕ → ℕ → ℕ → Type 0
@@ -139,7 +142,8 @@ OpensHeader false text i j =
 OpensHeader true text i j =
     (slice_index text i ≡ left_bracket) × (slice_index text (i + 1) ≡ left_bracket) × (j ≡ i + 2)
 
--- one bracket, or two, without the white space before them
+-- The text from i to j is the closing bracket of a header, or the two closing brackets, without the white space before
+-- them.
 --
 -- `std-table-close = ws %x5D`, `array-table-close = ws %x5D.5D`
 abbrev pub ClosesHeader : Bool → List ℕ → ℕ → ℕ → Type 0
@@ -147,7 +151,8 @@ ClosesHeader false text i j = (slice_index text i ≡ right_bracket) × (j ≡ i
 ClosesHeader true text i j =
     (slice_index text i ≡ right_bracket) × (slice_index text (i + 1) ≡ right_bracket) × (j ≡ i + 2)
 
--- the opening brackets and the parts of the key, each followed by spaces and tabs
+-- The text from i to j is a header without its closing brackets: the opening brackets and the key, each with the spaces
+-- and tabs after it.
 pub record HeaderFront (parts : List SimpleKey) (array : Bool) (text : List ℕ) (limit i j : ℕ) : Type 0 where
   pub inside : ℕ
   pub start : ℕ
@@ -197,7 +202,7 @@ pub record DocumentWith (S : Scalars) (bs : List ParsedSection) (text : List ℕ
   pub sections : SectionsWith S rest text limit end
   pub all : bs ≡ headerless_section first ++ rest
 
--- the same for the scalars of TOML, which include dates
+-- `SectionWith` with the scalars of TOML, which include dates and times
 abbrev pub SpellsSection : ParsedSection → List ℕ → ℕ → ℕ → ℕ → Type 0
 SpellsSection = SectionWith SpellsScalar
 

@@ -15,7 +15,7 @@ SpellsSimpleKey p text i j =
     (RunAt is_keylike text i j p.name × (p.span ≡ record { start = i; end = j }))
     ⊎ ((source : List ℕ) × IsString text i j p.span source p.name false)
 
--- `quotation-mark = %x22`, `apostrophe = %x27`
+-- whether this byte opens a string: `quotation-mark = %x22`, `apostrophe = %x27`
 abbrev pub opens_string : ℕ → Bool
 opens_string c = c == quotation_mark || c == apostrophe
 

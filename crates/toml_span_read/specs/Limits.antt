@@ -4,8 +4,9 @@ use Rattle.toml_span_read.specs.Data.{ParsedValue, parsed, ParsedInner, scalar, 
 use Rattle.toml_span_read.specs.Data.{item, ParsedPairs, no_pairs, pair, ParsedAssignment, parsed_assignment}
 use Rattle.toml_span_read.specs.declared.section.Section.{Section}
 
--- The depth of a value is the number of brackets and braces around it, plus the number of parts of its own key and of
--- the keys around it. It is at most the limit, and so is the number of parts of each key.
+-- The depth d of this value, and the depth of each value in it, is at most the limit, and so is the number of parts of
+-- each key in it. The depth of a value is the number of brackets and braces around it, plus the number of parts of its
+-- own key and of the keys around it.
 abbrev mutual
   pub Within : ℕ → ℕ → ParsedValue → Type 0
   Within limit d (parsed k span) = (d ≤ limit) × WithinInner limit d k
@@ -24,7 +25,8 @@ abbrev mutual
   WithinPairs limit d (pair ps v extent rest) =
       (length ps ≤ limit) × Within limit (d + length ps) v × WithinPairs limit d rest
 
--- an assignment inside d brackets, braces and parts of keys
+-- The key of the assignment has at most `limit` parts, and its value is within the limit. The assignment is inside d
+-- brackets, braces and parts of keys.
 abbrev pub WithinAssignment : ℕ → ℕ → ParsedAssignment → Type 0
 WithinAssignment limit d e = (length e.parts ≤ limit) × Within limit (d + length e.parts) e.value
 
@@ -32,7 +34,7 @@ abbrev pub WithinAssignments : ℕ → List ParsedAssignment → Type 0
 WithinAssignments limit [] = Unit {0}
 WithinAssignments limit (e ∷ es) = WithinAssignment limit 0 e × WithinAssignments limit es
 
--- the parts of a section's header, and its assignments
+-- The header of the section has at most `limit` parts, and its assignments are within the limit.
 abbrev pub WithinSection : ℕ → Section → Type 0
 WithinSection limit s =
     (length s.header.items ≤ limit) × WithinAssignments limit (map parsed_assignment s.assignments.items)

@@ -8,7 +8,7 @@ use Rattle.toml_span_read.specs.Numerals.{is_exponent, cleaned}
 
 -- ---- digits
 
--- All digits and underscores from i on, up to j. The first is a digit, and a digit follows each underscore.
+-- The digits and underscores from i on extend to j. The first of them is a digit, and a digit follows each underscore.
 --
 -- `zero-prefixable-int = DIGIT *( DIGIT / underscore DIGIT )`, and the same for other radixes
 pub record Digits (radix : ℕ) (text : List ℕ) (i j : ℕ) : Type 0 where
@@ -19,27 +19,31 @@ pub record Digits (radix : ℕ) (text : List ℕ) (i j : ℕ) : Type 0 where
 
 -- ---- integers
 
--- the number with its sign, if it fits into 64 bits
+-- n is the number m, negated if the first argument is true, and fits into 64 bits.
 abbrev pub IsSigned : Bool → ℕ → ℤ → Type 0
 IsSigned false m n = (n ≡ pos m) × (m < 2 ^ 63)
 IsSigned true m n = (n ≡ neg_ℤ (pos m)) × (m ≤ 2 ^ 63)
 
+-- The text from i to j is a decimal number without a sign and without leading zeros.
+--
 -- `unsigned-dec-int = DIGIT / digit1-9 1*( DIGIT / underscore DIGIT )`
 pub record UnsignedDecimal (text : List ℕ) (i j : ℕ) : Type 0 where
   pub digits : Digits 10 text i j
   pub leading : slice_index text i ≡ digit_zero → j ≡ i + 1
 
--- Whether a bare-key byte or a dot is at i, which must not follow an integer without a prefix, `inf` or `nan`.
+-- Whether a bare-key byte or a dot is at j. Neither may follow an integer without a prefix, `inf` or `nan`.
 abbrev pub goes_on : List ℕ → ℕ → Bool
 goes_on text j = is_keylike (slice_index text j) || slice_index text j == period
 
+-- The text from i to j is the decimal integer n, and neither a bare-key byte nor a dot follows.
+--
 -- `dec-int = [ minus / plus ] unsigned-dec-int`
 pub record DecimalInteger (n : ℤ) (text : List ℕ) (i j : ℕ) : Type 0 where
   pub digits : UnsignedDecimal text (after_sign text i) j
   pub ends : goes_on text j ≡ false
   pub value : IsSigned (is_negative text i) (magnitude 10 text (after_sign text i) j) n
 
--- a prefix, and digits of its radix
+-- The text from i to j is the integer n, spelled as a prefix and digits of its radix. No bare-key byte follows.
 --
 -- `hex-int = hex-prefix HEXDIG *( HEXDIG / underscore HEXDIG )`,
 -- `oct-int = oct-prefix digit0-7 *( digit0-7 / underscore digit0-7 )`,
@@ -53,16 +57,22 @@ pub record RadixInteger (n : ℤ) (text : List ℕ) (i j : ℕ) : Type 0 where
 
 -- ---- floats
 
+-- The text from i to j is the exponent of a float.
+--
 -- `exp = "e" float-exp-part`, `float-exp-part = [ minus / plus ] zero-prefixable-int`
 pub record Exponent (text : List ℕ) (i j : ℕ) : Type 0 where
   pub letter : is_exponent (slice_index text i) ≡ true
   pub digits : Digits 10 text (after_sign text (i + 1)) j
 
+-- The text from i to j is the fraction of a float.
+--
 -- `frac = decimal-point zero-prefixable-int`, `decimal-point = %x2E`
 pub record Fraction (text : List ℕ) (i j : ℕ) : Type 0 where
   pub point : slice_index text i ≡ period
   pub digits : Digits 10 text (i + 1) j
 
+-- The text from i to j is a float with digits, and no bare-key byte follows.
+--
 -- `float = float-int-part ( exp / frac [ exp ] )`, `float-int-part = dec-int`
 pub record FloatLiteral (text : List ℕ) (i j : ℕ) : Type 0 where
   pub integer_end : ℕ
@@ -70,6 +80,8 @@ pub record FloatLiteral (text : List ℕ) (i j : ℕ) : Type 0 where
   pub rest : Exponent text integer_end j ⊎ ((m : ℕ) × Fraction text integer_end m × ((j ≡ m) ⊎ Exponent text m j))
   pub ends : is_keylike (slice_index text j) ≡ false
 
+-- The text from i to j is this word, `inf` or `nan`, after an optional sign. Neither a bare-key byte nor a dot follows.
+--
 -- `special-float = [ minus / plus ] ( inf / nan )`
 pub record SpecialFloat (word : List ℕ) (text : List ℕ) (i j : ℕ) : Type 0 where
   pub letters : slice_range text (after_sign text i) j ≡ word

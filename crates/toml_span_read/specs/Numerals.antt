@@ -1,10 +1,10 @@
--- How a number is read: functions from a text and an offset to the number there and its end, or to a fault. `Numbers`
--- says how numbers are spelled. The standard does not say which fault an invalid number has, and where: these
--- definitions do.
+-- How a number is read: functions from a text and an offset to the number there and its end, or to a fault. For a part
+-- of a number, only the end is returned. `Numbers` says how numbers are spelled. The standard leaves open which fault
+-- an invalid number has, and where; these definitions decide that.
 --
 -- A number begins at i. Its first run of letters, digits, dashes and underscores is from a to b, where a is i or the
--- offset after a plus sign. Each later run is called a piece: it is from `start` to `end`, and its digits begin at
--- `from`.
+-- offset after a plus sign. Digits are read from `from` on in a piece, which is from `start` to `end`. A piece is a
+-- run, or the rest of a run after a prefix or after the letter of an exponent.
 use Rattle.std.specs.Char.{is_ascii_hexdigit, digit_value}
 use Rattle.std.specs.List.{prefix_len, list_all, range_with_len}
 use Rattle.std.specs.Option.{ok_or, option_map_or}
@@ -31,11 +31,11 @@ invalid_number start end = record { kind = kinds.InvalidNumber; span = record { 
 
 -- ---- digits
 
--- a digit of this radix: `DIGIT` for 10, `HEXDIG` for 16, `digit0-7` for 8, `digit0-1` for 2
+-- whether the byte c is a digit of this radix: `DIGIT` for 10, `HEXDIG` for 16, `digit0-7` for 8, `digit0-1` for 2
 abbrev pub is_digit_in : ℕ → ℕ → Bool
 is_digit_in radix c = is_ascii_hexdigit c && nat_lt (digit_value c) radix
 
--- a digit of this radix, or an underscore
+-- whether the byte c is a digit of this radix or an underscore
 abbrev pub is_figure : ℕ → ℕ → Bool
 is_figure radix c = is_digit_in radix c || c == underscore
 
@@ -58,7 +58,8 @@ are_digits radix text i j =
     && list_all (λ k. not (slice_index text k == underscore) || is_digit_in radix (slice_index text (k + 1)))
     (range_with_len i (j - i))
 
--- `zero-prefixable-int = DIGIT *( DIGIT / underscore DIGIT )`, or the same for another radix
+-- The end of the digits from `from` on: `zero-prefixable-int = DIGIT *( DIGIT / underscore DIGIT )`, or the same for
+-- another radix. The fault of invalid digits spans the piece or, if an underscore is first, the piece from `from` on.
 unfoldable pub digits_end : ℕ → List ℕ → ℕ → ℕ → ℕ → Result ℕ Fault
 digits_end radix text start from end =
     if slice_index text from == underscore then Err (invalid_number from end)
@@ -74,7 +75,8 @@ after_sign text i = if slice_index text i == plus || slice_index text i == dash 
 abbrev pub is_negative : List ℕ → ℕ → Bool
 is_negative text i = slice_index text i == dash
 
--- `hex-prefix = %x30.78` (0x), `oct-prefix = %x30.6F` (0o), `bin-prefix = %x30.62` (0b)
+-- the radix of a prefix at i, if one is there: `hex-prefix = %x30.78` (0x), `oct-prefix = %x30.6F` (0o),
+-- `bin-prefix = %x30.62` (0b)
 abbrev pub radix_at : List ℕ → ℕ → Option ℕ
 radix_at text i =
     if not (slice_index text i == digit_zero) then None
@@ -82,8 +84,8 @@ radix_at text i =
     else (if slice_index text (i + 1) == 0x6F then Some 8
     else (if slice_index text (i + 1) == 0x62 then Some 2 else None)))
 
--- `unsigned-dec-int = DIGIT / digit1-9 1*( DIGIT / underscore DIGIT )`: the fault of a leading 0 begins at the digit
--- after it
+-- the end of `unsigned-dec-int = DIGIT / digit1-9 1*( DIGIT / underscore DIGIT )`, where the fault of a leading 0
+-- begins at the digit after this 0
 unfoldable pub integer_part : List ℕ → ℕ → ℕ → ℕ → Result ℕ Fault
 integer_part text start from end =
     digits_end 10 text start from end >>= (λ m.
@@ -91,7 +93,7 @@ integer_part text start from end =
     then Err (invalid_number (if slice_index text (from + 1) == underscore then from + 2 else from + 1) end)
     else Ok m)
 
--- the number with its sign, if it fits into 64 bits
+-- the number m, negated if the first argument is true, or None if the result does not fit into 64 bits
 unfoldable pub signed : Bool → ℕ → Option ℤ
 signed false m = if nat_lt m (2 ^ 63) then Some (pos m) else None
 signed true m = if nat_le m (2 ^ 63) then Some (neg_ℤ (pos m)) else None
@@ -101,7 +103,8 @@ unfoldable pub integer : ℕ → List ℕ → Bool → ℕ → ℕ → ℕ → R
 integer radix text negative start from end =
     ok_or (signed negative (magnitude radix text from end)) (invalid_number start end)
 
--- the digits of a `hex-int`, `oct-int` or `bin-int`, after the prefix
+-- the integer of a `hex-int`, `oct-int` or `bin-int` whose digits, after the prefix, are from `start` to `end`, or a
+-- fault
 unfoldable pub radix_integer : ℕ → List ℕ → ℕ → ℕ → Result ℤ Fault
 radix_integer radix text start end =
     digits_end radix text start start end >>= (λ m.
@@ -109,17 +112,17 @@ radix_integer radix text start end =
 
 -- ---- floats
 
--- `"e"`, of either case: %x65 or %x45
+-- whether this is the letter of an exponent: `"e"`, of either case (%x65 or %x45)
 abbrev pub is_exponent : ℕ → Bool
 is_exponent c = c == 0x65 || c == 0x45
 
--- the digits of an exponent, which must extend to the end of their piece
+-- the end of the digits of an exponent, which must extend to the end of their piece
 unfoldable pub exponent_digits : List ℕ → ℕ → ℕ → ℕ → ℕ → ℕ → Result ℕ Fault
 exponent_digits text a b start from end =
     digits_end 10 text start from end >>= (λ m. if nat_lt m end then Err (invalid_number a b) else Ok end)
 
--- `exp = "e" float-exp-part`, with its letter in a run that ends at `end`: the digits are in the same run or, after a
--- plus sign, in the next one
+-- the end of `exp = "e" float-exp-part`, whose letter is in a run that ends at `end`: the digits are in the same run
+-- or, after a plus sign, in the next one
 unfoldable pub exponent : List ℕ → ℕ → ℕ → ℕ → ℕ → Result ℕ Fault
 exponent text a b letter end =
     if nat_lt (letter + 1) end then exponent_digits text a b (letter + 1) (after_sign text (letter + 1)) end
@@ -127,7 +130,7 @@ exponent text a b letter end =
     else if run_end text (end + 1) == end + 1 then Err (invalid_number a b)
     else exponent_digits text a b (end + 1) (end + 1) (run_end text (end + 1))
 
--- `frac [ exp ]`, whose decimal point is at b
+-- the end of `frac [ exp ]`, whose decimal point is at b
 unfoldable pub fraction : List ℕ → ℕ → ℕ → ℕ → Result ℕ Fault
 fraction text i a b =
     if run_end text (b + 1) == b + 1 then Err (invalid_number i (b + 1))
@@ -136,7 +139,7 @@ fraction text i a b =
     else if is_exponent (slice_index text m) then exponent text a b m (run_end text (b + 1))
     else Err (invalid_number a b))
 
--- `dec-int`, or `float-int-part ( exp / frac [ exp ] )`
+-- the number whose first run is from a to b, and its end: `dec-int`, or `float-int-part ( exp / frac [ exp ] )`
 unfoldable pub decimal : List ℕ → ℕ → ℕ → ℕ → Result (Numeral × ℕ) Fault
 decimal text i a b =
     integer_part text a (after_sign text a) b >>= (λ m.
@@ -146,14 +149,14 @@ decimal text i a b =
     else if slice_index text b == period then fraction text i a b >>= (λ j. Ok (numerals.Finite, j))
     else integer 10 text (is_negative text a) a (after_sign text a) b >>= (λ n. Ok (numerals.Integer n, b)))
 
--- `inf / nan`
+-- `inf / nan`: the number that this word spells, if any
 unfoldable pub special : Bool → List ℕ → Option Numeral
 special negative word =
     if bytes_eq word (codes "inf") then Some (numerals.Infinite negative)
     else if bytes_eq word (codes "nan") then Some (numerals.NotANumber negative)
     else None
 
--- `inf` and `nan` must not be followed by a dot
+-- the number n, which is `inf` or `nan`, and its end b, or a fault: a dot must not follow
 unfoldable pub special_end : List ℕ → ℕ → ℕ → ℕ → Numeral → Result (Numeral × ℕ) Fault
 special_end text i a b n =
     if not (slice_index text b == period) then Ok (n, b)
@@ -162,7 +165,7 @@ special_end text i a b n =
 
 -- ---- numbers
 
--- a number whose first run is from a to b
+-- the number whose first run is from a to b, with its end: an integer with a prefix, `inf`, `nan`, or a decimal number
 unfoldable pub unsigned : List ℕ → ℕ → ℕ → ℕ → Result (Numeral × ℕ) Fault
 unsigned text i a b =
     option_map_or (λ radix. radix_integer radix text (a + 2) b >>= (λ n. Ok (numerals.Integer n, b)))

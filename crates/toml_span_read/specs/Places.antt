@@ -12,12 +12,12 @@ use Rattle.toml_span_read.specs.declared.section.Section.{Section}
 abbrev pub IsInside : ℕ → Span → Type 0
 IsInside n span = (span.start ≤ span.end) × (span.end ≤ n)
 
--- the same for each part of a key
+-- The span of each part is inside the first n bytes.
 abbrev pub PartsInside : ℕ → List SimpleKey → Type 0
 PartsInside n [] = Unit {0}
 PartsInside n (p ∷ ps) = IsInside n p.span × PartsInside n ps
 
--- the same for the keys of inline tables inside a value, at any depth
+-- The spans of all keys in the value, at any depth, are inside the first n bytes.
 abbrev mutual
   pub KeysInside : ℕ → ParsedValue → Type 0
   KeysInside n (parsed k span) = InnerKeysInside n k
@@ -35,7 +35,7 @@ abbrev mutual
   PairKeysInside n no_pairs = Unit {0}
   PairKeysInside n (pair ps v extent rest) = PartsInside n ps × KeysInside n v × PairKeysInside n rest
 
--- the same for an assignment's key, and for the keys inside its value
+-- The spans of all keys in the assignment are inside the first n bytes: those of its own key, and those in its value.
 abbrev pub AssignmentInside : ℕ → ParsedAssignment → Type 0
 AssignmentInside n e = PartsInside n e.parts × KeysInside n e.value
 
@@ -43,7 +43,8 @@ abbrev pub AssignmentsInside : ℕ → List ParsedAssignment → Type 0
 AssignmentsInside n [] = Unit {0}
 AssignmentsInside n (e ∷ es) = AssignmentInside n e × AssignmentsInside n es
 
--- the same for a section's header, its parts, and the keys in its assignments
+-- The span of the section's header, and the spans of all keys in the header and in the assignments, are inside the
+-- first n bytes.
 abbrev pub SectionInside : ℕ → Section → Type 0
 SectionInside n s =
     IsInside n s.header_span × PartsInside n (map simple_key s.header.items)
@@ -55,7 +56,7 @@ SectionsInside n (s ∷ ss) = SectionInside n s × SectionsInside n ss
 
 -- ---- in the order of the text
 
--- From i to j the parts follow each other: none is empty, and each ends before the next begins.
+-- The spans of the parts follow one another from i to j. They are not empty and do not overlap.
 abbrev pub Ascend : List SimpleKey → ℕ → ℕ → Type 0
 Ascend [] i j = i ≤ j
 Ascend (p ∷ ps) i j = (i ≤ p.span.start) × (p.span.start < p.span.end) × Ascend ps p.span.end j

@@ -1,10 +1,11 @@
--- How a text is read: for each form, the value at an offset and where it ends, or the fault there (TOML 1.1, "Overall
--- Structure", "Keys", "Key/Value Pair", "String" to "Local Time", "Array", "Inline Table", "Table", "Array of Tables").
+-- How a text is read: for each construct of the grammar, what is at an offset and where it ends, or the fault there
+-- (TOML 1.1, "Overall Structure", "Keys", "Key/Value Pair", "String" to "Local Time", "Array", "Inline Table", "Table",
+-- "Array of Tables").
 --
 -- The standard does not define faults: these definitions say which one a text has, and where. `document`, the last one,
 -- reads a whole text; each definition uses those above it. Keys that clash, such as `a = 1` on two lines, are not
--- faults: see `Clashes` of toml_span. `Grammar` says how each form is spelled, without faults. A law says that both
--- agree.
+-- faults: see `Clashes` of toml_span. `Grammar` says how each construct is spelled, without faults. A law says that the
+-- two agree: a text is read as sections if and only if it spells them.
 use Rattle.std.specs.Prelude.{◌≡◌, ℕ, zero, suc, ◌+◌, ◌⊎◌, Bool, true, false, ◌||◌, ◌==◌, List, [], ◌∷◌, ◌++◌, length}
 use Rattle.std.specs.Prelude.{if◌then◌else◌, slice_index, slice_range, codes, is_some, Result, Ok, Err}
 use Rattle.std.specs.Option.{option_map_or}
@@ -34,12 +35,12 @@ use Rattle.toml_span_read.specs.Numerals.{run_end, special, number}
 
 -- ---- reading
 
--- The possible results of reading a form: `Ok` with a value, or `Err` with a fault. Laws say that reading a key, a
--- value or a document has exactly one result.
+-- The possible results of reading a construct, such as a key: `Ok` with a value, or `Err` with a fault. Laws say that
+-- reading a key, a value or a document has exactly one result.
 abbrev pub Reading : Type 0 → Type 1
 Reading A = Result A Fault → Type 0
 
--- only this result
+-- the reading whose only result is x
 abbrev pub gives : {A : Type 0} → Result A Fault → Reading A
 gives x r = r ≡ x
 
@@ -51,7 +52,7 @@ after {A = A} m f r = ((a : A) × m (Ok a) × f a r) ⊎ ((e : Fault) × m (Err 
 abbrev pub skipping : {A : Type 0} → (ℕ → ℕ → Type 0) → ℕ → (ℕ → Reading A) → Reading A
 skipping skipped i next r = (k : ℕ) × skipped i k × next k r
 
--- the first form if the test is true, otherwise the second
+-- the first reading if the test is true, otherwise the second
 abbrev pub choice : {A : Type 0} → Bool → Reading A → Reading A → Reading A
 choice test this that r = ((test ≡ true) × this r) ⊎ ((test ≡ false) × that r)
 
@@ -76,14 +77,15 @@ pub data NextToken : Type 0 where
   text_end : NextToken
   no_token : Error → NextToken
 
--- what is at i
+-- This token, the end of the text or this fault is at i.
 abbrev pub IsNextToken : List ℕ → ℕ → NextToken → Type 0
 IsNextToken text i (token span l j) = IsLexeme text i j span l
 IsNextToken text i text_end = i ≡ length text
 IsNextToken text i (no_token e) = (j : ℕ) × IsNoToken text i j e
 
--- The fault for something else than the expected token at i. It names what was expected and what was found, begins at
--- i, and is as long as the name of what was found. If the tokenizer has a fault at i, it is that fault.
+-- The fault for something other than the expected token at i. It names what was expected and what was found. Its span
+-- begins at i and is as long as the name of what was found. If the tokenizer has a fault at i, the result is that
+-- fault.
 abbrev pub wanted : ExpectedToken → ℕ → NextToken → Fault
 wanted expected i (token span l j) = wanted_fault expected (found_of l) i
 wanted expected i text_end = wanted_fault expected found_tokens.EndOfText i
@@ -98,7 +100,8 @@ missing expected text i r =
 
 -- `simple-key = quoted-key / unquoted-key`, `unquoted-key = 1*( ALPHA / DIGIT / %x2D / %x5F )`,
 -- `quoted-key = basic-string / literal-string`
--- The fault of a multi-line string begins at its first quote and is as long as its value.
+-- The simple key that the token at i spells, with the offset after it, or the fault of another token. The fault of a
+-- multi-line string begins at its first quote and is as long as its value.
 abbrev pub key_result : ℕ → NextToken → Result (SimpleKey × ℕ) Fault
 key_result i (token span (keylike name) j) = Ok (record { name = name; span = span }, j)
 key_result i (token span (string source name false) j) = Ok (record { name = name; span = span }, j)
@@ -124,7 +127,8 @@ abbrev pub onward : List ℕ → List SimpleKey → ℕ → (ℕ → Reading Par
 onward text ps m next r = (NoDot text m × (r ≡ Ok (ps, m))) ⊎ ((p : ℕ) × Dot text m p × next p r)
 
 -- `key = simple-key / dotted-key`, `dotted-key = simple-key 1*( dot-sep simple-key )`: the parts ps have been read, and
--- at most `left` more are allowed. A part beyond that is read before it is reported, so that its own fault comes first.
+-- at most `left` more are allowed. A part beyond the limit is read before it is reported, so that its own fault comes
+-- first.
 unfoldable pub key : Bool → List ℕ → ℕ → List SimpleKey → ℕ → Reading Parts
 key in_header text zero ps i = after (simple_key_at text i) (λ (s, m). gives (Err (one_too_many in_header i s)))
 key in_header text (suc left) ps i =
@@ -132,8 +136,8 @@ key in_header text (suc left) ps i =
 
 -- ---- values without brackets
 
--- `date-time = offset-date-time / local-date-time / local-date / local-time`. If what is read as a date is not valid,
--- the fault spans all of it.
+-- `date-time = offset-date-time / local-date-time / local-date / local-time`. If the text that is read as a date or
+-- time is not valid, the fault spans all of it.
 abbrev pub date : List ℕ → ℕ → Reading (Scalar × ℕ)
 date text i r =
     (j : ℕ) × IsCandidate text i j
@@ -152,15 +156,14 @@ word text i =
     else Err (record { kind = kinds.UnquotedString; span = from_to i (run_end text i) })
 
 -- `integer = dec-int / hex-int / oct-int / bin-int`, `float = float-int-part ( exp / frac [ exp ] )`,
--- `float =/ special-float`: what begins with a digit or a sign, or is `inf` or `nan`, is read as a number or has the
--- fault `InvalidNumber`
+-- `float =/ special-float`: a value that begins with a digit or a sign, or whose run is `inf` or `nan`, is read as a
+-- number, any other value as a word
 abbrev pub number_or_word : List ℕ → ℕ → Result (Scalar × ℕ) Fault
 number_or_word text i =
     if begins_number (slice_index text i) || is_some (special false (run_at text i)) then number text i
     else word text i
 
--- a value without brackets, braces or quotes, of
--- `val = string / boolean / array / inline-table / date-time / float / integer`
+-- a value without brackets, braces or quotes: the `boolean / date-time / float / integer` of `val`
 abbrev pub bare : List ℕ → ℕ → Reading (Scalar × ℕ)
 bare text i = choice (begins_date text i) (date text i) (gives (number_or_word text i))
 
@@ -199,8 +202,8 @@ nested text i inner =
 
 -- `array-sep = %x2C`, `inline-table-sep = %x2C`, `array-close = %x5D`, `inline-table-close = %x7D`: an element or pair
 -- ends at m, and a gap may follow. After a comma and another gap, which ends at p, the loop continues with the state
--- `next p`. After the byte `close`, the result of the loop is `end` of the offset there. Otherwise the fault is that
--- the expected token is missing.
+-- `next p`. After the byte `close`, the result of the loop is `end k`, where k is the offset after that byte. At
+-- anything else, the fault is that the expected token is missing.
 abbrev pub separator : {S A : Type 0} → ℕ → ExpectedToken → List ℕ → ℕ → (ℕ → S) → (ℕ → A) → Reading (LoopStep S A)
 separator close expected text m next end =
     skipping (MaximalGap text) m (λ k.
@@ -235,7 +238,7 @@ keyval text limit skipped value i =
     gives (Ok (record { parts = ps; value = v; extent = from_to i j }, j)))))
     (missing expected_tokens.Equals text n)))
 
--- the pairs es and then e, or the fault that the key of e goes through the value of one of them
+-- the pairs or assignments es, followed by e, or the fault if the key of e goes through the value of one of them
 abbrev pub added : List ParsedAssignment → ParsedAssignment → Reading (List ParsedAssignment)
 added es e = gives (option_map_or (λ fault. Err fault) (crossing es e) (Ok (es ++ (e ∷ []))))
 
@@ -259,7 +262,7 @@ next_pair text limit value (es, i) =
     after (added es e) (λ fs. separator right_brace expected_tokens.Comma text m (λ p. (fs, p)) (table_end fs))))
 
 -- `val = string / boolean / array / inline-table / date-time / float / integer`: the value at i, whose key has n parts.
--- The fourth argument `left` is the number of levels of nesting that are left. A line begins with limit + 1 levels.
+-- The third argument, `left`, is the number of levels of nesting that are left. A line begins with limit + 1 levels.
 -- Each bracket and brace around the value, and each part of its own key and of the keys around it, takes one. If none
 -- is left for the value itself, the value is beyond the limit.
 unfoldable pub value : List ℕ → ℕ → ℕ → ℕ → ℕ → Reading ValueEnd
@@ -285,8 +288,9 @@ tail text i r =
 abbrev pub ends_lines : List ℕ → ℕ → Bool
 ends_lines text i = i == length text || slice_index text i == left_bracket
 
--- `expression =/ ws keyval ws [ comment ]`: another assignment with the rest of its line and the blank lines after it,
--- or none. The fault of a key that goes through an earlier value of its section comes after faults on its line.
+-- `expression =/ ws keyval ws [ comment ]`: the loop ends at a header or at the end of the text; otherwise it reads
+-- another assignment, the rest of its line and the blank lines after it. If the key goes through an earlier value of
+-- its section, this fault is found only after faults on the rest of the line.
 abbrev pub next_assignment : List ℕ → ℕ → Pairs → Reading (LoopStep Pairs Pairs)
 next_assignment text limit (es, i) =
     choice (ends_lines text i) (gives (Ok (done (es, i))))
@@ -294,7 +298,8 @@ next_assignment text limit (es, i) =
     after (tail text m) (λ n. after (added es e) (λ fs.
     skipping (MaximalGap text) n (λ k. gives (Ok (on (fs, k))))))))
 
--- the assignments from i up to a header or the end of the text, with the blank lines, `expression = ws [ comment ]`
+-- the assignments from i up to a header or the end of the text, with the blank lines (`expression = ws [ comment ]`)
+-- around them
 abbrev pub assignment_lines : List ℕ → ℕ → ℕ → Reading Pairs
 assignment_lines text limit i = skipping (MaximalGap text) i (λ k. Loop (next_assignment text limit) ([], k))
 
@@ -305,7 +310,8 @@ abbrev pub bracket : List ℕ → ℕ → Reading ℕ
 bracket text i =
     choice (slice_index text i == right_bracket) (gives (Ok (i + 1))) (missing expected_tokens.RightBracket text i)
 
--- `std-table-close = ws %x5D`, `array-table-close = ws %x5D.5D`, without the white space
+-- the closing brackets of a header, two if the first argument is true, otherwise one: `std-table-close = ws %x5D`,
+-- `array-table-close = ws %x5D.5D`, without the white space
 abbrev pub closing : Bool → List ℕ → ℕ → Reading ℕ
 closing false text i = bracket text i
 closing true text i = after (bracket text i) (bracket text)
@@ -325,7 +331,7 @@ heading array text limit i =
     gives (Ok (record { parts = ps; array = array; end = j })))))))
 
 -- `expression =/ ws table ws [ comment ]`, where `table = std-table / array-table`, `std-table-open = %x5B ws` and
--- `array-table-open = %x5B.5B ws`. The bracket at i need not be tested, since `assignment_lines` end only at a bracket
+-- `array-table-open = %x5B.5B ws`. The bracket at i need not be tested, since `assignment_lines` ends only at a bracket
 -- or at the end of the text.
 abbrev pub header : List ℕ → ℕ → ℕ → Reading HeaderEnd
 header text limit i =
@@ -352,7 +358,7 @@ section text limit i =
 abbrev pub ParsedSections : Type 0
 ParsedSections = List ParsedSection × ℕ
 
--- After these sections, the text ends or another one follows.
+-- After these sections, the text ends or another section follows.
 abbrev pub next_section : List ℕ → ℕ → ParsedSections → Reading (LoopStep ParsedSections (List ParsedSection))
 next_section text limit (bs, i) =
     choice (i == length text) (gives (Ok (done bs)))
@@ -365,6 +371,6 @@ before_headers text limit r =
     (i : ℕ) × FirstPlace text i
     × after (assignment_lines text limit i) (λ (es, j). gives (Ok (headerless_section es, j))) r
 
--- `toml = expression *( newline expression )`
+-- `toml = expression *( newline expression )`: all sections of the text, or its first fault in the order of reading
 unfoldable pub document : List ℕ → ℕ → Reading (List ParsedSection)
 document text limit = after (before_headers text limit) (λ read. Loop (next_section text limit) read)

@@ -12,14 +12,15 @@ use Rattle.toml_span_read.specs.Gaps.{MaximalGap}
 use Rattle.toml_span_read.specs.declared.fault.Fault.{Fault}
 use Rattle.toml_span_read.specs.declared.section.Section.{Section}
 
--- The text is read as these sections, or has the fault that the error reports.
+-- The text is read as these sections, or has the fault that the error reports. A failed allocation is possible for any
+-- text.
 abbrev pub ReadsDocument : List ℕ → ℕ → Result (Vec Section Global) (Stop Error) → Type 0
 ReadsDocument text limit (Ok found) = document text limit (Ok (map parsed_section found.items))
 ReadsDocument text limit (Err (stops.Memory e)) = Unit {0}
 ReadsDocument text limit (Err (stops.Fault error)) =
     (fault : Fault) × document text limit (Err fault) × (content_of error ≡ fault_content text fault)
 
--- The fault, if there is one, starts inside the text, and its span is not reversed.
+-- The error, if it reports a fault, has a span that starts inside the text or at its end, and is not reversed.
 abbrev pub RefusedInside : List ℕ → Result (Vec Section Global) (Stop Error) → Type 0
 RefusedInside text (Ok found) = Unit {0}
 RefusedInside text (Err (stops.Memory e)) = Unit {0}

@@ -47,8 +47,8 @@ fn is_date_byte(byte: u8) -> bool
     is_keylike(byte) || byte == b':' || byte == b'.' || byte == b'+'
 }
 
-/// Skips the bytes from `from` that can be part of a date or time (`is_date_byte`). Returns the offset after them, or
-/// `from` if there are none.
+/// Returns the offset after the run of date bytes (`is_date_byte`) that begins at `from`, or `from` itself if the run
+/// is empty.
 fn date_run_end(text: &str, from: usize) -> usize
     requires { IsCharBoundary text.now from }
     ensures run { MaximalRun spec.is_date_byte text.now from result }
@@ -64,8 +64,8 @@ fn date_run_end(text: &str, from: usize) -> usize
 }
 
 /// Returns the offset after the date or time at `at`, valid or not. It extends to the first byte that is not a date
-/// byte (`is_date_byte`). If it has ten bytes, and a space and a digit follow, the date bytes after the space belong to
-/// it.
+/// byte (`is_date_byte`). If it has ten bytes, and a space and a digit follow, the space and the date bytes after the
+/// space also belong to it.
 fn date_end(text: &str, at: usize) -> usize
     requires { IsCharBoundary text.now at }
     ensures candidate { IsCandidate text.now at result }

@@ -14,7 +14,7 @@ use toml_span_lex::key::Key;
 use toml_span_lex::span::Span;
 use toml_span_lex::stop::Stop;
 
-/// A node of the tree of paths. Each node stands for one path; `below` has the nodes of the paths that are one part
+/// A node of the tree of paths. Each node represents one path; `below` has the nodes of the paths that are one part
 /// longer.
 #[derive(Drop)]
 struct Node<'de> {

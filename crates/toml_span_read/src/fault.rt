@@ -92,7 +92,7 @@ impl FoundToken {
     }
 }
 
-/// What is wrong. `ErrorKind` has variants with the same names, and describes them.
+/// The kind of a fault. `ErrorKind` has variants with the same names, and documents them.
 #[derive(Clone, Copy, Debug)]
 pub enum FaultKind {
     UnexpectedEof,

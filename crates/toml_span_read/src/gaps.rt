@@ -36,8 +36,8 @@ fn gap_piece(text: &str, at: usize) -> Option<usize>
     }
 }
 
-/// Returns the offset after the spaces, tabs, line ends and comments that begin at the byte offset `from`; `from`
-/// itself if there are none.
+/// Returns the offset after the spaces, tabs, line ends and comments that begin at the byte offset `from`, or `from`
+/// itself if something else is there.
 ///
 /// `ws-comment-newline = *( wschar / [ comment ] newline )` (TOML 1.1, Array)
 pub fn gap_end(text: &str, from: usize) -> usize
@@ -74,7 +74,7 @@ pub fn line_rest(text: &str, from: usize) -> Result<usize, usize>
 }
 
 /// Skips the spaces and tabs from the byte offset `at`, a dot, and the spaces and tabs after it. Returns the offset
-/// after all of them, or `None` if there is no dot.
+/// after all of them, or `None` if the dot is missing.
 ///
 /// `dot-sep = ws %x2E ws` (TOML 1.1, Keys)
 #[inline(always)]

@@ -104,8 +104,8 @@ fn one_too_many(key: &Key<'_>, at: usize, in_header: bool) -> Fault
     }
 }
 
-/// Reads the part of a key at `at`, which comes after `others` other parts. Returns the part, the offset after it, and
-/// the offset of the next part (`None` if no dot follows). Fails with the fault of the part, or with the fault of
+/// Reads one part of a key, at `at`, after `others` earlier parts. Returns the part, the offset after it, and the
+/// offset of the next part (`None` if no dot follows). Fails with the fault of the part, or with the fault of
 /// `one_too_many` if `others` is `limit` or more.
 ///
 /// `dot-sep simple-key` (TOML 1.1, Keys)

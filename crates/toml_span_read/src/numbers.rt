@@ -60,10 +60,10 @@ fn digit(byte: u8, radix: u8) -> Option<u8>
     if value < radix { Some(value) } else { None }
 }
 
-/// Returns the offset after the digits in this radix that begin at `from`, `piece.end` at most. Single underscores may
-/// separate the digits.
+/// Returns the offset after the digits in this radix that begin at `from`. Single underscores may separate the digits.
+/// `piece` is the run (or the rest of the run, after a prefix or an `e`) that has the digits.
 ///
-/// Fails with `InvalidNumber` if there is no digit at `from`, or if an underscore is not between two digits. The fault
+/// Fails with `InvalidNumber` if a digit is missing at `from`, or if an underscore is not between two digits. The fault
 /// spans `piece` or, if there is an underscore at `from`, `from..piece.end`.
 ///
 /// `zero-prefixable-int = DIGIT *( DIGIT / underscore DIGIT )` (TOML 1.1, Float)
@@ -156,7 +156,7 @@ fn integer(text: &str, piece: Span, from: usize, radix: u8, negative: bool) -> R
     }
 }
 
-/// Returns the radix of the prefix `0x`, `0o` or `0b` at the offset `run`, or `None` if there is no prefix.
+/// Returns the radix of the prefix `0x`, `0o` or `0b` at the offset `run`, or `None` if none of them is there.
 ///
 /// `hex-prefix = %x30.78`, `oct-prefix = %x30.6F`, `bin-prefix = %x30.62` (TOML 1.1, Integer)
 #[inline]
@@ -307,7 +307,7 @@ fn fraction_end(text: &str, start: usize, first: Span) -> Result<usize, Fault>
     }
 }
 
-/// Returns the offset after the minus sign at `at`, or `at` if there is no minus sign.
+/// Returns the offset after the minus sign at `at`, or `at` itself if another byte is there.
 #[inline]
 fn after_minus(text: &str, at: usize) -> usize
     requires within { at < length text.now }
@@ -461,8 +461,8 @@ fn few_digits(text: &str, from: usize) -> (u64, usize)
     (value, bytes.len())
 }
 
-/// Reads the integer at `at` if it has few digits, and no sign, prefix, leading zero or underscore. Returns the integer
-/// with the offset after it. Returns `None` at anything else.
+/// Reads the integer at `at` if `few_digits` reads all its digits, and if it has no sign, prefix, leading zero or
+/// underscore. Returns the integer with the offset after it. Returns `None` at anything else.
 pub(crate) fn short_integer<'de>(text: &'de str, at: usize) -> Option<(ValKind<'de>, usize)>
     requires { IsCharBoundary text.now at }
     ensures scalar { IfSome result (λ found. ScalarGives (read.bare text.now at) (Ok found)) }
@@ -522,7 +522,7 @@ fn cleaned(alloc: Global, literal: &str) -> Result<String, AllocError>
     Ok(text)
 }
 
-/// Wraps an integer.
+/// Returns an integer as a `ValKind`.
 #[inline]
 fn integer_kind<'de>(value: i64) -> ValKind<'de>
     ensures { parsed_kind result ≡ scalar (integer value) }
@@ -530,7 +530,7 @@ fn integer_kind<'de>(value: i64) -> ValKind<'de>
     ValKind::Integer(value)
 }
 
-/// Wraps a float.
+/// Returns a float as a `ValKind`.
 #[inline]
 fn float_kind<'de>(text: FloatText) -> ValKind<'de>
     ensures { parsed_kind result ≡ scalar (float (float_value text)) }

@@ -13,8 +13,8 @@ pub struct Section<'de> {
     /// The line of the header, from its first bracket to the end of the line, including the line end; 0..0 without a
     /// header.
     pub header_span: Span,
-    /// From the first bracket of the header (without a header, the first assignment) to the end of the last assignment.
-    /// Without assignments, the same as `header_span`.
+    /// The span from the first bracket of the header (without a header, from the first assignment) to the end of the
+    /// last assignment. Without assignments, the same as `header_span`.
     pub extent: Span,
     pub assignments: Vec<Assignment<'de>>,
 }

@@ -235,7 +235,7 @@ fn section_of<'de>(header: Header<'de>, assignments: Vec<Assignment<'de>>) -> Se
     }
 }
 
-/// Returns the section with these assignments and no header, or `None` if there are no assignments.
+/// Returns the section with these assignments and no header, or `None` if `assignments` is empty.
 fn first_section<'de>(alloc: Global, assignments: Vec<Assignment<'de>>) -> Option<Section<'de>>
     ensures parsed_section { first_sections result
         ≡ headerless_section (map parsed_assignment assignments.entry.items) }
@@ -344,7 +344,7 @@ pub fn read_sections<'de>(
     ensures placed { RefusedInside text.now result }
     // Nothing is allocated for a text of comments and blank lines.
     ensures memory { (start : ℕ) × FirstPlace text.now start × OnlyFormsTakeMemory text.now start result }
-    // A string or key is borrowed if and only if it equals the text at its span, or is empty and on a single line.
+    // A string or key is borrowed if and only if it equals the text at its span, or is an empty single-line string.
     ensures borrows { IfOk result (λ found. AreWrittenRight text.now (sections_written found.items)) }
 {
     match sections(alloc, text, limit) {

@@ -15,7 +15,7 @@ use toml_span_lex::stop::Stop;
 use toml_span_lex::strings::string_at;
 use toml_span_lex::tokens::Token;
 
-/// A string that was read. `end` is the byte offset after its closing quotes.
+/// A string that was read. `content` is its value, and `end` is the byte offset after its closing quotes.
 #[derive(Drop)]
 pub struct StringToken<'de> {
     pub content: CowStr<'de>,

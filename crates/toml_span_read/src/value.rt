@@ -9,7 +9,7 @@ use toml_span_tree::{DateText, FloatText};
 #[derive(Debug, Drop)]
 pub struct Val<'de> {
     pub kind: ValKind<'de>,
-    /// The bytes of the value, with brackets, braces and a sign. The span of a string excludes its quotes; an empty
+    /// The span of the value, including brackets, braces and a sign. The span of a string excludes its quotes; an empty
     /// single-line string has the span of its opening quote.
     pub span: Span,
 }
@@ -34,7 +34,7 @@ pub enum ValKind<'de> {
 pub struct Assignment<'de> {
     pub parts: DottedKey<'de>,
     pub value: Val<'de>,
-    /// From the start of the key to the end of the value, quotes included.
+    /// The span from the start of the key to the end of the value, quotes included.
     pub extent: Span,
 }
 

@@ -37,7 +37,7 @@ use toml_span_lex::stop::Stop;
 use toml_span_tree::DateText;
 
 /// Reads the value at the byte offset `at`. Returns the value with the offset after it. `depth` is the number of
-/// brackets, braces and key parts around the value.
+/// brackets and braces around the value, plus the number of parts of its own key and of the keys around it.
 ///
 /// Fails with the first fault in the value, or with `ExceededDepthLimit` if a value is nested more than `limit` levels
 /// deep.
@@ -103,7 +103,8 @@ fn string_value<'de>(
 }
 
 /// Reads the number, boolean, date or time at `at`, which is nested `depth` levels deep. Returns the value with the
-/// offset after it. Fails if there is no valid value, and with `ExceededDepthLimit` if `depth` exceeds `limit`.
+/// offset after it. Fails if the value is missing or not valid, and with `ExceededDepthLimit` if `depth` exceeds
+/// `limit`.
 fn scalar<'de>(
     alloc: Global,
     text: &'de str,
@@ -332,7 +333,7 @@ fn pair<'de>(
     }
 }
 
-/// Wraps a string with its span.
+/// Returns the string `content` as a value with this span.
 fn string_of<'de>(content: CowStr<'de>, span: Span) -> Val<'de>
     ensures parsed_value { parsed_value result ≡ parsed (scalar_node (text_node (cow_str_bytes content.entry))) span }
     ensures written { written result ≡ string_written content.entry span ∷ [] }
@@ -341,21 +342,21 @@ fn string_of<'de>(content: CowStr<'de>, span: Span) -> Val<'de>
     Val { kind, span }
 }
 
-/// Wraps a boolean.
+/// Returns a boolean as a `ValKind`.
 fn truth<'de>(value: bool) -> ValKind<'de>
     ensures { parsed_kind result ≡ scalar_node (boolean value) }
 {
     ValKind::Boolean(value)
 }
 
-/// Wraps a date or time.
+/// Returns a date or time as a `ValKind`.
 fn dated<'de>(date: DateText<'de>) -> ValKind<'de>
     ensures { parsed_kind result ≡ scalar_node (datetime (date_bytes date.entry)) }
 {
     ValKind::Datetime(date)
 }
 
-/// Wraps a value of this kind, which is not a string, with the span `start..end`.
+/// Returns a value of this kind, which must not be a string, with the span `start..end`.
 fn scalar_of<'de>(kind: ValKind<'de>, start: usize, end: usize) -> Val<'de>
     ensures parsed_value { parsed_value result ≡ parsed (parsed_kind kind.entry) (record { start = start; end = end }) }
     ensures written { written result ≡ kind_written kind.entry (record { start = start; end = end }) }
@@ -364,7 +365,7 @@ fn scalar_of<'de>(kind: ValKind<'de>, start: usize, end: usize) -> Val<'de>
     Val { kind, span }
 }
 
-/// Wraps the elements of an array, with the span `start..end`.
+/// Returns the array of these elements, with the span `start..end`.
 fn array_of<'de>(items: Vec<Val<'de>>, start: usize, end: usize) -> Val<'de>
     ensures parsed_value { parsed_value result
         ≡ parsed (array_node (onto (map parsed_value items.entry.items) no_items))
@@ -378,7 +379,7 @@ fn array_of<'de>(items: Vec<Val<'de>>, start: usize, end: usize) -> Val<'de>
     }
 }
 
-/// Wraps the pairs of an inline table, with the span `start..end`.
+/// Returns the inline table of these pairs, with the span `start..end`.
 fn inline_of<'de>(pairs: Vec<Assignment<'de>>, start: usize, end: usize) -> Val<'de>
     ensures parsed_value { parsed_value result
         ≡ parsed (inline_node (pairs_onto (map parsed_assignment pairs.entry.items) no_pairs))
@@ -392,7 +393,7 @@ fn inline_of<'de>(pairs: Vec<Assignment<'de>>, start: usize, end: usize) -> Val<
     }
 }
 
-/// Returns the assignment of a value to a key. Its extent is `start..end`.
+/// Returns the assignment of `value` to the key `parts`. Its extent is `start..end`.
 pub(crate) fn assigned<'de>(
     parts: DottedKey<'de>,
     value: Val<'de>,

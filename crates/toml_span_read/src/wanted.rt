@@ -15,7 +15,7 @@ use toml_span_lex::stop::Stop;
 use toml_span_lex::tokenizer::token_at;
 use toml_span_lex::tokens::Token;
 
-/// Converts a token to the `found` of the fault `Wanted`.
+/// Returns the `FoundToken` for a token, as the fault `Wanted` contains it.
 fn found_of(token: &Token<'_>) -> FoundToken
     ensures { result ≡ faults.found_of (lexeme token.now) }
 {
@@ -37,7 +37,7 @@ fn found_of(token: &Token<'_>) -> FoundToken
     }
 }
 
-/// Returns the `found` of the fault `Wanted` for a string.
+/// Returns the `FoundToken` for a string.
 fn string_found(is_multiline: bool) -> FoundToken
     ensures { result ≡ (if is_multiline then FoundToken.MultilineString else FoundToken.OneLineString) }
 {

@@ -55,23 +55,24 @@ is_in class.Uncommented b = is_line b && not (b == 35)
 abbrev pub begins : List ℕ → ℕ → List ℕ → Bool
 begins text at front = starts_with nat_eq (drop at text) front
 
--- `end_of` is the first offset at or after a given one whose byte is not of the class.
+-- whether a byte is not of the class `kind`; and the offset of the first such byte at or after `at`, which is the
+-- length of the text if all bytes there are of the class, and `at` if that is beyond the text
 abbrev pub is_out : Class → ℕ → Bool
 is_out kind b = not (is_in kind b)
 
 unfoldable pub end_of : Class → List ℕ → ℕ → ℕ
 end_of kind text at = at + position_or_len (is_out kind) (drop at text)
 
--- the start of the run of bytes of the class that ends at an offset
+-- the start of the run of bytes of the class `kind` that ends at an offset
 unfoldable pub start_of : Class → List ℕ → ℕ → ℕ
 start_of kind text zero = 0
 start_of kind text (suc i) = if is_in kind (slice_index text i) then start_of kind text i else suc i
 
--- the offset this many bytes further on, at most the length of the text
+-- the offset `count` bytes after `at`, at most the length of the text
 abbrev pub ahead : List ℕ → ℕ → ℕ → ℕ
 ahead text at count = min (at + count) (length text)
 
--- the nearest byte that is not a blank, before an offset, and then at or after it; 0 if all bytes are blanks
+-- the last non-blank byte before `at`, and the first one at or after `at`; 0 if all bytes there are blanks
 abbrev pub byte_before : List ℕ → ℕ → ℕ
 byte_before text at =
     let end = start_of class.Blank text at in if end == 0 then 0 else slice_index text (end - 1)
@@ -79,8 +80,8 @@ byte_before text at =
 abbrev pub byte_after : List ℕ → ℕ → ℕ
 byte_after text at = slice_index text (end_of class.Blank text at)
 
--- the start of a line, after a byte order mark; the offset of its first byte there that is not a blank; and the end of
--- a line without trailing blanks
+-- for the line that contains `at`: its start, after a byte order mark; the offset of its first non-blank byte; and the
+-- offset after its last non-blank byte
 unfoldable pub line_begin : List ℕ → ℕ → ℕ
 line_begin text at =
     let start = start_of class.Line text at in
@@ -92,7 +93,7 @@ first_of_line text at = end_of class.Blank text (line_begin text at)
 abbrev pub last_of_line : List ℕ → ℕ → ℕ
 last_of_line text at = start_of class.Blank text (end_of class.Line text at)
 
--- whether only blanks follow on the line
+-- whether only blanks are between `at` and the next line end or NUL, or the end of the text
 abbrev pub is_last : List ℕ → ℕ → Bool
 is_last text at = byte_after text at == 0 || byte_after text at == 10 || byte_after text at == 13
 

@@ -5,7 +5,8 @@ use Rattle.std.specs.List.{flat_map}
 use Rattle.std.specs.Str.{chars}
 use Rattle.unicode_width.specs.Width.{str_width}
 
--- a control character from U+0080 on, or a character that has no width, ends a line or changes the text direction
+-- whether a character is printed as U+FFFD: a control character from U+0080 on, U+2028 or U+2029, a character that
+-- changes the direction of the text, or U+200B, U+200D or U+FEFF, which have no width
 abbrev pub is_hidden : ℕ → Bool
 is_hidden c = (nat_le 0x80 c && nat_lt c 0xA0) || c == 0x061C || c == 0x200B || (nat_le 0x200D c && nat_le c 0x200F)
     || (nat_le 0x2028 c && nat_le c 0x202E) || (nat_le 0x2066 c && nat_le c 0x2069) || c == 0xFEFF
@@ -24,6 +25,6 @@ shown_char c =
 unfoldable pub shown : List ℕ → List ℕ
 shown text = flat_map shown_char (chars text)
 
--- the number of columns of a text in its printed form
+-- the number of columns of a text that is in its printed form
 unfoldable pub columns : List ℕ → ℕ
 columns text = str_width false (chars text)

@@ -1,4 +1,4 @@
--- The colors of a report, as terminals set them (SGR of ECMA-48).
+-- The escape sequences that set the colors of a report in terminals (ECMA-48, SGR).
 use Rattle.std.specs.Prelude.{ℕ, List, ◌∷◌, ◌++◌, codes}
 use Rattle.toml_span_report.specs.declared.colours.Ink.{Ink}
 use Rattle.toml_span_report.specs.declared.colours.Ink.TheVariants.{Red, Yellow, Green, Blue, Bold}
@@ -12,7 +12,7 @@ beginning Green = 27 ∷ codes "[1;32m"
 beginning Blue = 27 ∷ codes "[1;34m"
 beginning Bold = 27 ∷ codes "[1m"
 
--- a text in a color, or unchanged
+-- a text in the color `ink`, or unchanged if the style is plain
 abbrev pub painted : Style → Ink → List ℕ → List ℕ
 painted Plain ink text = text
 painted Coloured ink text = beginning ink ++ text ++ 27 ∷ codes "[0m"

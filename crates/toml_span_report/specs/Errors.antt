@@ -1,4 +1,4 @@
--- The reports of errors, and their text.
+-- The reports of errors, and the text of these reports.
 use Rattle.std.specs.Prelude.{◌≡◌, ℕ, ◌==◌, List, [], ◌∷◌, ◌++◌, codes, length, Option, Some, None, map}
 use Rattle.std.specs.Prelude.{if◌then◌else◌}
 use Rattle.std.specs.Option.{option_to_list}
@@ -48,14 +48,15 @@ abbrev pub notes : Kind → List (List ℕ)
 notes (unexpected_keys keys expected) = what_is_expected expected ∷ []
 notes kind = []
 
--- the expected name nearest to each unknown key or to an unexpected value; or the range of a number type
+-- the lines of help: they suggest the expected name that is nearest to an unknown key or value, or state the range of a
+-- number type
 abbrev pub help : Kind → List (List ℕ)
 help (unexpected_keys keys expected) = suggestions (map (λ key. key.0) keys) expected
 help (unexpected_value expected (Some value)) = suggestions (value ∷ []) expected
 help (out_of_range name) = option_to_list (range_help name)
 help kind = []
 
--- the report of an error without a recognized mistake, which marks this span
+-- the report of an error whose mistake is not recognized; `span` is the span to mark
 abbrev pub report_of : Severity → Span → Kind → ReportContent
 report_of severity span kind = record {
   severity = severity;
@@ -71,7 +72,7 @@ abbrev pub ReportsKind : Severity → List ℕ → ErrorContent → ReportConten
 ReportsKind severity text error report =
     (span : Span) × IsMarked text error.kind error.span span × (report ≡ report_of severity span error.kind)
 
--- the report of an error that a recognized mistake caused
+-- the headline and the report of an error that a recognized mistake caused
 abbrev pub headline : Kind → FindingContent → List ℕ
 headline kind f = if length f.words.headline == 0 then message kind else f.words.headline
 
@@ -86,7 +87,7 @@ mistaken severity kind f = record {
   replacements = repairs.repairs f;
 }
 
--- the report of an error: that of the mistake, if one is recognized
+-- whether `report` is the report of an error: that of the mistake, if one is recognized
 abbrev pub ReportsFinding : Severity → List ℕ → ErrorContent → Option FindingContent → ReportContent → Type 0
 ReportsFinding severity text error (Some f) report = report ≡ mistaken severity error.kind f
 ReportsFinding severity text error None report = ReportsKind severity text error report
@@ -95,26 +96,26 @@ abbrev pub ReportsError : Severity → List ℕ → ErrorContent → ReportConte
 ReportsError severity text error report =
     ReportsFinding severity text error (mistake_of error.kind text error.span) report
 
--- the text of an error: that of its report
+-- whether `out` is the text of the report of an error
 abbrev pub IsReport : Style → List ℕ → List ℕ → ErrorContent → List ℕ → Type 0
 IsReport style name text error out =
     (report : ReportContent) × ReportsError severities.Error text error report
     × (out ≡ report_text style report name text)
 
--- The reports of these errors follow those before them.
+-- whether `after` has the reports in `before`, and then a report of each error, in order
 abbrev pub AddsReports : Severity → List ℕ → List ErrorContent → List ReportContent → List ReportContent → Type 0
 AddsReports severity text [] before after = after ≡ before
 AddsReports severity text (error ∷ errors) before after =
     (report : ReportContent) × ReportsError severity text error report
     × AddsReports severity text errors (before ++ report ∷ []) after
 
--- the text of errors: that of their reports
+-- whether `out` is the text of the reports of `errors`
 abbrev pub AreReports : Style → List ℕ → List ℕ → List ErrorContent → List ℕ → Type 0
 AreReports style name text errors out =
     (reports : List ReportContent) × AddsReports severities.Error text errors [] reports
     × AreReportTexts style name text reports out
 
--- A failed allocation has no text.
+-- whether `out` is the text of the reports of the errors in a Fault; never for Memory
 abbrev pub AreShown : Style → List ℕ → List ℕ → Stop Errors → List ℕ → Type 0
 AreShown style name text (stop.Fault faults) out = AreReports style name text (all faults) out
 AreShown style name text (stop.Memory e) out = ⊥

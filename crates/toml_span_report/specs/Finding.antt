@@ -1,4 +1,4 @@
--- Findings: a typical mistake in a text, what to mark, and the code to write.
+-- Findings: typical mistakes in a text, with what to mark and the code to write.
 use Rattle.std.specs.Prelude.{ℕ, nat_lt, List, [], codes, Option, Some, None, if◌then◌else◌}
 use Rattle.toml_span_lex.specs.declared.span.Span.{Span}
 use Rattle.toml_span_report.specs.Bytes.{end_of, part}
@@ -50,7 +50,7 @@ finding_content f = record {
   other = code_content f.other;
 }
 
--- what a word or character of another notation means in TOML
+-- what to write instead of a word or character that TOML does not have, as plain data
 pub record MeantContent : Type 0 where
   pub mistake : WordsContent
   pub name : List ℕ
@@ -62,7 +62,7 @@ meant_content m = record { mistake = texts m.mistake; name = m.name.now; code = 
 abbrev pub as_meant : WordsContent → List ℕ → List ℕ → MeantContent
 as_meant mistake name code = record { mistake = mistake; name = name; code = code }
 
--- six pieces joined, and three
+-- a text of six pieces, and one of three, without a number
 abbrev pub six : List ℕ → List ℕ → List ℕ → List ℕ → List ℕ → List ℕ → CodeContent
 six a b c d e f =
     record { first = a; second = b; third = c; fourth = d; fifth = e; sixth = f; number = None }
@@ -73,7 +73,7 @@ pieces first second third = six first second third [] [] []
 abbrev pub span_of : ℕ → ℕ → Span
 span_of start end = record { start = start; end = end }
 
--- a finding with code but without a replacement, and one without code
+-- a finding with code to write but without a replacement, and one without code
 abbrev pub shown : WordsContent → Span → Span → CodeContent → FindingContent
 shown words mark also code = record {
   words = words;
@@ -88,7 +88,8 @@ shown words mark also code = record {
 abbrev pub marked : WordsContent → ℕ → ℕ → FindingContent
 marked words from to = shown words (span_of from to) (span_of from to) (pieces [] [] [])
 
--- findings with a replacement: of another span, of the marked one, and by nothing
+-- findings with a replacement: of the span `edit` by code, of the marked span by code, and of the marked span by
+-- nothing
 abbrev pub mended : WordsContent → Span → Span → CodeContent → FindingContent
 mended words mark edit code = record (shown words mark mark code) { edit = Some edit }
 
@@ -98,7 +99,8 @@ replaced words from to code = mended words (span_of from to) (span_of from to) c
 abbrev pub removed : WordsContent → ℕ → ℕ → FindingContent
 removed words from to = replaced words from to (pieces [] [] [])
 
--- A text with backslashes is put between single quotes, where they keep their meaning.
+-- The quote to put around a part of a text: a single quote if the part contains a backslash or reaches beyond the text,
+-- otherwise a double quote.
 abbrev pub quote_for : List ℕ → ℕ → ℕ → List ℕ
 quote_for text from to = if nat_lt (end_of class.Unescaped text from) to then codes "'" else codes "\""
 
@@ -106,7 +108,7 @@ abbrev pub quoted : WordsContent → List ℕ → ℕ → ℕ → FindingContent
 quoted words text from to =
     replaced words from to (pieces (quote_for text from to) (part text from to) (quote_for text from to))
 
--- the first finding, or the second if there is no first
+-- the first finding or, if it is None, the second
 abbrev pub first_found : Option FindingContent → Option FindingContent → Option FindingContent
 first_found (Some f) other = Some f
 first_found None other = other

@@ -2,7 +2,7 @@
 use Rattle.std.specs.Prelude.{ℕ, List, codes, Option, Some, None, if◌then◌else◌}
 use Rattle.std.specs.Str.{bytes_eq}
 
--- the range of a float type
+-- a line of help with the range of a float type, or None for any other name
 unfoldable pub float_help : List ℕ → Option (List ℕ)
 float_help name =
     if bytes_eq name (codes "f32") then Some (codes "an f32 is finite, from -3.4028235e38 to 3.4028235e38")
@@ -10,7 +10,7 @@ float_help name =
     then Some (codes "an f64 is finite, from -1.7976931348623157e308 to 1.7976931348623157e308")
     else None
 
--- the range of a number type
+-- a line of help with the range of a number type, or None for any other name
 unfoldable pub range_help : List ℕ → Option (List ℕ)
 range_help name =
     if bytes_eq name (codes "u8") then Some (codes "a u8 is from 0 to 255")

@@ -15,21 +15,21 @@ abbrev pub role_json : Bool → List ℕ
 role_json true = codes "{\"primary\":true"
 role_json false = codes "{\"primary\":false"
 
--- the bytes of a label, as offsets from 0
+-- the members `start` and `end` of a label or replacement: byte offsets from 0
 unfoldable pub span_json : Span → List ℕ
 span_json span = codes ",\"start\":" ++ decimal span.start ++ codes ",\"end\":" ++ decimal span.end
 
--- the line and the column of a label's start, both counted from 1
+-- the members `line` and `column` for the offset `at`, both counted from 1
 unfoldable pub place_json : List ℕ → ℕ → List ℕ
 place_json text at =
     codes ",\"line\":" ++ decimal (line_number text (place text at))
     ++ codes ",\"column\":" ++ decimal (column text (place text at))
 
--- the bytes, the line and the column of a label
+-- the members `start`, `end`, `line` and `column` of a label at `span`
 unfoldable pub spot_json : List ℕ → Span → List ℕ
 spot_json text span = span_json span ++ place_json text span.start
 
--- a member whose value is a string, after the title
+-- a member whose value is the string `text`; `title` is the text before the string, such as `,"code":`
 abbrev pub member_json : List ℕ → List ℕ → List ℕ
 member_json title text = title ++ quoted text
 
@@ -43,14 +43,14 @@ label_json text mark = parts_json text mark.primary mark.span mark.message
 
 -- ---- reports
 
--- labels and strings as arrays, separated by commas
+-- an array of labels, and an array of strings
 abbrev pub labels_json : List ℕ → List Place → List ℕ
 labels_json text marks = codes "[" ++ join_by (label_json text) (codes ",") marks ++ codes "]"
 
 abbrev pub texts_json : List (List ℕ) → List ℕ
 texts_json texts = codes "[" ++ join_by quoted (codes ",") texts ++ codes "]"
 
--- a replacement of these parts
+-- the beginning of a replacement, with the member `safe`; and a replacement of these parts
 abbrev pub safety_json : Bool → List ℕ
 safety_json true = codes "{\"safe\":true"
 safety_json false = codes "{\"safe\":false"
@@ -65,7 +65,7 @@ fix_json r = fix_parts_json r.is_safe r.span r.text
 abbrev pub fixes_json : List Repair → List ℕ
 fixes_json fixes = join_by fix_json (codes ",") fixes
 
--- the name of the file, the code, the message and the labels
+-- the beginning of the line, with the name of the file, the code and the message
 abbrev pub head_json : ReportContent → List ℕ → List ℕ
 head_json r name =
     member_json (codes "{\"file\":") name ++ member_json (codes ",\"code\":") r.code
@@ -77,7 +77,7 @@ remarks_json r =
     member_json (codes ",\"severity\":") (word r.severity) ++ codes ",\"notes\":" ++ texts_json r.notes
     ++ codes ",\"help\":" ++ texts_json r.help
 
--- the whole line
+-- the whole line, with a line feed at the end
 abbrev pub report_json : ReportContent → List ℕ → List ℕ → List ℕ
 report_json r name text =
     head_json r name ++ codes ",\"labels\":" ++ labels_json text r.labels ++ remarks_json r

@@ -13,7 +13,7 @@ use Rattle.toml_span_report.specs.declared.many.Drawn.{Drawn}
 use Rattle.toml_span_report.specs.declared.report.Severity.{Severity}
 use Rattle.toml_span_report.specs.declared.report.Severity.TheVariants.{Error, Warning, Note}
 
--- the offset by which a report is sorted, which is 0 without labels, with its text
+-- the offset by which a report is sorted, which is 0 without labels; and this offset with the text of the report
 abbrev pub place_of : Option MarkedLine → ℕ
 place_of None = 0
 place_of (Some p) = p.at
@@ -25,7 +25,7 @@ drawn style name text r =
 abbrev pub drawn_content : Drawn → ℕ × List ℕ
 drawn_content d = (d.at, string_bytes d.text)
 
--- The reports are sorted by their offsets. Reports with the same offset keep their order.
+-- `ordered` has the reports of `given`, sorted by their offsets. Reports with the same offset keep their order.
 pub record AreInOrder (given ordered : List (ℕ × List ℕ)) : Type 0 where
   pub places : IsNonDecreasingBy (λ d. d.0) ordered
   pub same : IsStableByKey (λ d. d.0) nat_cmp given ordered
@@ -44,7 +44,8 @@ is_same _ _ = false
 abbrev pub is_of : Severity → ReportContent → Bool
 is_of severity r = is_same severity r.severity
 
--- a line with one more count, after a comma unless it is the first, or the line itself if the count is 0
+-- How a count, such as `2 errors`, is added to a line: after a comma unless the line is empty, in the plural unless the
+-- count is 1, and not at all if the count is 0.
 abbrev pub comma : List ℕ → List ℕ
 comma [] = []
 comma (x ∷ xs) = codes ", "
@@ -64,7 +65,8 @@ total rs =
 abbrev pub joined : List (ℕ × List ℕ) → List ReportContent → List ℕ
 joined ordered rs = flat_map with_blank_line ordered ++ before (codes "\n") (total rs)
 
--- the texts of the reports, sorted by their places, each with a blank line after it, and the last line
+-- whether `out` has the texts of the reports, sorted by their offsets, each with a blank line after it, and then the
+-- line that counts the reports
 abbrev pub AreReportTexts : Style → List ℕ → List ℕ → List ReportContent → List ℕ → Type 0
 AreReportTexts style name text rs out =
     (ordered : List (ℕ × List ℕ)) × AreInOrder (map (drawn style name text) rs) ordered × (out ≡ joined ordered rs)

@@ -17,18 +17,18 @@ place text (suc i) = if is_between text (suc i) then suc i else place text i
 abbrev pub is_line_feed : ℕ → Bool
 is_line_feed byte = byte == 10
 
--- the length of the byte order mark at the start of the text, or 0
+-- the length of the byte order mark at the start of the text, or 0 without a mark
 unfoldable pub mark_end : List ℕ → ℕ
 mark_end text =
     if slice_index text 0 == 0xEF && (slice_index text 1 == 0xBB && slice_index text 2 == 0xBF) then 3 else 0
 
--- the start of the line of an offset: after the nearest line feed before it or, if there is none, after a byte order
--- mark
+-- the start of the line that contains an offset: after the last line feed before the offset or, on the first line,
+-- after a byte order mark
 unfoldable pub line_start : List ℕ → ℕ → ℕ
 line_start text zero = 0
 line_start text (suc i) = if suc i == mark_end text || slice_index text i == 10 then suc i else line_start text i
 
--- the end of the line of an offset: before its LF or CRLF
+-- the end of the line that contains `at`: before its LF or CRLF (`without_return`), or at the end of the text
 abbrev pub without_return : List ℕ → ℕ → ℕ → ℕ
 without_return text at end =
     if nat_lt at end && (nat_lt end (length text) && slice_index text (end - 1) == 13) then end - 1 else end
@@ -36,11 +36,11 @@ without_return text at end =
 unfoldable pub line_end : List ℕ → ℕ → ℕ
 line_end text at = without_return text at (at + position_or_len is_line_feed (drop at text))
 
--- the number of the line of an offset, counted from 1
+-- the number of the line that contains `at`, counted from 1
 unfoldable pub line_number : List ℕ → ℕ → ℕ
 line_number text at = count_by is_line_feed (take at text) + 1
 
--- the column of an offset, counted from 1 in characters
+-- the column of the offset `at`, counted from 1 in characters
 unfoldable pub column : List ℕ → ℕ → ℕ
 column text at = length (chars (slice_range text (line_start text at) at)) + 1
 

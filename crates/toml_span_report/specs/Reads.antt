@@ -8,13 +8,13 @@ use Rattle.toml_span_report.specs.Errors.{AddsReports}
 use Rattle.toml_span_report.specs.Report.{ReportContent}
 use Rattle.toml_span_report.specs.declared.report.Severity.TheVariants as severities
 
--- the errors of a read that failed
+-- the errors of a read: empty if the read succeeded or an allocation failed
 abbrev pub errors_of : {T : Type 0} → Result T (Stop Errors) → List ErrorContent
 errors_of (Ok x) = []
 errors_of (Err (stop.Fault faults)) = all faults
 errors_of (Err (stop.Memory error)) = []
 
--- These are the reports of the warnings of a read and of its errors.
+-- whether `reports` are the reports of the warnings of a read, and then those of its errors
 abbrev pub AreReportsOf : {T : Type 0} → Result T (Stop Errors) → List ErrorContent → List ℕ → List ReportContent
     → Type 0
 AreReportsOf read warnings text reports =

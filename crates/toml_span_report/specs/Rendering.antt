@@ -41,18 +41,19 @@ ink_of Error = Red
 ink_of Warning = Yellow
 ink_of Note = Green
 
--- a code in brackets, or nothing
+-- a code in brackets, or nothing if the code is empty
 abbrev pub in_brackets : List ℕ → List ℕ
 in_brackets [] = []
 in_brackets (x ∷ xs) = codes "[" ++ (x ∷ xs) ++ codes "]"
 
--- `error[code]: message`
+-- the first line, `error[code]: message`
 abbrev pub headline : Style → ReportContent → List ℕ
 headline style r =
     painted style (ink_of r.severity) (word r.severity ++ in_brackets (shortened r.code))
     ++ painted style Bold (after (codes ": ") (shortened r.message)) ++ codes "\n"
 
--- the first strip of a primary label
+-- The strip whose line and column a report prints is `main_part`: the first strip of a primary label or, if no label is
+-- primary, the first strip.
 abbrev pub first_primary : List MarkedLine → Option MarkedLine
 first_primary [] = None
 first_primary (p ∷ ps) = if p.is_primary then Some p else first_primary ps
@@ -68,30 +69,31 @@ line_or None other = other
 abbrev pub main_part : List MarkedLine → Option MarkedLine
 main_part parts = line_or (first_primary parts) (first_of parts)
 
--- `:line:column`, both counted from 1
+-- `:line:column`, both counted from 1, or nothing without a strip
 abbrev pub line_and_column : Option MarkedLine → List ℕ
 line_and_column None = []
 line_and_column (Some p) = codes ":" ++ decimal p.number ++ codes ":" ++ decimal p.column
 
--- the number of columns of the highest line number
+-- the highest line number, and the number of its digits
 abbrev pub greatest : List MarkedLine → ℕ
 greatest parts = fold (λ n p. max p.number n) 0 parts
 
 abbrev pub width_of : List MarkedLine → ℕ
 width_of parts = length (decimal (greatest parts))
 
--- the margin to the left of a line, and a bar
+-- the left margin of a line: its number, aligned to the right, and a bar
 abbrev pub gutter : Style → ℕ → List ℕ → List ℕ
 gutter style width number = painted style Blue (replicate (width - length number) 32 ++ number ++ codes " |")
 
--- the source line
+-- the source line of a strip, with `...` where it is cut; and this line with the margin
 abbrev pub source : MarkedLine → List ℕ
 source p = dots p.is_cut_before ++ shown p.before ++ shown p.marked ++ shown p.after ++ dots p.is_cut_after
 
 abbrev pub source_line : Style → ℕ → MarkedLine → List ℕ
 source_line style width p = gutter style width (decimal p.number) ++ after (codes " ") (source p) ++ codes "\n"
 
--- the marks under a source line, one for each column of the marked part and at least one, and the message
+-- the line under a source line: a mark for each column of the marked part, but at least one, and the message; the mark
+-- is `^` for a primary label, otherwise `-`
 abbrev pub sign : Bool → ℕ
 sign true = 94
 sign false = 45
@@ -109,8 +111,8 @@ marks_line style severity width p =
     gutter style width [] ++ codes " "
     ++ painted style (ink severity p.is_primary) (marks p ++ after (codes " ") (shortened p.message)) ++ codes "\n"
 
--- The first source line has a bar above it. A line is not printed again if the window above shows it, and `...` is
--- printed if lines between are left out.
+-- The source line of a strip, or nothing if the window `above` shows the strip. A line with only a bar precedes the
+-- first source line, and `...` precedes a source line if lines between are left out.
 abbrev pub opening : Style → ℕ → Option Window → MarkedLine → List ℕ
 opening style width None p = gutter style width [] ++ codes "\n" ++ source_line style width p
 opening style width (Some above) p =
@@ -125,7 +127,7 @@ drawn style severity width above (p ∷ ps) =
     opening style width above (seen_in window p) ++ marks_line style severity width (seen_in window p)
     ++ drawn style severity width (Some window) ps
 
--- the notes and the help, with a bar above them
+-- a line with only a bar; and the notes and the help, with such a line above them
 abbrev pub bar : Style → ℕ → List ℕ
 bar style width = gutter style width [] ++ codes "\n"
 
@@ -142,14 +144,14 @@ remarks style width r =
     bar_above style width (r.notes ++ r.help) ++ flat_map (remark style width (codes "note: ")) r.notes
     ++ flat_map (remark style width (codes "help: ")) r.help
 
--- the first line, and the line with the place
+-- the first two lines: the headline, and the name of the file with `:line:column`
 abbrev pub front : Style → ReportContent → List ℕ → List MarkedLine → List ℕ
 front style r name parts =
     headline style r
     ++ painted style Blue (replicate (width_of parts) 32 ++ codes "--> ") ++ shortened name
     ++ line_and_column (main_part parts) ++ codes "\n"
 
--- The whole text: these two lines, the source lines with marks and messages, and notes and help, if there are any.
+-- The whole text: the first two lines, the source lines with marks and messages, and notes and help, if there are any.
 abbrev pub drawn_report : Style → ReportContent → List ℕ → List MarkedLine → List ℕ
 drawn_report style r name parts =
     front style r name parts ++ drawn style r.severity (width_of parts) None parts ++ remarks style (width_of parts) r
@@ -162,13 +164,14 @@ abbrev pub before : List ℕ → List ℕ → List ℕ
 before sign [] = []
 before sign (x ∷ xs) = (x ∷ xs) ++ sign
 
--- In a one-line report, an error has no word.
+-- the word before the code in a one-line report, which is empty for an error
 abbrev pub grade : Severity → List ℕ
 grade Error = []
 grade Warning = codes "warning: "
 grade Note = codes "note: "
 
--- what precedes a name that begins like a workflow command of GitHub, so that no output line is taken for one
+-- `./` for a name that begins like a workflow command of GitHub, so that GitHub does not take the line for one;
+-- otherwise nothing
 abbrev pub unlike_command : List ℕ → List ℕ
 unlike_command name = if starts_with nat_eq (trim_start name) (codes "::") then codes "./" else []
 

@@ -14,12 +14,12 @@ digits (Some n) = decimal n
 unfoldable pub code_text : CodeContent → List ℕ
 code_text c = c.first ++ c.second ++ c.third ++ c.fourth ++ c.fifth ++ c.sixth ++ digits c.number
 
--- the joint and the code, if neither is empty
+-- the joint and then the code in backticks, or nothing if either is empty
 abbrev pub code_shown : List ℕ → List ℕ → List ℕ
 code_shown joint code =
     if length joint == 0 || length code == 0 then [] else joint ++ codes "`" ++ visible code ++ codes "`"
 
--- the help with the code to write, and other code that may have been meant
+-- the line of help, with the code to write and other code that may have been meant; empty if the mistake has no help
 abbrev pub help : FindingContent → List (List ℕ)
 help f =
     if length f.words.help == 0 then []
@@ -29,7 +29,7 @@ help f =
 abbrev pub label : Bool → Span → List ℕ → List Place
 label is_primary span text = record { primary = is_primary; file = tt; span = span; message = text } ∷ []
 
--- the second label, if the mistake has one, and the primary one
+-- the secondary label, if the mistake has one, and the primary label
 abbrev pub labels : FindingContent → List Place
 labels f =
     (if length f.words.also == 0 then [] else label false f.also f.words.also)

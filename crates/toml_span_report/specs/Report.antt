@@ -1,4 +1,4 @@
--- Reports as plain data: what a program has to say about a text, and where.
+-- Reports as plain data: errors, warnings and notes about a text, with labels, help and replacements.
 use Rattle.std.specs.Prelude.{ℕ, Bool, true, false, List, [], ◌∷◌, ◌++◌, map, string_bytes}
 use Rattle.toml_span_lex.specs.declared.span.Span.{Span}
 use Rattle.toml_span_tree.specs.Diagnostic.{LabelContent, label_content}
@@ -6,7 +6,7 @@ use Rattle.toml_span_report.specs.declared.report.Replacement.{Replacement}
 use Rattle.toml_span_report.specs.declared.report.Report.{Report}
 use Rattle.toml_span_report.specs.declared.report.Severity.{Severity}
 
--- The span of a label, whether it is primary, and its message.
+-- a label as plain data: whether it is primary, its span, and its message
 abbrev pub Place : Type 0
 Place = LabelContent (Unit {0})
 

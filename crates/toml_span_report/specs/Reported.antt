@@ -10,12 +10,12 @@ use Rattle.toml_span_report.specs.Report.{ReportContent}
 use Rattle.toml_span_report.specs.declared.colours.Style.{Style}
 use Rattle.toml_span_report.specs.declared.report.Severity.TheVariants as severities
 
--- a report of each error, in order, and the text of these reports
+-- whether `reports` has a report of each error, in order, and `out` is the text of these reports
 abbrev pub AreReported : Style → List ℕ → List ℕ → List ErrorContent → List ReportContent → List ℕ → Type 0
 AreReported style name text errors reports out =
     AddsReports severities.Error text errors [] reports × AreReportTexts style name text reports out
 
--- A failed allocation has no reports.
+-- whether `reports` has a report of each error in a Fault, and `out` is the text of these reports; never for Memory
 abbrev pub AreTold : Style → List ℕ → List ℕ → Stop Errors → List ReportContent → List ℕ → Type 0
 AreTold style name text (stop.Fault faults) reports out = AreReported style name text (all faults) reports out
 AreTold style name text (stop.Memory e) reports out = ⊥

@@ -7,7 +7,8 @@ use Rattle.toml_span_report.specs.declared.scan.Open.{Open}
 abbrev pub is_long : List ℕ → ℕ → Bool
 is_long text at = begins text at (34 ∷ 34 ∷ 34 ∷ []) || begins text at (39 ∷ 39 ∷ 39 ∷ [])
 
--- what is open after a byte outside strings and comments
+-- What is open after the byte at `at`, which is outside strings and comments. `state` is what is open before the byte.
+-- In `opened`, the byte is not `#`.
 abbrev pub opened : List ℕ → Open → ℕ → Open
 opened text state at =
     if slice_index text at == 34 || slice_index text at == 39 then record state {
@@ -26,7 +27,7 @@ opened text state at =
 abbrev pub outside : List ℕ → Open → ℕ → Open
 outside text state at = if slice_index text at == 35 then record state { quote = 35 } else opened text state at
 
--- what is open after a byte of a string
+-- what is open after the byte at `at`, which is in a string
 abbrev pub inside : List ℕ → Open → ℕ → Open
 inside text state at =
     if slice_index text at == 92 && state.quote == 34 then record state { skip = 1 }
@@ -36,7 +37,7 @@ inside text state at =
     then record state { quote = 0; skip = 2 }
     else state
 
--- what is open after one more byte
+-- what is open after the byte at `at`; `state` is what is open before the byte
 unfoldable pub step : List ℕ → Open → ℕ → Open
 step text state at =
     if nat_lt 0 state.skip then record state { skip = state.skip - 1 }
@@ -53,6 +54,6 @@ scanned text (suc i) = step text (scanned text i) i
 abbrev pub open_before : List ℕ → ℕ → Open
 open_before text at = scanned text (min at (length text))
 
--- whether the outermost open bracket is that of a table header: it begins a line
+-- whether the outermost open bracket begins a table header: it is the first non-blank byte of its line
 abbrev pub is_in_header : List ℕ → Open → Bool
 is_in_header text state = nat_lt 0 state.depth && first_of_line text state.bracket == state.bracket

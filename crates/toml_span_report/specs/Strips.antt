@@ -7,7 +7,7 @@ use Rattle.toml_span_report.specs.declared.strips.Strip.{Strip}
 use Rattle.toml_span_report.specs.declared.strips.Window.{Window}
 use Rattle.toml_span_report.specs.Places.{place, line_start, line_end, line_number, column, span_start, span_end}
 
--- A marked part of a line, with what is printed of the line before and after it.
+-- a marked part of a line, with the text before and after it on the line, which may be cut
 pub record MarkedLine : Type 0 where
   pub at : ℕ
   pub number : ℕ
@@ -35,7 +35,7 @@ marked_line_of s = record {
   message = s.message.now;
 }
 
--- the strip from one offset to another, or to the end of its line if that comes first
+-- the strip from the offset `from` to the offset `to`, or to the end of the line of `from` if that comes first
 unfoldable pub marked_line : List ℕ → ℕ → ℕ → Bool → List ℕ → MarkedLine
 marked_line text from to is_primary message =
     let end = line_end text from in
@@ -52,7 +52,8 @@ marked_line text from to is_primary message =
       message = message;
     }
 
--- the strips of a span: one or, if it ends on another line, one for that line too, which then has the message
+-- The strips of the span `from..to`: one on its first line and, if it ends on another line, one there. The line of `to`
+-- starts at `again`. Only the last strip has the message.
 abbrev pub marked_lines_between : List ℕ → ℕ → ℕ → ℕ → Bool → List ℕ → List MarkedLine
 marked_lines_between text from again to is_primary message =
     if nat_le again from then marked_line text from to is_primary message ∷ []
@@ -63,11 +64,11 @@ marked_lines_of text mark =
     let to = span_end text mark.span in
     marked_lines_between text (span_start text mark.span) (line_start text to) to mark.primary mark.message
 
--- how many strips begin at or before an offset
+-- the position of the first strip that begins after the offset, or the number of strips if all begin at or before it
 abbrev pub earlier : List MarkedLine → ℕ → ℕ
 earlier parts at = position_or_len (λ p. nat_lt at p.at) parts
 
--- the strips with one more, after those that begin at the same offset
+-- the strips `parts` with `p` inserted, after those that begin at the same offset
 abbrev pub placed : List MarkedLine → MarkedLine → List MarkedLine
 placed parts p = insert parts (earlier parts p.at) p
 
@@ -77,11 +78,12 @@ all_marked_lines text marks = fold (λ parts mark. fold placed parts (marked_lin
 
 -- ---- what is printed of a long line
 
--- A window shows the strips of one line that begin within 240 bytes of its first strip.
+-- A window shows the strips of one line that begin at most 240 bytes after the start of its first strip.
 abbrev pub is_near : Window → MarkedLine → Bool
 is_near window p = p.number == window.number && nat_le (p.at - window.first) 240
 
--- the start of the last strip that a window can show
+-- the start of the last strip in the window, widened to show the strips of the list before the first one that is not
+-- near
 abbrev pub last_near : Window → List MarkedLine → ℕ
 last_near window [] = window.last
 last_near window (p ∷ ps) =
@@ -92,14 +94,17 @@ abbrev pub window_from : Window → List MarkedLine → Window
 window_from window ps =
     record { number = window.number; first = window.first; last = last_near window ps }
 
--- the window that shows a strip: the one above, or a new one for it and those that follow
+-- the window that shows `p`: the given one if `p` is near, otherwise a new one for `p` and, of the next strips `ps`,
+-- those before the first one that is not near
 abbrev pub window_of : Option Window → MarkedLine → List MarkedLine → Window
 window_of None p ps = window_from (record { number = p.number; first = p.at; last = p.at }) ps
 window_of (Some window) p ps =
     if is_near window p then window
     else window_from (record { number = p.number; first = p.at; last = p.at }) ps
 
--- What a window shows of the line: 80 bytes before its first strip, and 160 bytes from its last strip on.
+-- A window shows its line from 80 bytes before its first strip to 160 bytes after the start of its last strip: `hidden`
+-- is the number of bytes before `p` that are cut, and `room` the number of bytes from the start of `p` on that can be
+-- shown.
 abbrev pub hidden : Window → MarkedLine → ℕ
 hidden window p = length p.before - (p.at - window.first) - 80
 

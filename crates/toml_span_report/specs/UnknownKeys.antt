@@ -1,4 +1,4 @@
--- The messages for unknown keys.
+-- The messages for unknown keys and unexpected values.
 use Rattle.std.specs.Prelude.{ℕ, List, [], ◌∷◌, ◌++◌, ◌==◌, codes, length, if◌then◌else◌, Option}
 use Rattle.std.specs.List.{flat_map, join_by}
 use Rattle.std.specs.Option.{option_map, option_to_list}
@@ -17,24 +17,25 @@ listed names = join_by named (codes ", ") names
 abbrev pub unknown_keys : List (List ℕ) → List ℕ
 unknown_keys names = (if length names == 1 then codes "unknown key " else codes "unknown keys ") ++ listed names
 
--- the note that lists the expected keys
+-- the note that lists the expected keys, or says that no key is expected
 abbrev pub what_is_expected : List (List ℕ) → List ℕ
 what_is_expected [] = codes "no key is expected"
 what_is_expected (name ∷ names) = codes "expected " ++ listed (name ∷ names)
 
--- the message for a value that is not among these
+-- the message for a value that is not one of `names`
 abbrev pub one_of : List (List ℕ) → List ℕ
 one_of names = (if length names == 1 then codes "expected " else codes "expected one of ") ++ listed names
 
--- the message that a key has a new name
+-- the message that the key `old` is deprecated, and that `new` replaces it
 abbrev pub deprecated : List ℕ → List ℕ → List ℕ
 deprecated old new = named old ++ codes " is deprecated, use " ++ named new
 
--- the label of a key
+-- the label of an unknown key
 abbrev pub key_label : List ℕ × Span → Place
 key_label key = primary tt key.1 (codes "unknown key")
 
--- the help for one of several unknown keys
+-- the help: for each unknown key that is near enough to an expected key, a line that suggests the expected key; if
+-- there are several unknown keys, the line names the unknown one too (`in_place_of`)
 abbrev pub in_place_of : ℕ → List ℕ → List ℕ
 in_place_of count name = if count == 1 then [] else codes " in place of " ++ named name
 

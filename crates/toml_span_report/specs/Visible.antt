@@ -6,7 +6,7 @@ use Rattle.std.specs.List.{flat_map}
 use Rattle.std.specs.Str.{chars}
 use Rattle.json.specs.Print as print
 
--- a control character, one that ends a line, or one that changes the direction of the text
+-- whether a character is a control character, ends a line, or changes the direction of the text
 abbrev pub is_escaped : ℕ → Bool
 is_escaped c = nat_lt c 0x20 || (nat_le 0x7F c && nat_lt c 0xA0) || c == 0x61C || (nat_le 0x200E c && nat_le c 0x200F)
     || (nat_le 0x2028 c && nat_le c 0x202E) || (nat_le 0x2066 c && nat_le c 0x2069)
@@ -21,17 +21,17 @@ escape c = codes "\\u" ++ digit (c / 4096) ++ digit (c / 256 % 16) ++ digit (c /
 abbrev pub visible_char : ℕ → List ℕ
 visible_char c = if is_escaped c then escape c else encode_utf8 c
 
--- a text in which the characters of `is_escaped` are written by number
+-- a text with escapes for the characters of `is_escaped`
 unfoldable pub visible : List ℕ → List ℕ
 visible text = flat_map visible_char (chars text)
 
 abbrev pub line_char : ℕ → List ℕ
 line_char c = if c == 10 then encode_utf8 c else visible_char c
 
--- the same, except for line feeds
+-- a text with escapes for the characters of `is_escaped`, except for line feeds
 unfoldable pub visible_lines : List ℕ → List ℕ
 visible_lines text = flat_map line_char (chars text)
 
--- a text as a JSON string
+-- a text as a JSON string, in which the characters of `is_escaped` are escaped too
 abbrev pub quoted : List ℕ → List ℕ
 quoted text = visible (print.quoted text)

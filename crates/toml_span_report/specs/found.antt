@@ -1,4 +1,4 @@
--- How typical mistakes are recognized, by what was found.
+-- How typical mistakes are recognized, with a module for each kind of mistake.
 pub mod Values
 pub mod Keys
 pub mod Lists

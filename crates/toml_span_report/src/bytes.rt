@@ -178,8 +178,8 @@ fn run_of(class: Class, bytes: &[u8]) -> usize
     bytes.len()
 }
 
-/// Returns the offset of the first byte at or after `at` that is not of the class, or the length of the text if there
-/// is none. Returns `at` if it is beyond the text.
+/// Returns the offset of the first byte at or after `at` that is not of the class, or the length of the text if all
+/// bytes there are of the class. Returns `at` if it is beyond the text.
 #[tactic(auto, unfolding(crate::specs::Bytes::end_of))]
 pub(crate) fn end_of(class: Class, text: &str, at: usize) -> usize
     ensures { result ≡ spec.end_of class text.now at }
@@ -192,8 +192,8 @@ pub(crate) fn end_of(class: Class, text: &str, at: usize) -> usize
     at + run_of(class, rest)
 }
 
-/// Returns the offset after the last byte before `at` that is not of the class, or 0 if there is none. Bytes beyond the
-/// text count as 0.
+/// Returns the offset after the last byte before `at` that is not of the class, or 0 if all bytes before `at` are of
+/// the class. Bytes beyond the text count as 0.
 #[tactic(auto, unfolding(crate::specs::Bytes::start_of))]
 pub(crate) fn start_of(class: Class, text: &str, at: usize) -> usize
     ensures { result ≡ spec.start_of class text.now at }
@@ -205,8 +205,8 @@ pub(crate) fn start_of(class: Class, text: &str, at: usize) -> usize
     start
 }
 
-/// Returns the last byte before the offset `at` that is not a blank. Returns 0 if there is none, or if `at` is beyond
-/// the text.
+/// Returns the last byte before the offset `at` that is not a blank. Returns 0 if all bytes before `at` are blanks, or
+/// if `at` is beyond the text.
 pub(crate) fn byte_before(text: &str, at: usize) -> u8
     ensures { result ≡ spec.byte_before text.now at }
 {
@@ -214,14 +214,14 @@ pub(crate) fn byte_before(text: &str, at: usize) -> u8
     if end == 0 { 0 } else { byte_at(text, end - 1) }
 }
 
-/// Returns the first byte at or after the offset `at` that is not a blank, or 0 if there is none.
+/// Returns the first byte at or after the offset `at` that is not a blank, or 0 if all bytes there are blanks.
 pub(crate) fn byte_after(text: &str, at: usize) -> u8
     ensures { result ≡ spec.byte_after text.now at }
 {
     byte_at(text, end_of(Class::Blank, text, at))
 }
 
-/// Returns the start of the line of the offset `at`, after a byte order mark.
+/// Returns the start of the line that contains the offset `at`. The first line starts after a byte order mark.
 #[tactic(auto, unfolding(crate::specs::Bytes::line_begin))]
 fn line_begin(text: &str, at: usize) -> usize
     ensures { result ≡ spec.line_begin text.now at }
@@ -234,16 +234,16 @@ fn line_begin(text: &str, at: usize) -> usize
     }
 }
 
-/// Returns the offset of the first byte on the line of the offset `at` that is neither a blank nor a byte order mark,
-/// or the end of the line if there is no other byte.
+/// Returns the offset of the first non-blank byte on the line that contains the offset `at`. Returns the end of the
+/// line if it has only blanks. A byte order mark at the start of the text is skipped.
 pub(crate) fn first_of_line(text: &str, at: usize) -> usize
     ensures { result ≡ spec.first_of_line text.now at }
 {
     end_of(Class::Blank, text, line_begin(text, at))
 }
 
-/// Returns the offset after the last non-blank byte on the line of the offset `at`, or the start of the line if it has
-/// only blanks. Returns `at` if it is beyond the text.
+/// Returns the offset after the last non-blank byte on the line that contains the offset `at`, or the start of the line
+/// if it has only blanks. Returns `at` if it is beyond the text.
 pub(crate) fn last_of_line(text: &str, at: usize) -> usize
     ensures { result ≡ spec.last_of_line text.now at }
 {

@@ -5,8 +5,9 @@ ghost use Rattle.toml_span_report.specs.Characters as spec;
 use std::alloc::{AllocError, Global};
 use unicode_width::UnicodeWidthStr;
 
-/// Returns whether a character is printed as U+FFFD. Such characters are control characters above U+007F, U+2028 and
-/// U+2029, characters that change the direction of the text, and characters without width (U+200B, U+200D, U+FEFF).
+/// Returns whether a character is printed as U+FFFD. These are the control characters U+0080 to U+009F, the line ends
+/// U+2028 and U+2029, the characters that change the direction of the text, and three characters without width (U+200B,
+/// U+200D, U+FEFF).
 fn is_hidden(c: char) -> bool
     ensures { result ≡ spec.is_hidden c }
 {
@@ -72,7 +73,8 @@ pub(crate) fn columns(text: &str) -> usize
     text.width()
 }
 
-/// Appends `times` copies of `c` to `out`. If an allocation fails, `out` has some of the characters.
+/// Appends `times` copies of the ASCII character `c` to `out`. If an allocation fails, `out` has some of the
+/// characters.
 pub(crate) fn push_times(out: &mut String, times: usize, c: char) -> Result<(), AllocError>
     requires { c < 128 }
     ensures { OnOk result (string_bytes out.new ≡ string_bytes out.old ++ replicate times c) }

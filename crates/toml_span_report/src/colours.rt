@@ -9,11 +9,11 @@ use std::alloc::AllocError;
 pub enum Style {
     /// Plain text.
     Plain,
-    /// With the escape sequences by which terminals set colors (ECMA-48, SGR).
+    /// Text with the escape sequences that set colors in terminals (ECMA-48, SGR).
     Coloured,
 }
 
-/// A color, and the parts of a report that are printed in it.
+/// A color, or bold type. Each variant lists the parts of a report that are printed in it.
 #[derive(Clone, Copy, PartialEq, Eq)]
 pub(crate) enum Ink {
     /// The word `error` with its code, and the marks and messages of primary labels in an error.
@@ -22,13 +22,13 @@ pub(crate) enum Ink {
     Yellow,
     /// The word `note` with its code, and the marks and messages of primary labels in a note.
     Green,
-    /// The left margin, and the marks and messages of secondary labels.
+    /// The left margin with `|`, `=` and `-->`, and the marks and messages of secondary labels.
     Blue,
-    /// The message of the report, and the words `note:` and `help:` before remarks.
+    /// The message of the report, and the words `note:` and `help:`.
     Bold,
 }
 
-/// Returns the escape sequence that switches to a color.
+/// Returns the escape sequence that switches to `ink`.
 fn beginning(ink: Ink) -> &'static str
     ensures { result.now ≡ spec.beginning ink }
 {

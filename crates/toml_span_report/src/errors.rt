@@ -1,4 +1,4 @@
-//! Makes reports of errors, and their text.
+//! Makes reports of errors, and formats these reports as text.
 ghost use Rattle.std.specs.Prelude.{◌≡◌, [], IfOk, OnOk, map, string_bytes};
 ghost use Rattle.std.specs.Option.{option_to_list};
 ghost use Rattle.toml_span_tree.specs.Diagnostic.{label_content, labels_of};
@@ -30,7 +30,7 @@ use toml_span_lex::stop::Stop;
 use toml_span_tree::{Error, ErrorKind, Label};
 use toml_span_typed::DeserError;
 
-/// Returns the message of the report on an error without a recognized mistake.
+/// Returns the message for the report of `error`, to be used if no recognized mistake has a headline.
 fn message(alloc: Global, error: &Error<'_>) -> Result<String, AllocError>
     ensures { IfOk result (λ text. string_bytes text ≡ spec.message (kind_of error.now.kind)) }
 {
@@ -200,18 +200,19 @@ impl Report {
     /// Returns the report of an error in the source `text`.
     ///
     /// For a typical mistake, such as `True` instead of `true`, the report usually names the mistake and says what to
-    /// write, and may have a replacement. All other reports have the message and labels of the error, except:
+    /// write, and may have a replacement. All other reports have the `Display` text of the error as their message, and
+    /// the labels of `Error::to_diagnostic`, except:
     ///
-    /// - For a `Wanted` error of `parse`, the mark is the token at the start of the span, up to the end of the line at
-    ///   most. If there is no token, as at the end of the source, the mark is empty.
-    /// - For a table that lacks a key, the mark is the span of the table, or only the header's line if the table begins
-    ///   with a header. If the span is the whole source, as for the root, the mark is empty, at the start of the
-    ///   source.
-    /// - Each unknown key is marked. A note lists the expected keys, or says that there are none. For each unknown key,
-    ///   a line of help names the nearest expected key, if one is near enough (`nearest`). Help for an unexpected value
-    ///   names the nearest expected value, if one is near enough.
-    /// - Most errors of typed reads have other messages, such as "missing key" with the name of the key. For most types
-    ///   of numbers, help for a number that is out of range states the range.
+    /// - For a `Wanted` error of `parse`, the primary label marks the token at the start of the error's span, up to the
+    ///   end of the line at most. If no token begins there, as at the end of the source, the mark is empty.
+    /// - For a table that lacks a key, the primary label marks the table, or only the header's line if the table begins
+    ///   with a header. For the root, which is the whole source, the mark is empty, at the start of the source.
+    /// - Each unknown key has a primary label. A note lists the expected keys, or says that no key is expected. For
+    ///   each unknown key, a line of help names the nearest expected key, if one is near enough (`nearest`). Help for
+    ///   an unexpected value names the nearest expected value, if one is near enough.
+    /// - The label at an unexpected character is empty, since the message names the character. Most errors of typed
+    ///   reads have other messages or labels, such as "missing key" with the name of the key. For most types of
+    ///   numbers, help for a number that is out of range states the range.
     ///
     /// Fails if an allocation fails.
     pub fn from_error(alloc: Global, error: &Error<'_>, text: &str) -> Result<Report, AllocError>
@@ -231,7 +232,7 @@ impl Report {
     }
 }
 
-/// Returns the report of an error as text, as `render` formats it. `name` is the name of the file, `text` the source.
+/// Returns the report of `error` as text, formatted by `render`. `name` is the name of the file, `text` the source.
 /// Fails if an allocation fails.
 pub fn render_error(
     alloc: Global,
@@ -277,7 +278,7 @@ pub(crate) fn error_reports(
     Ok(reports)
 }
 
-/// Returns the reports of all errors in `errors` as text, as `render_all` formats them. `name` is the name of the file,
+/// Returns the reports of all errors in `errors` as text, formatted by `render_all`. `name` is the name of the file,
 /// `text` the source. Fails if an allocation fails.
 pub fn render_errors(
     alloc: Global,
@@ -292,8 +293,9 @@ pub fn render_errors(
     render_all(alloc, style, reports.as_slice(), name, text)
 }
 
-/// Returns the reports of all errors in `stop`, the error of `from_str`, as text, as `render_all` formats them. `name`
-/// is the name of the file, `text` the source. Fails if `stop` is `Stop::Memory`, or if an allocation fails.
+/// Returns the reports of all errors in `stop` as text, formatted by `render_all`. `stop` is the error that `from_str`
+/// returned, `name` is the name of the file, and `text` the source. Fails if `stop` is `Stop::Memory`, or if an
+/// allocation fails.
 pub fn render_stop(
     alloc: Global,
     style: Style,

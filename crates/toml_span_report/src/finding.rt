@@ -1,4 +1,4 @@
-//! Findings: a typical mistake in a text, what to mark, and the code to write.
+//! Findings: typical mistakes in a text, with what to mark and the code to write.
 ghost use Rattle.std.specs.Prelude.{◌≡◌, Some, option_map};
 ghost use Rattle.toml_span_report.specs.Finding as spec;
 ghost use Rattle.toml_span_report.specs.Finding.{code_content, finding_content, meant_content};
@@ -34,13 +34,13 @@ pub(crate) struct Finding<'a> {
     pub(crate) label: Code<'a>,
     /// The span that `code` replaces, if there is a replacement.
     pub(crate) edit: Option<Span>,
-    /// The code to write. Empty if there is none.
+    /// The code to write. May be empty.
     pub(crate) code: Code<'a>,
-    /// Other code that may have been meant. Empty if there is none.
+    /// Other code that the author of the text may have meant. May be empty.
     pub(crate) other: Code<'a>,
 }
 
-/// What a word or character of another notation means in TOML.
+/// What to write instead of a word or character that TOML does not have, such as `True` or a curly quote.
 #[derive(Clone, Copy)]
 pub(crate) struct Meant {
     pub(crate) mistake: Mistake,
@@ -119,7 +119,7 @@ pub(crate) fn marked<'a>(mistake: Mistake, from: usize, to: usize) -> Finding<'a
     shown(mistake, mark, mark, pieces("", "", ""))
 }
 
-/// Returns a finding that marks `mark`, with a replacement of `edit` by `code`.
+/// Returns a finding that marks the span `mark`, with a replacement of the span `edit` by `code`.
 pub(crate) fn mended<'a>(mistake: Mistake, mark: Span, edit: Span, code: Code<'a>) -> Finding<'a>
     ensures { finding_content result ≡ spec.mended (texts mistake.entry) mark edit (code_content code.entry) }
 {

@@ -63,7 +63,7 @@ fn push_place(out: &mut String, text: &str, at: usize) -> Result<(), AllocError>
     push_number(out, ",\"column\":", column)
 }
 
-/// Appends the members `start`, `end`, `line` and `column` of a label to `out`. `text` is the source.
+/// Appends the members `start`, `end`, `line` and `column` of a label at `span` to `out`. `text` is the source.
 #[tactic(auto, unfolding(crate::specs::JsonLine::spot_json))]
 fn push_spot(out: &mut String, text: &str, span: Span) -> Result<(), AllocError>
     ensures { OnOk result (string_bytes out.new ≡ string_bytes out.old ++ spec.spot_json text.now span) }

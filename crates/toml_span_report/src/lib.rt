@@ -1,5 +1,5 @@
-//! Makes reports of errors in TOML documents, or of a program's own findings. Formats reports as text, as one line, or
-//! as JSON.
+//! Makes reports of errors in TOML input, or of problems that a program finds itself. Formats reports as text, as one
+//! line, or as JSON.
 #![tactic(auto)]
 
 mod bytes;

@@ -162,9 +162,9 @@ fn joined(alloc: Global, drawn: &[Drawn], reports: &[Report]) -> Result<String, 
 /// line. The last line counts the reports, as in `3 errors, 1 warning`. `name` is the name of the file, `text` the
 /// source.
 ///
-/// Reports are sorted by the place that `render` prints. Reports at the same place keep their order, and a report
-/// without labels is sorted as if it were at the start. Without reports, the text is empty. Fails if an allocation
-/// fails.
+/// Reports are sorted by position: the line and column that `render` prints. Reports at the same position keep their
+/// order, and a report without labels is sorted as if it were at the start. Without reports, the text is empty. Fails
+/// if an allocation fails.
 pub fn render_all(
     alloc: Global,
     style: Style,

@@ -1,7 +1,7 @@
 //! Recognizes the typical mistake that probably caused an error.
 //!
-//! The functions of the submodules take byte offsets in `text`. Unless they say otherwise, `at` is the start of the
-//! error's span. A function that returns an `Option` returns `None` if it does not recognize a mistake.
+//! The functions of the submodules take byte offsets in `text`. Unless a docstring says otherwise, `at` is the start of
+//! the error's span. A function that returns an `Option` returns `None` if it does not recognize a mistake.
 ghost use Rattle.std.specs.Prelude.{◌≡◌, option_map};
 ghost use Rattle.toml_span_tree.specs.Error.{kind_of};
 ghost use Rattle.toml_span_report.specs.Finding.{finding_content};

@@ -17,7 +17,7 @@ pub(crate) fn place(text: &str, at: usize) -> usize
     text.floor_char_boundary(at)
 }
 
-/// Returns the length of the byte order mark at the start of the text, or 0 if there is none.
+/// Returns the length of the byte order mark at the start of the text, or 0 if the text has no mark.
 #[tactic(auto, using(crate::proofs::PlaceLemmas::mark_boundary), unfolding(crate::specs::Places::mark_end))]
 fn mark_end(text: &str) -> usize
     ensures value { result ≡ spec.mark_end text.now }
@@ -48,7 +48,7 @@ pub(crate) fn line_start(text: &str, at: usize) -> usize
     start
 }
 
-/// Returns the position of the first line feed in `bytes`, or the length of `bytes` if there is none.
+/// Returns the position of the first line feed in `bytes`, or the length of `bytes` if it has no line feed.
 fn line_feed(bytes: &[u8]) -> usize
     ensures value { result ≡ position_or_len spec.is_line_feed bytes.now }
     ensures within { result ≤ length bytes.now }
@@ -117,8 +117,8 @@ pub(crate) fn span_start(text: &str, span: Span) -> usize
 }
 
 /// Returns the end of a span, moved back to the nearest character boundary. If the span then ends with a line feed,
-/// returns the offset before the line feed. Returns `span_start` for a reversed span, and for an end in the byte order
-/// mark of the text.
+/// returns the offset of the line feed. Returns `span_start` for a reversed span, and for an end in the byte order mark
+/// of the text.
 #[tactic(auto, unfolding(crate::specs::Places::span_start, crate::specs::Places::span_end))]
 pub(crate) fn span_end(text: &str, span: Span) -> usize
     ensures value { result ≡ spec.span_end text.now span }

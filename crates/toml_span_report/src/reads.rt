@@ -30,8 +30,8 @@ fn push_warnings(
     Ok(())
 }
 
-/// Returns the reports of all warnings of a read and then, if the read failed, the reports of its errors. `render_all`
-/// formats them. `text` is the source. Fails if the read failed with `Stop::Memory`, or if an allocation fails.
+/// Returns the reports of all warnings of a read and then, if the read failed, the reports of its errors. `text` is the
+/// source. `render_all` formats the reports. Fails if the read failed with `Stop::Memory`, or if an allocation fails.
 pub fn reports_of<T>(
     alloc: Global,
     read: &Result<T, Stop<DeserError<'_>>>,

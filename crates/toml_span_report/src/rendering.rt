@@ -34,8 +34,8 @@ fn push_dots(out: &mut String, is_cut: bool) -> Result<(), AllocError>
     Ok(())
 }
 
-/// Appends `text` to `out` as `push_shown` prints it, but cuts `text` after 1,000 bytes, moved back to a character
-/// boundary, with `...` at the cut.
+/// Appends at most the first 1,000 bytes of `text` to `out`, as `push_shown` prints them. A longer text is cut at a
+/// character boundary, and `...` is appended.
 #[tactic(auto, unfolding(crate::specs::Rendering::shortened))]
 fn push_shortened(out: &mut String, text: &str) -> Result<(), AllocError>
     ensures { OnOk result (string_bytes out.new ≡ string_bytes out.old ++ spec.shortened text.now) }
@@ -45,7 +45,7 @@ fn push_shortened(out: &mut String, text: &str) -> Result<(), AllocError>
     push_dots(out, end < text.len())
 }
 
-/// Returns `text` as `shown` prints it, but cuts `text` as `push_shortened` does.
+/// Returns `text` as `push_shortened` prints it.
 fn shortened(alloc: Global, text: &str) -> Result<String, AllocError>
     ensures { IfOk result (λ out. string_bytes out ≡ spec.shortened text.now) }
 {
@@ -65,7 +65,7 @@ pub(crate) fn word(severity: Severity) -> &'static str
     }
 }
 
-/// Returns the color for the word of this severity, and for the marks of primary labels.
+/// Returns the color of the word `error`, `warning` or `note`, and of the marks of primary labels.
 fn ink_of(severity: Severity) -> Ink
     ensures { result ≡ spec.ink_of severity }
 {
@@ -277,7 +277,8 @@ fn push_strips(frame: Frame, out: &mut String, strips: &[Strip<'_>]) -> Result<(
     Ok(())
 }
 
-/// Returns the beginning of a report: its first line, and the line with its place. `name` is the name of the file.
+/// Returns the first two lines of a report: the headline, and the name of the file with the line and column
+/// (`push_place`). `name` is the name of the file.
 fn front(
     frame: Frame,
     report: &Report,
@@ -406,9 +407,9 @@ pub(crate) fn drawn(
 /// The text has:
 ///
 /// - a first line with the severity, the code and the message;
-/// - the place of the primary label that comes first in the source or, if no label is primary, of the label that comes
-///   first, as `name:line:column`. Line and column are counted from 1, the column in characters. A report without
-///   labels has only `name`;
+/// - a line with `name:line:column`, the start of the first primary label in the source or, if no label is primary, of
+///   the first label. Line and column are counted from 1, the column in characters. Without labels, the line has only
+///   `name`;
 /// - the source lines on which labels begin and end, in the order of the source. Marks are under them: `^` for a
 ///   primary label, `-` for a secondary label;
 /// - the notes and the help.
@@ -417,9 +418,9 @@ pub(crate) fn drawn(
 /// character boundary. A reversed span counts as empty, and an empty span has one mark.
 ///
 /// A tab is printed as four spaces, any other control character below U+0080 as its control picture (U+2400 to U+2421).
-/// Control characters above U+007F, U+2028 and U+2029, characters that change the direction of the text, and characters
-/// without width (U+200B, U+200D, U+FEFF) are printed as U+FFFD. Marks count a wide character as two columns
-/// (`unicode_width`). A byte order mark at the start of the source is not printed.
+/// The control characters U+0080 to U+009F, the line ends U+2028 and U+2029, the characters that change the direction
+/// of the text, and three characters without width (U+200B, U+200D, U+FEFF) are printed as U+FFFD. Marks count a wide
+/// character as two columns (`unicode_width`). A byte order mark at the start of the source is not printed.
 ///
 /// Only a part of a long line is printed. The part begins 80 bytes before the first label, and ends 160 bytes after the
 /// start of the last label that begins within 240 bytes of the first label. For labels further on, the line is printed
@@ -499,8 +500,8 @@ fn brief(
 /// Returns a report as one line, `name:line:column: code: message`, with a line feed at the end. Editors can read lines
 /// of this form. `name` is the name of the file, `text` the source.
 ///
-/// A warning or note has `warning: ` or `note: ` before the code. An empty code is left out. The place is the one that
-/// `render` prints. Without labels, line and column are left out. A name that begins with `::`, as workflow commands of
+/// A warning or note has `warning: ` or `note: ` before the code. An empty code is left out. Line and column are those
+/// that `render` prints. Without labels, they are left out. A name that begins with `::`, as workflow commands of
 /// GitHub do, or with white space and `::`, gets the prefix `./`. Fails if an allocation fails.
 pub fn render_line(
     alloc: Global,

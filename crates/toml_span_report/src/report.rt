@@ -1,4 +1,4 @@
-//! Reports: what a program has to say about a text, and where.
+//! Reports: errors, warnings and notes about a text, with labels, help and replacements.
 ghost use Rattle.std.specs.Prelude.{◌≡◌, IfOk, true, false};
 ghost use Rattle.toml_span_report.specs.Report as spec;
 ghost use Rattle.toml_span_report.specs.Report.{report_content};
@@ -30,7 +30,7 @@ pub struct Replacement {
     pub is_safe: bool,
 }
 
-/// A message about a text, with labels at places in the text. `from_error` makes a report from an error. A program can
+/// A message about a text, with labels at spans of the text. `from_error` makes a report from an error. A program can
 /// also build its own reports step by step:
 /// `Report::warning(alloc, "name-twice", "the name appears twice")?.primary(span, "here")?`.
 ///
@@ -53,7 +53,7 @@ pub struct Report {
 }
 
 impl Report {
-    /// Returns a report without labels, notes, help and replacements. Copies `code`, which may be empty, and `message`.
+    /// Returns a report without labels, notes, help or replacements. Copies `code`, which may be empty, and `message`.
     /// Fails if an allocation fails.
     pub fn new(
         alloc: Global,
@@ -74,7 +74,7 @@ impl Report {
         })
     }
 
-    /// Returns a report of the severity `Error`, without labels, notes, help and replacements. Copies `code`, which may
+    /// Returns a report of the severity `Error`, without labels, notes, help or replacements. Copies `code`, which may
     /// be empty, and `message`. Fails if an allocation fails.
     pub fn error(alloc: Global, code: &str, message: &str) -> Result<Report, AllocError>
         ensures { IfOk result (λ made. report_content made ≡ spec.bare Error code.now message.now) }
@@ -82,7 +82,7 @@ impl Report {
         Report::new(alloc, Severity::Error, code, message)
     }
 
-    /// Returns a report of the severity `Warning`, without labels, notes, help and replacements. Copies `code`, which
+    /// Returns a report of the severity `Warning`, without labels, notes, help or replacements. Copies `code`, which
     /// may be empty, and `message`. Fails if an allocation fails.
     pub fn warning(alloc: Global, code: &str, message: &str) -> Result<Report, AllocError>
         ensures { IfOk result (λ made. report_content made ≡ spec.bare Warning code.now message.now) }

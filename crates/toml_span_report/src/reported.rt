@@ -13,8 +13,8 @@ use std::fmt::{Display, Formatter, Write};
 use toml_span_lex::stop::Stop;
 use toml_span_typed::DeserError;
 
-/// The reports of a read's errors and warnings. Unlike a `DeserError`, a `Reported` does not borrow from the source, so
-/// a function that reads a file can return a `Reported` and drop the source.
+/// The reports of the errors and warnings of one read. Unlike a `DeserError`, a `Reported` does not borrow from the
+/// source, so a function that reads a file can return a `Reported` and drop the source.
 #[derive(Debug, Drop)]
 pub struct Reported {
     /// The reports of the warnings, and then the reports of the errors.
@@ -24,8 +24,9 @@ pub struct Reported {
 }
 
 impl Reported {
-    /// Returns the reports of all errors in `stop`, the error of `from_str`, and their text. `name` is the name of the
-    /// file, `text` the source. Fails if `stop` is `Stop::Memory`, or if an allocation fails.
+    /// Returns a report of each error in `stop`, the error that `from_str` returned, and the text of these reports.
+    /// `name` is the name of the file, and `text` its source. Fails if `stop` is `Stop::Memory`, or if an allocation
+    /// fails.
     pub fn of(
         alloc: Global,
         style: Style,

@@ -17,7 +17,7 @@ pub(crate) struct Open {
     pub(crate) string: usize,
     /// Whether the latest string has three quotes on each side.
     pub(crate) is_long: bool,
-    /// The number of bytes at the current offset that are the rest of quotes or of an escape.
+    /// The number of bytes, from the offset on, that complete `"""`, `'''` or the first two bytes of an escape.
     pub(crate) skip: usize,
 }
 
@@ -110,8 +110,8 @@ pub(crate) fn open_before(text: &str, at: usize) -> Open
     state
 }
 
-/// Returns whether the outermost open bracket of `state` begins a table header: it is at the `first_of_line`. Returns
-/// `false` if no bracket is open.
+/// Returns whether the outermost open bracket of `state` begins a table header: it is the first non-blank byte of its
+/// line. Returns `false` if no bracket is open.
 pub(crate) fn is_in_header(text: &str, state: Open) -> bool
     ensures { result ≡ spec.is_in_header text.now state }
 {

@@ -36,7 +36,7 @@ pub(crate) struct Strip<'a> {
     pub(crate) after: &'a str,
     pub(crate) is_cut_after: bool,
     pub(crate) is_primary: bool,
-    /// The message of the label, which may be empty.
+    /// The message of the label, which may be empty. If the label ends on another line, only its last strip has it.
     pub(crate) message: &'a str,
 }
 
@@ -141,15 +141,14 @@ pub(crate) fn all_strips<'a, F>(
 }
 
 /// Returns whether `window` shows `strip`: the strip is on the line of the window, and begins at most 240 bytes after
-/// the first strip in the window.
+/// `window.first`.
 pub(crate) fn is_near(window: Window, strip: &Strip<'_>) -> bool
     ensures { result ≡ spec.is_near window (marked_line_of strip.now) }
 {
     strip.number == window.number && strip.at.saturating_sub(window.first) <= 240
 }
 
-/// Returns `window`, widened to show the strips at the beginning of `strips`, up to the first strip that is not near
-/// (`is_near`).
+/// Returns `window`, widened to show those of `strips` that come before the first one that is not near (`is_near`).
 fn window_from(window: Window, strips: &[Strip<'_>]) -> Window
     ensures { result ≡ spec.window_from window (map marked_line_of strips.now) }
 {
@@ -163,8 +162,8 @@ fn window_from(window: Window, strips: &[Strip<'_>]) -> Window
     wide
 }
 
-/// Returns `above` if that window shows `strip`, otherwise a new window. `strips` are the strips after `strip`. A new
-/// window also shows `strips`, up to the first one that is not near (`is_near`).
+/// Returns `above` if that window shows `strip` (`is_near`). Otherwise returns a new window. It shows `strip` and, of
+/// the `strips` after it, those before the first one that is not near.
 pub(crate) fn window_of(above: Option<Window>, strip: &Strip<'_>, strips: &[Strip<'_>]) -> Window
     ensures { result ≡ spec.window_of above (marked_line_of strip.now) (map marked_line_of strips.now) }
 {

@@ -2,7 +2,7 @@
 ghost use Rattle.std.specs.Prelude.{◌≡◌, map, option_map};
 ghost use Rattle.toml_span_report.specs.Tables as spec;
 
-/// Returns the text after `key` in the first entry of `table` with this key, or `None` if there is none.
+/// Returns the second text of the first entry of `table` whose first text is `key`, or `None` if no entry has this key.
 #[tactic(auto, unfolding(crate::specs::Tables::text_in))]
 pub(crate) fn text_in<'p>(table: &[(&'p str, &'p str)], key: &str) -> Option<&'p str>
     ensures { option_map (λ text. text.now) result

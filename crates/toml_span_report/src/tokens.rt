@@ -58,8 +58,8 @@ fn names_token(found: &str) -> bool
         || found.starts_with(b"whitespace")
 }
 
-/// Returns whether the span of an error says only where the unexpected token begins. `kind` and `span` are those of the
-/// error.
+/// Returns whether an error of `kind` at `span` locates only the start of the unexpected token. The end of `span` may
+/// then differ from the end of the token.
 fn is_at_token(kind: &ErrorKind<'_>, span: Span) -> bool
     ensures { result ≡ spec.is_at_token (kind_of kind.now) span }
 {
@@ -72,8 +72,9 @@ fn is_at_token(kind: &ErrorKind<'_>, span: Span) -> bool
     }
 }
 
-/// Returns the span to mark for a table at `span` that lacks a key: only the header's line if the table begins with a
-/// header, otherwise `span`. If `span` is the whole text, as for the root, the mark is empty, at its start.
+/// Returns the span to mark for the table at `span`, which lacks a key: the line of its header if the table begins with
+/// a header, otherwise `span`. If `span` is the whole text, as for the root, the mark is empty, at the start of the
+/// text.
 #[tactic(auto, unfolding(crate::specs::Tokens::table_mark))]
 fn table_mark(text: &str, span: Span) -> Span
     ensures { result ≡ spec.table_mark text.now span }
@@ -93,8 +94,8 @@ fn table_mark(text: &str, span: Span) -> Span
     }
 }
 
-/// Returns the span to mark for an error at `span`: the token that begins there if `is_at_token`, the `table_mark` for
-/// `MissingField`, otherwise `span`.
+/// Returns the span to mark for an error of `kind` at `span`. If `is_at_token`, this is the token that begins there, up
+/// to the end of its first line. For `MissingField` it is the `table_mark`, otherwise `span`.
 pub(crate) fn marked_span(
     alloc: Global,
     kind: &ErrorKind<'_>,

@@ -71,7 +71,7 @@ pub fn visible(alloc: Global, text: &str) -> Result<String, AllocError>
     Ok(out)
 }
 
-/// Appends `c` to `out`, as `push_char` does, but a line feed without an escape.
+/// Appends `c` to `out` as `push_char` does, but does not escape a line feed.
 fn push_line_char(out: &mut String, c: char) -> Result<(), AllocError>
     ensures { OnOk result (string_bytes out.new ≡ string_bytes out.old ++ spec.line_char c) }
 {

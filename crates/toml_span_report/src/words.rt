@@ -17,9 +17,9 @@ pub(crate) type Mistake = (
 pub(crate) struct Words {
     /// The headline. If it is empty, the report keeps the message of the error.
     pub(crate) headline: &'static str,
-    /// The primary label.
+    /// The message of the primary label, unless `Finding::label` has one.
     pub(crate) label: &'static str,
-    /// The label at the second place (`Finding::also`).
+    /// The message of the secondary label, which marks `Finding::also`. If it is empty, the report has no such label.
     pub(crate) also: &'static str,
     /// The help, up to the code to write.
     pub(crate) help: &'static str,

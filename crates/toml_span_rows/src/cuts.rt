@@ -1,5 +1,5 @@
-//! `cuts`: parses a text cut before each character. Each result must be a tree, or an error that begins in the cut
-//! text or at its end.
+//! `cuts`: for each character of a text, parses the text before it. Each result must be a tree, or an error that begins
+//! in this part of the text or at its end.
 use crate::told::Out;
 use std::alloc::Global;
 use toml_span::{line_and_byte, parse};

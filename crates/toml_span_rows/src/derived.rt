@@ -1,8 +1,8 @@
 //! Reads of types that derive `Deserialize`.
 //!
 //! - `settings`, `device`, `tagged` and `attributes` read the document as the struct of that name. `limits` reads the
-//!   document's tree as a map from names to numbers. They print the value, or the code, span, path and reason of the
-//!   error.
+//!   document's tree as a map from names to numbers. They print the value, or the code, span, line, column and message
+//!   of the error.
 //! - `shown` prints the settings, or the error with its source lines.
 //!
 //! If an allocation fails, `settings`, `device`, `tagged` and `attributes` read the document once more.

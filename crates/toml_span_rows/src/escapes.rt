@@ -1,6 +1,6 @@
 //! Decodes the texts of rows, in which a backslash begins an escape.
 //!
-//! Escapes are `\n` `\r` `\t` `\\`, `\u{HEX}` for the character with this number, and `\{N PART\}` for N copies of
+//! Escapes are `\n` `\r` `\t` `\\`, `\u{HEX}` for the character with this code point, and `\{N PART\}` for N copies of
 //! PART, which may contain the other escapes.
 use std::alloc::{AllocError, Global};
 

@@ -1,6 +1,7 @@
 //! The texts of errors.
 //!
-//! - `diagnostic KIND`: an error of a kind that typed reads cause, at 4..6 in line 2, with the names in the text.
+//! - `diagnostic KIND`: an error of a kind that typed reads cause, at 4..6, line 2 and column 3, with the names in the
+//!   text.
 //! - `diagnostics` of a text or of a typed read: the message of the error, and the diagnostic.
 //! - `copied` of a text or of a typed read: clones of the error's kind and of the error, and the diagnostic, each made
 //!   twice, and then the error.

@@ -1,14 +1,15 @@
 //! Calls public functions as rows say, and prints the answers.
 //!
-//! Each line of standard input is a row: `CALL WORDS: TEXT`. The program prints each line and, after a row, the answer,
-//! indented by four spaces. Empty lines and lines that begin with `#` are titles. If a row can't be read, the answer is
-//! `no such row`, and the status is 1.
+//! Each line of standard input is a row, `CALL WORDS: TEXT`, unless it is empty or begins with `#`. The program prints
+//! each line and, after a row, the answer, indented by four spaces. If a row can't be read, the answer is `no such
+//! row`, and the exit status is 1. Calls are described in the modules that answer them, and here:
 //!
-//! - `cuts`: see `cuts`. `span_at POINTER`, `port_of`, `describe_port`: the results of these functions in `uses`.
+//! - `cuts`: see the module `cuts`. `span_at POINTER`, `port_of`, `describe_port`: the results of these functions in
+//!   `uses`.
 //! - `holders`: the document, read as the `Holders` of `typed::structs`. `warned TYPE`: see `typed::warned`.
-//! - `span START END`: whether a span is empty, its conversions, and where it starts in a text.
-//! - `copies START END`: clones of a key whose name is the text, and of the text, both with this span, each made twice.
-//! - `load_file NAME`: the value read from that file in `data`. This is the only row that needs files.
+//! - `span START END`: whether this span is empty, the span as a pair and as a range, and where it starts in the text.
+//! - `copies START END`: two clones of a key whose name is the text, and two clones of the text, all with this span.
+//! - `load_file NAME`: see `typed::owned`. This is the only row that needs files.
 #![tactic(auto)]
 
 mod cuts;

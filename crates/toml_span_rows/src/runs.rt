@@ -10,7 +10,7 @@
 //! | `read=N`, `write=N` | the maximum number of bytes per read or write |
 //! | `fail_read=K`, `fail_write=K` | which call fails, counted from 1 |
 //! | `take_nothing=K` | which write accepts no bytes |
-//! | `again=each` | the text begins again at its end; prints one line |
+//! | `again=each` | the reader begins the text again at its end, so that the input is endless |
 ghost use Rattle.std.specs.Prelude.{◌≤◌};
 
 use crate::Row;

@@ -1,7 +1,7 @@
 //! Calls on the sections of a text. If the text can't be read, they print its error.
 //!
-//! - `read LIMIT`: the sections, one per line. Keys, values, headers and sections have their spans after `@`,
-//!   assignments their extents.
+//! - `read LIMIT`: the sections, one per line. After each key, value and header there is `@` and its span, and after
+//!   each section and assignment `@` and its extent.
 //! - `key_places`, `insertion_point` and `table_forms`: see `places`.
 use crate::told::Out;
 use crate::trees::limit_of;

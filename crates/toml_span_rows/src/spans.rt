@@ -1,4 +1,4 @@
-//! Spans, and clones of keys and of spanned texts.
+//! The calls `span` and `copies`: spans, and clones of keys and of spanned texts.
 use crate::Row;
 use crate::told::Out;
 use std::alloc::Global;

@@ -16,8 +16,8 @@ use toml_span::tokens::{Error, Token, Tokenizer};
 use toml_span::value::Key;
 use toml_span::{Span, Stop};
 
-/// Returns the token that a word names, or `None` for any other word. The content of a string is its text with the
-/// quotes, `=`, and its value.
+/// Returns the token that a word names, or `None` for any other word. For a string, the content is the literal with its
+/// quotes, `=`, and the value.
 fn token_of(named: &str) -> Option<Token<'_>> {
     let (kind, content) = match named.split_once('(') {
         Some((kind, content)) => (kind, content.strip_suffix(')')?),

@@ -67,7 +67,7 @@ fn push_call<'t>(alloc: Global, row: Row<'t>, root: &mut Value<'t>, out: &mut Ou
     true
 }
 
-/// Prints the error of a text, in the form for this call.
+/// Prints the error of a text, as the answer to `call`.
 fn push_refused(alloc: Global, call: &str, fault: &Error<'_>, out: &mut Out) {
     match call {
         "diagnostics" => push_twice(alloc, fault, out),
@@ -76,8 +76,8 @@ fn push_refused(alloc: Global, call: &str, fault: &Error<'_>, out: &mut Out) {
     }
 }
 
-/// Prints the answer to a row: for any call, the error of a text that is not valid TOML. Returns `false` if the limit
-/// is wrong or, for a valid text, if this module has no such call or another word is wrong.
+/// Prints the answer to a row. If the text is not valid TOML, this is its error, for any call. Returns `false` if the
+/// limit is wrong or, for a valid text, if this module has no such call or another word is wrong.
 pub fn answer(alloc: Global, row: Row<'_>, out: &mut Out) -> bool {
     let Some(limit) = limit_of(row) else {
         return false;

@@ -1,11 +1,11 @@
 //! Typed reads. After the result of a call, the lines of the tree are printed as the call leaves it.
 //!
 //! - `typed TYPE` reads the value at `/a`, `typed_root TYPE` the root: the value, or the errors.
-//! - `errors TYPE` reads the value at `/a`, and prints the result of each method of the `DeserError`.
-//!   `diagnostics TYPE` and `copied TYPE`: see `faults`, for the last error.
+//! - `errors TYPE` reads the value at `/a`, and prints the result of each method of the `DeserError`. `diagnostics
+//!   TYPE` and `copied TYPE` print the last of these errors (see `faults`).
 //! - `merge TYPE TYPE` reads `/a` and `/b`, and appends the errors of the second to those of the first.
-//! - `parse_string TYPE` parses the string at `/a`. `open` makes a helper for the value at `/a`.
-//! - `fields CALL ..` makes a helper for the root, and makes each call on it.
+//! - `parse_string TYPE` parses the string at `/a`. `open` makes a `TableHelper` for the value at `/a`.
+//! - `fields CALL ..` makes a `TableHelper` for the root, and makes each call on it (see `fields`).
 mod fields;
 mod odd;
 pub mod owned;

@@ -37,7 +37,7 @@ abbrev pub is_whole_float : FloatValue → Bool
 is_whole_float (finite t) = is_whole (decimal_of t)
 is_whole_float _ = false
 
--- `type`: the instance is of one of the types. An integer of TOML is a number, a date or time is a string.
+-- `type`: the instance is of one of the types. TOML integers are numbers, and dates and times are strings.
 abbrev pub has_type : Types → Inner → Bool
 has_type types taken = false
 has_type types (scalar (text t)) = types.string

@@ -34,7 +34,8 @@ quantity (Finite d) = exact (plain d)
 quantity (Infinite negative) = endless negative
 quantity NotANumber = no_number
 
--- 2^65 plus an exponent or, if the `Bool` says that it is negative, minus it; an exponent above 10^15 counts as 10^15
+-- 2^65 plus the exponent with these digits or, if `negative` is true, 2^65 minus the exponent; an exponent above 10^15
+-- counts as 10^15
 abbrev pub raised : List ℕ → Bool → ℕ
 raised digits negative =
     if negative then 36893488147419103232 - min (digits_value 10 digits) 1000000000000000
@@ -99,17 +100,17 @@ compare_quantity (endless true) limit = Some Less
 compare_quantity (endless false) limit = Some Greater
 compare_quantity no_number limit = None
 
--- the value of a number followed by these digits
+-- the number n with these digits appended
 abbrev pub value_after : ℕ → List ℕ → ℕ
 value_after n [] = n
 value_after n (d ∷ ds) = value_after (n * 10 + (d - 48)) ds
 
--- the power of ten that the last digit counts, as an exponent plus 2^66
+-- the exponent of the last digit's power of ten, plus 2^66
 abbrev pub exponent : Plain → ℕ
 exponent p = p.point + 36893488147419103232 - length p.digits
 
--- Whether a number is a multiple of `size` times a power of ten, whose exponent plus 2^66 is `power`. Since the last
--- digit of the number is not 0, it is not a multiple if its last digit has a lower power of ten.
+-- Whether a number is a multiple of `size` times a power of ten, whose exponent plus 2^66 is `power`. The last digit of
+-- the number is not 0. So the number is not a multiple if the power of ten of its last digit is lower.
 abbrev pub is_multiple : Plain → ℕ → ℕ → Bool
 is_multiple p size power =
     is_zero p || (nat_le power (exponent p) && (value_after 0 p.digits * 10 ^ (exponent p - power)) % size == 0)

@@ -21,7 +21,7 @@ abbrev pub value_of : Part → Node
 value_of (entry name span n) = n
 value_of (element i n) = n
 
--- elements of an array, where the first one has this position
+-- the elements of an array, numbered from i
 abbrev pub elements_from : ℕ → Items → List Part
 elements_from i no_items = []
 elements_from i (item n ns) = element i n ∷ elements_from (i + 1) ns
@@ -35,7 +35,7 @@ parts_in (array ns) = elements_from 0 ns
 parts_in (table ms) = entries_of ms
 parts_in _ = []
 
--- the elements of an array in order, the entries of a table in the order of their names
+-- the elements of an array in order, or the entries of a table in the order of their names
 abbrev pub parts_of : Node → List Part
 parts_of n = parts_in (inner_of n)
 

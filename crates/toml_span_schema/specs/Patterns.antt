@@ -39,6 +39,6 @@ translated_from escaped in_class (c ∷ cs) =
 abbrev pub translated : List ℕ → List ℕ
 translated text = translated_from false false (chars text)
 
--- whether a text is a regular expression
+-- whether a text is a regular expression, that is, whether its translation can be read
 abbrev pub is_pattern : List ℕ → Bool
 is_pattern text = is_some (read default_config (chars (translated text)))

@@ -95,7 +95,7 @@ parts_allow s j k ps = every (λ p. every (λ m. j.valid m (value_of p)) (schema
 abbrev pub unevaluated_allow : Judge → Bool → ℕ × ℕ → Node → Verdict
 unevaluated_allow j entries nodes n = every (λ p. allows_part j entries nodes n p) (parts_of n)
 
--- Whether a keyword allows a value. The keyword applies a subschema to values inside the value, or to its keys.
+-- Whether a keyword allows a value. The keyword must apply no subschema to the value itself.
 unfoldable pub allows_inside : Schema → Judge → Keyword → Node → Verdict
 -- each key of the table, as a string, is valid
 allows_inside s j (keyword.PropertyNames k) n = every (λ name. j.valid k name) (names_of n)

@@ -54,8 +54,8 @@ fn push_matching(
 }
 
 /// Returns the subschemas for the entry `name`: that of `name` in `named` (`properties`), and those in `matching`
-/// (`patternProperties`) whose regular expressions match. If there are none, returns `rest` (`additionalProperties`)
-/// or, without `rest`, an empty list.
+/// (`patternProperties`) whose regular expressions match. If neither has one for `name`, returns `rest`
+/// (`additionalProperties`) or, without `rest`, an empty list.
 fn for_entry(
     alloc: Global,
     schema: &Schema,

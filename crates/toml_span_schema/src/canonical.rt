@@ -56,7 +56,7 @@ fn push_number(out: &mut String, number: &Number) -> Result<(), AllocError>
 }
 
 /// Appends the canonical text of a value. Fails with `TooDeep` if the value nests `depth` or more levels deep or
-/// contains a taken value. Then `out` may have a part of the text.
+/// contains a taken value. After a failure, `out` may contain a part of the text.
 #[cycle(canonical)]
 fn push_canonical(out: &mut String, depth: usize, value: &Value<'_>) -> Result<(), CheckError>
     ensures { OnOk result (string_bytes out.new ≡ string_bytes out.old ++ canonical (view value.now)) }

@@ -1,5 +1,6 @@
 //! Compiles a schema, and the schemas that it reaches by references and keywords. In this module, a *place* is a JSON
-//! pointer (`pointer`) in a document (`source`, its position). A *scope* is the position of a set of dynamic anchors.
+//! pointer (`pointer`) in the document at the position `source` of `Sources::documents`. A *scope* is the position of a
+//! set of dynamic anchors in `Compiler::scopes`.
 
 use crate::canonical::LEVELS;
 use crate::cycles::longest_chain;
@@ -41,7 +42,7 @@ pub(crate) struct Site<'v, 'a> {
     pub(crate) value: &'v Json<'a>,
     pub(crate) source: usize,
     pub(crate) pointer: String,
-    /// The position of the set of dynamic anchors that are bound here.
+    /// The position in `Compiler::scopes` of the set of dynamic anchors that are bound in this schema.
     pub(crate) scope: usize,
     pub(crate) dialect: Dialect,
     /// Whether to leave out `unevaluatedItems` and `unevaluatedProperties`.
@@ -66,8 +67,8 @@ pub(crate) struct Compiler<'v, 'a> {
     /// The task at index `i` is for the compiled schema at index `i`.
     tasks: Vec<Task<'v, 'a>>,
     known: BTreeMap<String, usize>,
-    /// Sets of dynamic anchors, each with the positions of the anchors. If a name is bound several times, the set has
-    /// the anchor that was bound first.
+    /// Sets of dynamic anchors, each as a list of positions in `Sources::anchors`. If a name is bound several times,
+    /// the set has the anchor that was bound first.
     scopes: Vec<Vec<usize>>,
     pub(crate) patterns: Vec<Regex>,
     /// The positions in `patterns` of the regular expressions of formats.
@@ -101,7 +102,8 @@ fn not_json(alloc: Global, address: &str) -> Result<SchemaError, AllocError> {
     })
 }
 
-/// Appends the text of a document. Fails with `Json` if the text is not JSON or nests more than 128 levels deep.
+/// Appends the text of a document to `out`. Fails with `Json` if the text is not JSON or nests more than 128 levels
+/// deep.
 fn push_document(
     alloc: Global,
     out: &mut String,
@@ -295,9 +297,9 @@ impl<'v, 'a> Compiler<'v, 'a> {
         self.sources.resources.get(at)
     }
 
-    /// Returns the index of the compiled form of the schema `value` at a place, and adds a task for a new schema.
-    /// `outer` is the scope in which the place is reached. `beside` is as in `Site`. Fails with `TooLarge` if `work`
-    /// exceeds `MOST_WORK`.
+    /// Returns the index of the compiled form of the schema `value` at a place. Adds a task for the schema, unless it
+    /// already has one. `outer` is the scope in which the place is reached. `beside` is as in `Site`. Fails with
+    /// `TooLarge` if `work` exceeds `MOST_WORK`.
     fn node(
         &mut self,
         value: &'v Json<'a>,
@@ -397,7 +399,7 @@ impl<'v, 'a> Compiler<'v, 'a> {
         Ok(all)
     }
 
-    /// Returns the first position in `anchors` whose anchor has this name, or `None` if there is none.
+    /// Returns the first of the positions `anchors` whose anchor has this name, or `None` if no anchor has it.
     fn bound(&self, anchors: &[usize], name: &str) -> Option<usize> {
         for at in anchors {
             if let Some(anchor) = self.sources.anchors.get(*at) {
@@ -545,9 +547,10 @@ impl<'v, 'a> Compiler<'v, 'a> {
         }
     }
 
-    /// Resolves `text`, the value of a `$dynamicRef` or `$recursiveRef` in the schema `site`. Returns the index of the
-    /// compiled schema. If `text` names a dynamic anchor, and the scope of `site` binds an anchor of the same name,
-    /// that is the schema of the bound anchor, otherwise the schema that `text` names. Fails like `reference`.
+    /// Resolves `text`, the value of a `$dynamicRef` or `$recursiveRef` in the schema `site`, and returns the index of
+    /// the compiled schema. If `text` names a dynamic anchor, and the scope of `site` has an anchor with the same name,
+    /// the result is the schema of that anchor. Otherwise, the result is the schema that `text` names. Fails like
+    /// `reference`.
     pub(crate) fn dynamic_reference(
         &mut self,
         site: &Site<'v, 'a>,

@@ -4,7 +4,7 @@ use crate::error::SchemaError;
 use crate::keyword::{Keyword, Node};
 use std::alloc::{AllocError, Global};
 
-/// Appends the subschemas that a keyword applies to the value itself, not to values inside it.
+/// Appends the indices of the subschemas that a keyword applies to the checked value itself, not to values inside it.
 fn push_in_place(list: &mut Vec<usize>, keyword: &Keyword) -> Result<(), AllocError> {
     match keyword {
         Keyword::AllOf(nodes) | Keyword::AnyOf(nodes) | Keyword::OneOf(nodes) => {
@@ -29,7 +29,7 @@ fn push_in_place(list: &mut Vec<usize>, keyword: &Keyword) -> Result<(), AllocEr
     Ok(())
 }
 
-/// Appends a subschema, if there is one.
+/// Appends the index of a subschema, unless `node` is `None`.
 fn push_optional(list: &mut Vec<usize>, node: Option<usize>) -> Result<(), AllocError> {
     if let Some(node) = node {
         list.push(node)?;
@@ -37,7 +37,7 @@ fn push_optional(list: &mut Vec<usize>, node: Option<usize>) -> Result<(), Alloc
     Ok(())
 }
 
-/// Returns the subschemas that the schema `node` applies to the value itself, not to values inside it.
+/// Returns the indices of the subschemas that `node` applies to the checked value itself, not to values inside it.
 fn in_place(alloc: Global, node: &Node) -> Result<Vec<usize>, AllocError> {
     let mut list = Vec::new(alloc);
     for placed in node.keywords.as_slice() {
@@ -50,7 +50,7 @@ fn in_place(alloc: Global, node: &Node) -> Result<Vec<usize>, AllocError> {
 /// same value.
 #[derive(Drop)]
 struct Chain {
-    /// The number of subschemas that this schema applies to the same value and that have no known longest chain yet.
+    /// The number of subschemas that this schema applies to the same value and whose longest chains are not known yet.
     open: usize,
     /// The length of the longest chain that begins at this schema, as far as it is known.
     length: usize,
@@ -113,8 +113,8 @@ fn settle(
     Ok(length)
 }
 
-/// Returns the length of the longest chain: the number of its schemas minus 1. Fails with `Cycle` if a chain has the
-/// same schema twice.
+/// Returns the length of the longest chain of the schemas `nodes`: the number of schemas in the chain minus 1. Fails
+/// with `Cycle` if a chain has the same schema twice.
 pub(crate) fn longest_chain(alloc: Global, nodes: &[Node]) -> Result<usize, SchemaError> {
     let mut chains = chains_of(alloc, nodes)?;
     let mut known = Vec::new(alloc);

@@ -24,8 +24,8 @@ const RAISED: u128 = 36_893_488_147_419_103_232;
 /// The maximum number of zeros that `is_multiple_of` appends to a number for the division.
 const MOST_ZEROS: u128 = 100_000;
 
-/// Returns 2^65 plus an exponent or, if `negative` is set, minus the exponent. `digits` are the ASCII digits of the
-/// exponent, none for 0. An exponent above `LARGEST` counts as `LARGEST`.
+/// Returns 2^65 plus the exponent with these ASCII digits or, if `negative` is set, 2^65 minus the exponent. Without
+/// digits, the exponent is 0. An exponent above `LARGEST` counts as `LARGEST`.
 fn raised(digits: &[u8], negative: bool) -> u128
     requires { AllDigits 10 digits.now }
     ensures { result ≡ raised digits.now negative }
@@ -58,7 +58,7 @@ fn leading_zeros(digits: &[u8]) -> usize
     digits.len()
 }
 
-/// Returns the number of `digits`, which are ASCII digits, without the zeros at the end.
+/// Returns the length of `digits`, which are ASCII digits, without the zeros at the end.
 fn without_zeros(digits: &[u8]) -> usize
     ensures value { result ≡ significant digits.now }
     ensures within { result ≤ length digits.now }

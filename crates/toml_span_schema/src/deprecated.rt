@@ -1,4 +1,4 @@
-//! Warnings of deprecated values.
+//! Warnings about deprecated values.
 
 use crate::applied::{has_key, schemas_for};
 use crate::error::CheckError;
@@ -163,7 +163,7 @@ impl Schema {
         Ok(())
     }
 
-    /// Returns whether the schema at index `node` has `deprecated: true`. Returns false if `node` is out of range.
+    /// Returns `deprecated` of the compiled schema at index `node`, or false if `node` is out of range.
     fn is_deprecated(&self, node: usize) -> bool {
         match self.nodes.get(node) {
             Some(node) => node.deprecated,

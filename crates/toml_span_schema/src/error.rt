@@ -27,8 +27,8 @@ pub enum SchemaError {
     Reference {
         place: String,
     },
-    /// A reference in the schema at `place` names a document that was not given, or a place or an anchor that does not
-    /// exist in its document. For a `$schema` that names no known draft or document, `place` is always `/$schema`.
+    /// A reference in the schema at `place` names a document that was not given, or a place or an anchor that the named
+    /// document does not have. For a `$schema` that names no known draft or document, `place` is always `/$schema`.
     Missing {
         place: String,
         address: String,
@@ -37,7 +37,8 @@ pub enum SchemaError {
     Cycle {
         place: String,
     },
-    /// The schema nests too deep, contains too many schemas, or takes too many steps to compile.
+    /// The schema nests too deep, contains too many schemas, or takes too many steps to compile. Or a chain of
+    /// references and combinations, such as `allOf`, that apply to the same value is too long.
     TooLarge,
 }
 

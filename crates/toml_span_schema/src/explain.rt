@@ -13,7 +13,7 @@ use toml_span_lex::span::Span;
 use toml_span_report::{Report, nearest};
 use toml_span_tree::Value;
 
-/// The maximum number of reports of one alternative that are shown.
+/// The maximum number of reports that are shown for the best alternative. If it has more, one report replaces them.
 const MOST_SHOWN: usize = 100;
 
 impl Schema {
@@ -40,9 +40,9 @@ impl Schema {
         Ok(())
     }
 
-    /// Appends the reports on a value that the keyword `placed` of the schema at index `node` does not allow. These are
-    /// the reports of the keyword's subschemas and on missing keys or, if there are none, one report on the value.
-    /// Fails like `is_valid`.
+    /// Appends the reports on a value that the keyword `placed` of the schema at index `node` does not allow. Appends
+    /// the reports of the keyword's subschemas and the reports on missing keys or, if this appends nothing, one report
+    /// on the value. Fails like `is_valid`.
     #[cycle(explain)]
     fn explain_keyword(
         &self,
@@ -194,8 +194,9 @@ impl Schema {
     }
 
     /// Appends the reports of the alternative with the least `distance` among the schemas at the indices `nodes`, each
-    /// with a note on the keyword `placed`. Appends one report on the value instead if it is valid against one of them,
-    /// if `nodes` is empty, or if the chosen alternative has more than `MOST_SHOWN` reports. Fails like `is_valid`.
+    /// with a note on the keyword `placed`. Appends one report on the value instead if the value is valid against one
+    /// of the schemas, if `nodes` is empty, or if the chosen alternative has more than `MOST_SHOWN` reports. Fails like
+    /// `is_valid`.
     #[cycle(explain)]
     fn explain_best(
         &self,
@@ -284,7 +285,8 @@ impl Schema {
     }
 
     /// Returns the report that the keyword `placed` of the schema at index `node` does not allow a value. The report
-    /// marks `span`.
+    /// marks `span`. For `enum` and `const`, it suggests the allowed string that is most similar to a string value, if
+    /// one is similar enough.
     fn report(
         &self,
         alloc: Global,

@@ -55,7 +55,7 @@ const HOSTNAME: &str =
     "^(?:[0-9A-Za-z](?:[0-9A-Za-z-]{0,61}[0-9A-Za-z])?(?:\\.[0-9A-Za-z](?:[0-9A-Za-z-]{0,61}[0-9A-Za-z])?\
     )*)$";
 
-/// An IPv4 address as RFC 2673 writes it.
+/// An IPv4 address of RFC 2673.
 const IPV4: &str =
     "^(?:(?:(?:25[0-5]|2[0-4][0-9]|1[0-9]{2}|[1-9]?[0-9])\\.){3}(?:25[0-5]|2[0-4][0-9]|1[0-9]{2}|[1-9]?[0\
     -9]))$";
@@ -131,10 +131,10 @@ const URI_REFERENCE: &str =
 const UUID: &str =
     "^(?:[0-9A-Fa-f]{8}-[0-9A-Fa-f]{4}-[0-9A-Fa-f]{4}-[0-9A-Fa-f]{4}-[0-9A-Fa-f]{12})$";
 
-/// A pointer of RFC 6901.
+/// A JSON pointer of RFC 6901.
 const JSON_POINTER: &str = "^(?:(?:/(?:[^~/]|~[01])*)*)$";
 
-/// Returns the format of the strings that a regular expression matches, without other conditions.
+/// Returns the format of all strings that `pattern` matches.
 fn plain(pattern: &'static str) -> Format {
     Format {
         pattern,

@@ -13,13 +13,13 @@ pub(crate) struct Types {
     pub(crate) string: bool,
     /// Any number.
     pub(crate) number: bool,
-    /// An integer of TOML.
+    /// A TOML integer.
     pub(crate) integer: bool,
     /// A float without a fraction, such as `1.0`, which is an integer from draft 6 on.
     pub(crate) whole: bool,
 }
 
-/// A compiled keyword. Each subschema is its index in `Schema::nodes`, and each regular expression its index in
+/// A compiled keyword. Subschemas are indices in `Schema::nodes`, and regular expressions are indices in
 /// `Schema::patterns`.
 #[derive(Drop)]
 pub(crate) enum Keyword {
@@ -27,7 +27,7 @@ pub(crate) enum Keyword {
     Never,
     Type(Types),
     /// The values of `enum` or `const` as canonical texts (see `canonical`), without values that are or contain `null`.
-    /// The list has the strings among them, for suggestions.
+    /// The second field has the strings among these values, for suggestions.
     Enum(BTreeSet<String>, Vec<String>),
     Minimum(Decimal),
     ExclusiveMinimum(Decimal),
@@ -69,8 +69,8 @@ pub(crate) enum Keyword {
     /// `additionalProperties`.
     Properties(BTreeMap<String, usize>, Vec<(usize, usize)>, Option<usize>),
     PropertyNames(usize),
-    /// The compiled form of the other keywords in the same schema, and the subschema. `UnevaluatedProperties` has the
-    /// same two fields.
+    /// The compiled form of the other keywords in the same schema, and the subschema of this keyword.
+    /// `UnevaluatedProperties` has the same two fields.
     UnevaluatedItems(usize, usize),
     UnevaluatedProperties(usize, usize),
 }
@@ -92,6 +92,7 @@ pub(crate) struct Node {
     pub(crate) place: String,
     /// The schema's `title` or, if it has none, its `description`.
     pub(crate) title: Option<String>,
-    /// Whether the schema says `deprecated: true`.
+    /// Whether the schema says `deprecated: true`. Always false for the compiled form of a schema without
+    /// `unevaluatedItems` and `unevaluatedProperties`, since the full form of the schema has the flag.
     pub(crate) deprecated: bool,
 }

@@ -2,16 +2,17 @@
 //!
 //! - `Schema::from_json(alloc, text, others)` compiles a schema of draft 4, 6, 7, 2019-09 or 2020-12. `others` is a
 //!   slice of `Document`s (`address`, `text`) that references in the schema may name. Fails with a `SchemaError`, whose
-//!   `message(alloc)` says why, for instance with the address of a document that is missing.
+//!   `message(alloc)` says why. For a missing document, the message has the document's address.
 //! - `schema.set_formats(false)` turns the keyword `format` off.
-//! - `schema.check(alloc, &value)` returns a `Vec<Report>`: each violation in the order of the text, none if the
-//!   value is valid. Fails with a `CheckError` (`message()`).
-//! - `schema.warnings(alloc, &value)` returns a warning for each value that the schema calls deprecated.
-//! - `Guide::from_json` also keeps the schema's notes for people. For editors, `guide.subschemas(alloc, value)` and
-//!   `guide.subschemas_inside(alloc, outer, step, value)` return the `Subschemas` that apply to a value. `keys_of`,
-//!   `is_required`, `kinds_of` and `notes_of` return what these say about the value.
+//! - `schema.check(alloc, &value)` returns a `Vec<Report>` with a report for each violation, in the order of the text.
+//!   The vector is empty if the value is valid. Fails with a `CheckError` (`message()`).
+//! - `schema.warnings(alloc, &value)` returns a warning for each value that the schema marks as deprecated.
+//! - `Guide::from_json` compiles a schema together with its notes for people, such as descriptions. For editors,
+//!   `guide.subschemas(alloc, value)` and `guide.subschemas_inside(alloc, outer, step, value)` return the `Subschemas`
+//!   that apply to a value. `keys_of`, `is_required`, `kinds_of` and `notes_of` return the keys, required keys, kinds
+//!   and notes in these subschemas.
 //!
-//! A report's code is `schema-` and the keyword in lower case, such as `schema-min-length`. The code is `schema-false`
+//! A report's code is `schema-` and the keyword in kebab case, such as `schema-min-length`. The code is `schema-false`
 //! for the schema `false`, and `schema-additional-properties` for each unknown key.
 #![tactic(auto)]
 

@@ -13,7 +13,7 @@ pub struct Notes {
     pub title: Option<String>,
     /// The string in `description`.
     pub description: Option<String>,
-    /// The value of `default`. `None` if there is none, or if the value is or contains `null`.
+    /// The value of `default`, or `None` if the schema has no `default` or one that is or contains `null`.
     pub default: Option<Value<'static>>,
     /// The values of `enum`, then the value of `const`, without values that are or contain `null`.
     pub values: Vec<Value<'static>>,
@@ -29,7 +29,7 @@ fn text_in(alloc: Global, value: &Json<'_>, name: &str) -> Result<Option<String>
     }
 }
 
-/// Appends a JSON value as a TOML value, unless the JSON value is or contains `null`.
+/// Appends a JSON value to `values` as a TOML value, unless the JSON value is or contains `null`.
 fn push_value(
     alloc: Global,
     value: &Json<'_>,

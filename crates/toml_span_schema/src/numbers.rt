@@ -2,7 +2,7 @@
 ghost use Rattle.std.specs.Prelude.{◌<◌, ◌^◌};
 
 /// A number `0.d1d2d3.. * 10^(point - 2^65)`, or its negative. The first and the last digit are not 0, so each number
-/// has one form. Zero has no digits, the point 0 and no sign.
+/// has one form. For zero, `digits` is empty, `point` is 0, and `negative` is false.
 #[derive(Drop)]
 pub(crate) struct Decimal {
     pub(crate) negative: bool,

@@ -26,7 +26,7 @@ fn push_escape(out: &mut String, c: char) -> Result<(), AllocError>
         'W' => out.push_str("[^0-9A-Za-z_]"),
         's' => out.push_str("[\\s\\x{FEFF}]"),
         'S' => out.push_str("[^\\s\\x{FEFF}]"),
-        // Escapes of `regex`, but not of ECMA-262. `regex` rejects the `(?!)`, and so the regular expression.
+        // Escapes of `regex`, but not of ECMA-262. `regex` rejects the `(?!)`, and so the whole expression.
         'A' | 'z' | 'Z' | 'a' => out.push_str("(?!)"),
         _ => push_escaped(out, c),
     }

@@ -52,7 +52,7 @@ fn position_in(step: &str) -> Option<usize> {
     }
 }
 
-/// Returns the element or member that a step of a pointer names in a value, or `None` if there is none.
+/// Returns the element or member that a step of a pointer names in a value, or `None` if it does not exist.
 fn inside<'v, 'a>(
     alloc: Global,
     value: &'v Json<'a>,
@@ -68,7 +68,7 @@ fn inside<'v, 'a>(
     Ok(value.get(name.as_str()))
 }
 
-/// Returns the value that the steps of a pointer name inside `value`, or `None` if there is none.
+/// Returns the value that the steps of a pointer name inside `value`, or `None` if it does not exist.
 fn walked<'v, 'a>(
     alloc: Global,
     value: &'v Json<'a>,
@@ -83,7 +83,7 @@ fn walked<'v, 'a>(
     }
 }
 
-/// Returns the value that a pointer names inside `root`, or `None` if there is none.
+/// Returns the value that a pointer names inside `root`, or `None` if it does not exist.
 pub(crate) fn pointed<'v, 'a>(
     alloc: Global,
     root: &'v Json<'a>,

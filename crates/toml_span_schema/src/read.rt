@@ -1,5 +1,5 @@
-//! Reads the keywords of a schema object. The functions called `read_..` append the keywords that they find to
-//! `keywords`.
+//! Reads the keywords of a schema object. Functions with a parameter `keywords` append the keywords that they find to
+//! it.
 
 use crate::canonical::canonical;
 use crate::compile::{Compiler, Site};
@@ -514,7 +514,7 @@ fn count<'v, 'a>(
     Err(refused(compiler.alloc, site, name, "an integer of at least 0")?)
 }
 
-/// Reads the keywords that limit a length or a number of values. Fails like `count`.
+/// Reads the keywords that limit the length of a string, or the number of elements or keys. Fails like `count`.
 fn read_counts<'v, 'a>(
     compiler: &Compiler<'v, 'a>,
     site: &Site<'v, 'a>,

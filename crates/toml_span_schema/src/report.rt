@@ -14,9 +14,10 @@ impl Schema {
     /// Checks a value. Returns a report for each violation of the schema, in the order of the text. The list is empty
     /// if and only if the value is valid.
     ///
-    /// Each report marks a value that a keyword does not allow, or a key that is not allowed. Its notes name the
-    /// keyword's place in the schema and the schema's title. Fails with `TooDeep` if the value nests too deep, with
-    /// `TooLong` if the check takes too many steps, and with `OutOfMemory` if an allocation fails.
+    /// Each report marks a value that a keyword does not allow, or a key that is not allowed. The report's notes name
+    /// the keyword's place in the schema and the schema's title, if the schema has one. Fails with `TooDeep` if the
+    /// value nests too deep, with `TooLong` if the check takes too many steps, and with `OutOfMemory` if an allocation
+    /// fails.
     #[tactic(auto, using(crate::proofs::Monotone::valid_more))]
     pub fn check(&self, alloc: Global, value: &Value<'_>) -> Result<Vec<Report>, CheckError>
         ensures verdict { IfOk result (λ reports.

@@ -11,11 +11,11 @@ use std::alloc::Global;
 /// A compiled JSON Schema, with which any number of values can be checked.
 #[derive(Drop)]
 pub struct Schema {
-    /// The compiled schema of the whole document, followed by the subschemas that it reaches.
+    /// The compiled root schema, followed by the schemas that it reaches by references and keywords.
     pub(crate) nodes: Vec<Node>,
     pub(crate) patterns: Vec<Regex>,
-    /// The maximum depth of subschemas in a check: 1,000 levels of a value, times one more than the number of schemas
-    /// in the longest chain of references and combinations.
+    /// The maximum depth of nested subschemas in a check: 1,000 levels of a value, times one more than the number of
+    /// schemas in the longest chain of references and combinations, such as `allOf`.
     pub(crate) depth: usize,
     /// Whether `format` is checked.
     pub(crate) formats: bool,

@@ -356,7 +356,7 @@ impl<'v, 'a> Sources<'v, 'a> {
         best
     }
 
-    /// Returns the value at the place `pointer` of the document `source`, or `None` if there is none.
+    /// Returns the value at the place `pointer` of the document `source`, or `None` if it does not exist.
     pub(crate) fn value_at(
         &self,
         alloc: Global,
@@ -369,7 +369,7 @@ impl<'v, 'a> Sources<'v, 'a> {
         }
     }
 
-    /// Returns the resource with this address, or `None` if there is none.
+    /// Returns the first resource with this address, or `None` if no resource has it.
     pub(crate) fn find(&self, address: &str) -> Option<&Resource> {
         for resource in self.resources.as_slice() {
             if resource.address.as_str() == address {
@@ -379,7 +379,7 @@ impl<'v, 'a> Sources<'v, 'a> {
         None
     }
 
-    /// Returns the position of the anchor with this name in a resource, or `None` if there is none.
+    /// Returns the position of the first anchor with this name in a resource, or `None` if it does not exist.
     pub(crate) fn anchor(&self, resource: &Resource, name: &str) -> Option<usize> {
         for (i, anchor) in self.anchors.as_slice().iter().enumerate() {
             if anchor.is_in(resource) && anchor.name.as_str() == name {
@@ -444,8 +444,9 @@ fn text_of_any<'t>(value: &'t Json<'_>, name: &str) -> Option<&'t str> {
     }
 }
 
-/// Appends the subschemas in `value`, a keyword's value at the JSON pointer `pointer`, to `visits`. Appends nothing for
-/// a boolean. `resource` is the position of the resource around the subschemas.
+/// Appends the subschemas in `value`, a keyword's value at the JSON pointer `pointer`, to `visits`. Appends nothing if
+/// `value` is a boolean or does not have the given shape. `resource` is the position of the resource around the
+/// subschemas.
 fn push_visits<'v, 'a>(
     alloc: Global,
     value: &'v Json<'a>,

@@ -14,7 +14,7 @@ use toml_span_lex::span::Span;
 use toml_span_tree::nodes::Step;
 use toml_span_tree::{Value, ValueInner};
 
-/// The maximum number of subschemas that apply to one value. Further subschemas are left out.
+/// The maximum number of subschemas that are found for one value. Further subschemas are left out.
 const MOST: usize = 1_000;
 
 /// The maximum number of subschemas that are tried to choose among alternatives. Later alternatives are all chosen.
@@ -64,7 +64,7 @@ impl Kinds {
         self.array |= types.array;
     }
 
-    /// Adds the kind of a value.
+    /// Adds the kind of `value` to these kinds. Dates and times count as strings.
     fn add_value(&mut self, value: &Value<'_>) {
         match value.type_str() {
             "integer" => self.integer = true,
@@ -117,9 +117,9 @@ impl Guide {
     /// Returns the subschemas that apply to the root of a document. `value` is the root as far as it can be read, or
     /// `None` if it can't be read.
     ///
-    /// An alternative of `anyOf` or `oneOf` applies if its `type`, `enum`, `const` and subschemas that are `false`
-    /// allow the value and, at any depth, the values of its keys. Other keywords are not checked. If the value fits no
-    /// alternative, or there is no value, all alternatives apply. Fails if an allocation fails.
+    /// An alternative of `anyOf` or `oneOf` applies if the value fits it. Only `type`, `enum`, `const` and subschemas
+    /// that are `false` are checked, for the value and, at any depth, for the values of its keys. If the value fits no
+    /// alternative, or if `value` is `None`, all alternatives apply. Fails if an allocation fails.
     pub fn subschemas(
         &self,
         alloc: Global,
@@ -130,9 +130,10 @@ impl Guide {
         self.schema.closed(alloc, nodes, value)
     }
 
-    /// Returns the subschemas that apply to an entry or element. `outer` are the subschemas of the table or array
+    /// Returns the subschemas that apply to an entry or element. `outer` has the subschemas of the table or array
     /// around it, and `step` leads from there to the entry or element. `value` is the value of the entry, or the
-    /// element, or `None` if there is none yet. Alternatives apply as for `subschemas`. Fails if an allocation fails.
+    /// element. It is `None` if it has not been written yet. Alternatives apply as for `subschemas`. Fails if an
+    /// allocation fails.
     pub fn subschemas_inside(
         &self,
         alloc: Global,
@@ -256,8 +257,8 @@ impl Schema {
         Ok(Subschemas { nodes })
     }
 
-    /// Appends the indices of the subschemas that a keyword applies to the value itself. Takes 1 from `left` for each
-    /// subschema that is tried.
+    /// Appends to `nodes` the indices of the subschemas that a keyword applies to the value itself. Takes 1 from `left`
+    /// for each subschema that is tried.
     fn push_applied(
         &self,
         alloc: Global,
@@ -288,7 +289,7 @@ impl Schema {
     }
 
     /// Appends the index of `then` if the value is valid against the schema at index `condition`, otherwise the index
-    /// of `else`. Appends that of `then` if the check exceeds the limits, and both if there is no value. `branches` are
+    /// of `else`. Appends that of `then` if the check exceeds the limits, and both if `value` is `None`. `branches` has
     /// the indices of `then` and `else`.
     fn push_branches(
         &self,
@@ -316,8 +317,8 @@ impl Schema {
         Ok(())
     }
 
-    /// Returns the indices in `list` of the schemas that `may_fit` accepts for the value, or for which it exceeds the
-    /// limits. Returns the whole `list` if there are no such schemas, or if there is no value.
+    /// Returns the schemas in `list`, given by their indices, for which `may_fit` accepts the value or exceeds the
+    /// limits. Returns the whole `list` if `may_fit` rejects the value for all of them, or if `value` is `None`.
     fn alternatives(
         &self,
         alloc: Global,
@@ -340,8 +341,8 @@ impl Schema {
         Ok(fitting)
     }
 
-    /// Appends the indices of the subschemas that `schemas_for` returns for an entry or element and each keyword of the
-    /// schemas `outer`.
+    /// Appends to `nodes` the indices of the subschemas that the keywords of the schemas `outer` apply to `part`, an
+    /// entry or element (see `schemas_for`).
     fn push_inside(
         &self,
         alloc: Global,
@@ -358,8 +359,8 @@ impl Schema {
         Ok(())
     }
 
-    /// Appends the indices of the subschemas of `unevaluatedProperties` in the schemas `outer` or, if `step` is a
-    /// position, of `unevaluatedItems`.
+    /// Appends to `nodes` the indices of the subschemas of `unevaluatedProperties` in the schemas `outer` or, if `step`
+    /// is a position, of `unevaluatedItems`.
     fn push_unevaluated(
         &self,
         outer: &Subschemas,
@@ -382,9 +383,9 @@ impl Schema {
         Ok(())
     }
 
-    /// Returns whether a value may become valid against the schema at index `node` by having more keys, except that
-    /// `enum` and `const` compare the value as it is. Checks only `type`, `enum`, `const` and subschemas that are
-    /// `false`, for the value and for the values of its keys at any depth. Fails like `is_valid`.
+    /// Returns whether a value may become valid against the schema at index `node` if more keys are added to it. Checks
+    /// only `type`, `enum`, `const` and subschemas that are `false`, for the value and for the values of its keys at
+    /// any depth. `enum` and `const` compare the value as it is. Fails like `is_valid`.
     #[cycle(fit)]
     fn may_fit(
         &self,
@@ -406,8 +407,8 @@ impl Schema {
         Ok(true)
     }
 
-    /// Returns whether a keyword may allow a value that gets more keys. Returns true for keywords that `may_fit` does
-    /// not check. Fails like `is_valid`.
+    /// Returns whether a keyword may allow a value if more keys are added to it. Returns true for keywords that
+    /// `may_fit` does not check. Fails like `is_valid`.
     #[cycle(fit)]
     fn keyword_may_fit(
         &self,

@@ -16,8 +16,8 @@ use crate::schema::Schema;
 use std::alloc::Global;
 use toml_span_tree::{Value, ValueInner};
 
-/// The maximum number of subschemas that are applied to decide whether a value is valid. As many can be applied again
-/// to explain why it is not, or to warn of deprecated values.
+/// The maximum number of subschemas that are applied to decide whether a value is valid. The same number can be applied
+/// again to explain why the value is not valid, or to warn about deprecated values.
 pub(crate) const MOST_STEPS: u64 = 50_000_000;
 
 /// Takes 1 from `left`, the number of steps left. Fails with `TooLong` if `left` is 0.
@@ -29,7 +29,7 @@ pub(crate) fn spend(left: &mut u64) -> Result<(), CheckError> {
     Ok(())
 }
 
-/// Returns whether a count is from `least` to `most`.
+/// Returns whether `count` is at least `least` and at most `most`.
 fn is_between(least: u64, count: u64, most: u64) -> bool
     ensures { result ≡ (nat_le least count && nat_le count most) }
 {
@@ -380,9 +380,10 @@ impl Schema {
         Ok(true)
     }
 
-    /// Returns whether `unevaluatedProperties`, or `unevaluatedItems` if `entries` is false, allows an entry or element
-    /// `part`. If the keyword is about `part`, the schema at index `nodes.0` must evaluate `part`, or `part` must be
-    /// valid against the schema at index `nodes.1`. Fails like `is_valid`.
+    /// Returns whether `unevaluatedProperties`, or `unevaluatedItems` if `entries` is false, allows `part`, an entry or
+    /// element of `value`. The schema at index `nodes.0` must evaluate `part`, or `part` must be valid against the
+    /// schema at index `nodes.1`. But `unevaluatedProperties` allows all elements, and `unevaluatedItems` all entries.
+    /// Fails like `is_valid`.
     #[cycle(valid)]
     pub(crate) fn allows_part(
         &self,
@@ -565,8 +566,8 @@ impl Schema {
         Ok(false)
     }
 
-    /// Returns whether the subschema of any pair in `entries` whose key is in `value` covers `part`, as `covers` does.
-    /// Fails like `is_valid`.
+    /// Returns whether the subschema of a pair in `entries` covers `part`, as `covers` does. Only pairs whose keys are
+    /// in `value` count. Fails like `is_valid`.
     #[cycle(valid)]
     fn dependents_cover(
         &self,

@@ -5,16 +5,16 @@ use Rattle.serde.specs.declared.deserializer.Deserializer.{Deserializer}
 use Rattle.serde.specs.declared.name.Name.{Name}
 use Rattle.toml_span_lex.specs.declared.span.Span.{Span}
 
--- the names that ask for the start
+-- a list of one name, the reserved name that asks for the start of a span
 abbrev pub AsksStart : List Name → Type 0
 AsksStart names = (n : Name) × (names ≡ n ∷ []) × (n.name.now ≡ codes "$toml_span::start")
 
--- the names that ask for the end
+-- a list of one name, the reserved name that asks for the end of a span
 abbrev pub AsksEnd : List Name → Type 0
 AsksEnd names = (n : Name) × (names ≡ n ∷ []) × (n.name.now ≡ codes "$toml_span::end")
 
--- The start and the end of the span are the positions of variants that the format returns: the first when asked for the
--- start of the next value, the second when asked for its end.
+-- Asked for the start of the next value's span, the format returns `span.start` as the index of a variant. Asked for
+-- the end afterwards, it returns `span.end`.
 abbrev pub HasSpan : {F E M : Type 0} → (F → List ℕ → Bool → List Name → ℕ → F → Type 0)
     → Deserializer F E M → Span → Type 0
 HasSpan {F} {E} {M} picks from span =

@@ -53,7 +53,7 @@ name_of found.Table = codes "table"
 name_of found.Key = codes "key"
 name_of found.Nothing = codes "nothing"
 
--- the expected names or, if there are none, another text
+-- a text that lists the expected names, or the text `none` if no names are expected
 abbrev pub expected_text : List ℕ → List (List ℕ) → List ℕ
 expected_text none [] = none
 expected_text none (a ∷ []) = codes "expected " ++ named a
@@ -88,7 +88,8 @@ reason_text is.Negative = codes "number is out of range, expected 0 or more"
 reason_text is.Invalid = codes "invalid value"
 reason_text (is.Custom message) = string_bytes message
 
--- the kind of error for a field with two keys, or its text if the span of the earlier key is not known
+-- the kind of error for a field that two keys name: a duplicate key or, if the span of the earlier key is not known, a
+-- custom error with this text
 abbrev pub kind_of_twice : List ℕ → List ℕ → Option Span → Kind
 kind_of_twice text name None = custom text
 kind_of_twice text name (Some first) = duplicate_key name first
@@ -133,7 +134,7 @@ abbrev pub Names : tree.Path → Span → Node → Type 0
 Names path span root = (place : Place) × (place_at path root ≡ Some place)
     × ((span ≡ place.span) ⊎ (place.key_span ≡ Some span))
 
--- The misfit is at a place in the tree.
+-- An allocation failed, or the misfit is at a place in the tree.
 abbrev pub IsAt : Node → Stop Misfit → Type 0
 IsAt root (stop.Memory e) = ⊤
 IsAt root (stop.Fault m) = Names (path_of m.path.items) m.span root
@@ -142,11 +143,12 @@ IsAt root (stop.Fault m) = Names (path_of m.path.items) m.span root
 abbrev pub HasLine : List ℕ → Misfit → Type 0
 HasLine text m = m.span.start ≤ length text → m.line_info ≡ Some (line_info text m.span.start)
 
--- The text spells a document, and P holds for its tree.
+-- The text is a document, and P holds for its tree.
 abbrev pub HasTree : List ℕ → (Node → Type 0) → Type 0
 HasTree text P = (root : Value) × IsTree text depth_limit root × P (view root)
 
--- Either the text has no tree, or it has one and the misfit is at a place in that tree.
+-- An allocation failed, or the text has no tree and the error is that of the parser. Or the text has a tree, and the
+-- misfit is at a place in it and has the line and the column of its span.
 abbrev pub IsRefused : List ℕ → Stop Error → Type 0
 IsRefused text (stop.Memory e) = ⊤
 IsRefused text (stop.Fault (error.Refused e)) = IsRefusal text depth_limit (stop.Fault e)

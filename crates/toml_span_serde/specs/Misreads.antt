@@ -78,7 +78,7 @@ piece_text_in (Some p) = piece_text p.content
 abbrev pub IsOpening : Content → Type 0
 IsOpening c = (c ≡ array_begins) ⊎ (c ≡ table_begins)
 
--- An allocation failed, or this reason applies to that piece.
+-- An allocation failed, or the error is at the position `at` and Why holds for its reason.
 abbrev pub IsMisread : (Reason → Type 0) → ℕ → Stop Misread → Type 0
 IsMisread Why at (stop.Memory e) = ⊤
 IsMisread Why at (stop.Fault m) = Why m.reason × (m.at ≡ at)
@@ -88,7 +88,7 @@ abbrev pub UnlessMemory : Stop Misread → Type 0 → Type 0
 UnlessMemory (stop.Memory e) P = ⊤
 UnlessMemory (stop.Fault m) P = P
 
--- There is no next piece, and the error says so.
+-- No piece is left, and the error is `Invalid` at the end of the row, unless an allocation failed.
 abbrev pub RunsOut : Reader → Stop Misread → Type 0
 RunsOut r stopped = (ahead r ≡ []) × IsMisread (λ why. why ≡ is.Invalid) r.next stopped
 
@@ -96,22 +96,23 @@ RunsOut r stopped = (ahead r ≡ []) × IsMisread (λ why. why ≡ is.Invalid) r
 abbrev pub IsMemory : Stop Misread → Type 0
 IsMemory stopped = (e : AllocError) × (stopped ≡ stop.Memory e)
 
--- The reason has this text and these names.
+-- The reason `why` is `reason` with this text and these names.
 abbrev pub Lists : (String Global → Vec (String Global) Global → Reason) → List ℕ → List (List ℕ) → Reason → Type 0
 Lists reason text names why =
     (s : String Global) × (all : Vec (String Global) Global) × (why ≡ reason s all) × (string_bytes s ≡ text)
     × (map string_bytes all.items ≡ names)
 
--- The reason has this text.
+-- The reason `why` is `reason` with this text.
 abbrev pub Says : (String Global → Reason) → List ℕ → Reason → Type 0
 Says reason text why = (s : String Global) × (why ≡ reason s) × (string_bytes s ≡ text)
 
--- The reason is that there is no next piece, or that it is not of the expected kind.
+-- The reason is `Invalid`, and no piece is left. Or the reason is `Wanted`, and the next piece is not of the expected
+-- kind.
 abbrev pub Misses : (Content → Type 0) → Expected → List Piece → Reason → Type 0
 Misses Fits expected [] why = why ≡ is.Invalid
 Misses Fits expected (p ∷ ps) why = ¬ Fits p.content × (why ≡ is.Wanted expected (found_of p.content))
 
--- Like `Misses`. Or the next piece has the given defect, and the reason is the given one.
+-- `Misses` holds for the reason `why`. Or the next piece has the defect `HasDefect`, and `why` is the given `reason`.
 abbrev pub MissesOr : (Content → Type 0) → Expected → (Piece → Type 0) → Reason → List Piece → Reason → Type 0
 MissesOr Fits expected HasDefect reason ps why = Misses Fits expected ps why
     ⊎ ((why ≡ reason) × ((p : Piece) × (rest : List Piece) × (ps ≡ p ∷ rest) × HasDefect p))
@@ -125,7 +126,7 @@ IsAnyInteger c = (z : ℤ) × (c ≡ value (tree.integer z))
 abbrev pub IsAnyBoolean : Content → Type 0
 IsAnyBoolean c = (b : Bool) × (c ≡ value (tree.boolean b))
 
--- a string, a key or a date
+-- a string, a key or a datetime
 abbrev pub IsAnyWritten : Content → Type 0
 IsAnyWritten c = (s : List ℕ) × IsWritten s c
 
@@ -163,8 +164,8 @@ abbrev pub refusal_in : Option Piece → Reason
 refusal_in None = is.Invalid
 refusal_in (Some p) = refusal p.content
 
--- The reason is that a piece has this kind although one of the listed kinds was expected, or that it is unexpected if
--- none is listed.
+-- The reason is that one of the listed kinds was expected and the kind `f` was found. If no kinds are listed, the
+-- reason is that `f` is unexpected.
 abbrev pub IsOther : List Expected → Found → Reason → Type 0
 IsOther [] f why = why ≡ is.Unexpected f
 IsOther (e ∷ []) f why = why ≡ is.Wanted e f
@@ -174,18 +175,18 @@ abbrev pub IsOtherIn : List Expected → Option Piece → Reason → Type 0
 IsOtherIn kinds None why = why ≡ is.Invalid
 IsOtherIn kinds (Some p) why = IsOther kinds (found_of p.content) why
 
--- the attempts after the reader goes back to the piece at `mark`: if it has read any piece since then, an attempt has
--- read that piece
+-- the attempts after the reader goes back to the position `mark`: unless it is there already, an attempt that has read
+-- the piece at `mark`
 abbrev pub tries_back_at : ℕ → Reader → Tries
 tries_back_at mark r = if r.next == mark then tries r.tried else taken mark
 
--- the reason for an array of the wrong length: it has ended, or it has more elements than the type expects
+-- the reason for an array of the wrong length: `Length` if the end of the array was read, otherwise `TooLong`
 abbrev pub length_reason : Reader → Reason
 length_reason r =
     if nat_lt r.at r.next then is.Length (elements_in (take r.at (laid r)))
     else is.TooLong (elements_in (take r.at (laid r)))
 
--- whether a key has none of the names
+-- whether a key was read that has none of the `count` names
 abbrev pub is_unknown : Option ℕ → ℕ → Bool
 is_unknown None count = false
 is_unknown (Some at) count = not (nat_lt at count)
@@ -207,26 +208,27 @@ variants r = map string_bytes r.variants.items
 abbrev pub variant_names : Reader → List (List ℕ)
 variant_names r = if r.is_unknown then fields r else variants r
 
--- the names to remember after a step that found the name with this index: all forms of the names if it found none,
--- otherwise those remembered before
+-- the names to remember after a text was compared with `names` and found at the index `at`: those remembered before, or
+-- all forms of `names` if `at` is out of range
 abbrev pub held : List Name → ℕ → List (List ℕ) → List (List ℕ)
 held names at before = if nat_lt at (length names) then before else all_forms names
 
--- like `held`, for a step that may have read the end of a table instead of a key (`None`)
+-- like `held`, after a key was read and compared (`Some`), or after the end of a table was read (`None`)
 abbrev pub held_by : List Name → Option ℕ → List (List ℕ) → List (List ℕ)
 held_by names None before = before
 held_by names (Some at) before = held names at before
 
 -- ---- two keys of the same field
 
--- the last key whose name has aliases, and all forms of that name
+-- the last key that names a field with aliases, and all forms of that field's name
 abbrev pub Twin : Type 0
 Twin = (ℕ × Span) × List (List ℕ)
 
 abbrev pub twin : Reader → Twin
 twin r = (key_place r.key, map string_bytes r.forms.items)
 
--- the twin after the reader has read a key at this place, which is a form of this name, if there is a name
+-- the twin after a key at this place was read: that key if it is a form of a name with aliases, otherwise the twin from
+-- before
 abbrev pub twin_after : Option Name → ℕ × Span → Twin → Twin
 twin_after None place before = before
 twin_after (Some n) place before = if length n.aliases.now == 0 then before else (place, forms_of n)
@@ -240,8 +242,8 @@ abbrev pub twice_of : ℕ → ℕ × Span → Option (ℕ × Span) → ℕ × Op
 twice_of at own None = (at, None)
 twice_of at own (Some other) = later_of own other
 
--- The position of the later of two keys of the same field, and the span of the other key. If the last key whose name
--- has aliases is the only key of its field, the position of the piece that was looked at last, and no span.
+-- The position of the later of two keys that name the same field, and the span of the other key. If no key before the
+-- twin names its field, the position `r.at` and no span.
 abbrev pub twice : Reader → ℕ × Option Span
 twice r = twice_of r.at (key_place r.key)
     (earlier (map string_bytes r.forms.items) 0 (reverse (take r.key.at (laid r))))

@@ -1,5 +1,5 @@
--- A tree as a row of pieces: one for each scalar and each key, and two for each array and each table, at its beginning
--- and at its end.
+-- A tree as a row of pieces: one for each scalar, taken value and key, and two for each array and table, at its
+-- beginning and at its end.
 use Rattle.std.specs.Prelude.{ℕ, List, [], ◌∷◌, ◌++◌}
 use Rattle.toml_span_lex.specs.declared.span.Span.{Span}
 use Rattle.toml_span_tree.specs.Node.{Scalar, Node, node, Inner, taken, scalar, array, table, Items, no_items, item}

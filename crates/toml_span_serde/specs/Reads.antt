@@ -12,7 +12,7 @@ use Rattle.toml_span_tree.specs.Node as tree
 use Rattle.toml_span_tree.specs.Float.{float_text}
 use Rattle.toml_span_serde.specs.Pieces.{Content, Piece, value, array_begins, array_ends, table_begins, table_ends, key}
 
--- One piece is read, for which P holds.
+-- One piece is read, and P holds for its content.
 abbrev pub TakesPiece : (Content → Type 0) → List Piece → List Piece → Type 0
 TakesPiece P old new = (p : Piece) × (old ≡ p ∷ new) × P p.content
 
@@ -20,7 +20,7 @@ TakesPiece P old new = (p : Piece) × (old ≡ p ∷ new) × P p.content
 abbrev pub IsText : List ℕ → Content → Type 0
 IsText s c = (c ≡ value (tree.text s)) ⊎ (c ≡ key s)
 
--- a string, a key or a date with these bytes
+-- a string, a key or a datetime with these bytes
 abbrev pub IsWritten : List ℕ → Content → Type 0
 IsWritten s c = IsText s c ⊎ (c ≡ value (tree.datetime s))
 
@@ -56,8 +56,8 @@ Reads old event.flattens new = ⊥
 abbrev pub Sees : (Piece → Type 0) → List Piece → List Piece → Type 0
 Sees P old new = (new ≡ old) × ((p : Piece) × (rest : List Piece) × (old ≡ p ∷ rest) × P p)
 
--- A key (`true`) or a string is read, and the result is the index of its name. Or the name asks for the start or the
--- end of the next piece, which is the result.
+-- A key (`true`), or a string or key (`false`), is read, and `at` is the index in `names` that is found for it. But if
+-- `names` asks for the start or the end of a span, `at` is that of the next piece, which is not read.
 abbrev pub Picks : List Piece → Bool → List Name → ℕ → List Piece → Type 0
 Picks old true names at new = (s : List ℕ) × TakesPiece (λ c. c ≡ key s) old new × Finds names s at
 Picks old false names at new =

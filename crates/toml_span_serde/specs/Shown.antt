@@ -18,13 +18,13 @@ abbrev pub with_meant : Option (List ℕ) → ReportContent → ReportContent
 with_meant None report = report
 with_meant (Some name) report = with_help report (codes "did you mean `" ++ name ++ codes "`?")
 
--- the text of the report of a misfit
+-- `out` is the text of the report on a misfit.
 abbrev pub IsMisfitText : Style → Misfit → List ℕ → List ℕ → List ℕ → Type 0
 IsMisfitText style m name text out =
     (report : ReportContent) × ReportsError severities.Error text (content_of_misfit m) report
     × (out ≡ report_text style (with_meant (meant_by m.reason) report) name text)
 
--- A failed allocation has no text.
+-- `out` is the text of the report on an error. A failed allocation has no text.
 abbrev pub IsErrorText : Style → Stop Error → List ℕ → List ℕ → List ℕ → Type 0
 IsErrorText style (stop.Memory e) name text out = ⊥
 IsErrorText style (stop.Fault (error.Refused e)) name text out = IsReport style name text (content_of e) out

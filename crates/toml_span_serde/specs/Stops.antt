@@ -1,4 +1,4 @@
--- Where a read stopped, and what is reported.
+-- Where a read stopped, and the misfit that is reported.
 use Rattle.std.specs.Prelude.{◌≡◌, ⊤, ℕ, ◌+◌, List, [], ◌∷◌, ◌++◌, length, nat_lt, if◌then◌else◌, Some, slice_get}
 use Rattle.toml_span_lex.specs.declared.span.Span.{Span}
 use Rattle.toml_span_lex.specs.declared.stop.Stop.{Stop}
@@ -31,8 +31,7 @@ abbrev mutual
   members_spots path (member name span n ms) =
       (path ++ (key name ∷ []), span) ∷ (spots (path ++ (key name ∷ [])) n ++ members_spots path ms)
 
--- the position of the piece that is reported: the given one or, if there is no piece at it, that of the first piece,
--- the root
+-- the position of the piece that is reported: `at` or, after the last piece, 0, the position of the root's first piece
 abbrev pub reported_piece : Node → ℕ → ℕ
 reported_piece root at = if nat_lt at (length (pieces root)) then at else 0
 

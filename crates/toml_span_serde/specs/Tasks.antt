@@ -39,7 +39,7 @@ abbrev pub all_pieces : List Task → List spec.Piece
 all_pieces [] = []
 all_pieces (t ∷ ts) = task_pieces t ++ all_pieces ts
 
--- In each table of these values, every name is before all later ones.
+-- In each table of the task's value, each name comes before all later ones.
 abbrev pub IsTaskOrdered : Task → Type 0
 IsTaskOrdered (task.Value v) = IsOrdered (view v.now)
 IsTaskOrdered (task.Piece p) = ⊤
@@ -48,11 +48,11 @@ abbrev pub AreTasksOrdered : List Task → Type 0
 AreTasksOrdered [] = ⊤
 AreTasksOrdered (t ∷ ts) = IsTaskOrdered t × AreTasksOrdered ts
 
--- the pieces, which were stored from the last to the first
+-- the pieces in the order of the row; `ps` has them from the last to the first
 abbrev pub turned : List Piece → List spec.Piece
 turned ps = map piece_of (reverse ps)
 
--- the number of arrays and tables that are open after a piece
+-- the number of arrays and tables that are open after a piece, if `d` are open before it
 abbrev pub depth_after : spec.Content → ℕ → ℕ
 depth_after (spec.value s) d = d
 depth_after spec.nothing d = d

@@ -5,7 +5,7 @@ use Rattle.toml_span_lex.specs.declared.span.Span.{Span}
 use Rattle.toml_span_tree.specs.Node.{Node, node, Inner, taken, scalar, array, table, Items, no_items, item}
 use Rattle.toml_span_tree.specs.Node.{Members, no_members, member}
 
--- the entries with one inserted before the first entry that does not start earlier in the text
+-- the entries and one more, inserted before the first entry whose key does not start earlier in the text
 abbrev pub put_entry : List ℕ → Span → Node → Members → Members
 put_entry name at n no_members = member name at n no_members
 put_entry name at n (member other there m ms) =

@@ -1,4 +1,4 @@
--- The kinds that failed attempts to read a piece expected.
+-- The kinds that were expected in failed attempts to read a piece.
 use Rattle.std.specs.Prelude.{ℕ, Bool, true, false, not, ◌&&◌, ◌==◌, List, [], ◌∷◌, ◌++◌, if◌then◌else◌}
 use Rattle.std.specs.List.{list_any}
 use Rattle.std.specs.Str.{bytes_eq}

@@ -35,12 +35,12 @@ abbrev pub walked : List row.Piece → Way → Way
 walked [] way = way
 walked (p ∷ ps) way = walked ps (after p.content way)
 
--- the position of the next element of an array
+-- the position of the next element of an array, or 0 if the way ends with a key or is empty
 abbrev pub next_position : Way → ℕ
 next_position (position i ∷ way) = i
 next_position way = 0
 
--- how many of these pieces are elements of the innermost open array
+-- how many elements of the innermost open array have ended after these pieces, or 0 inside an entry of a table
 abbrev pub elements_in : List row.Piece → ℕ
 elements_in before = next_position (walked before [])
 

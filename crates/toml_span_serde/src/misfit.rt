@@ -98,7 +98,7 @@ pub enum Reason {
         expected: Expected,
         found: Found,
     },
-    /// A value of one of several other kinds was expected. No variant of an `untagged` enum accepts this kind.
+    /// A value of one of several other kinds was expected. No variant of an `untagged` enum accepts the kind `found`.
     WantedOneOf {
         expected: Vec<Expected>,
         found: Found,
@@ -114,20 +114,20 @@ pub enum Reason {
         name: String,
         first: Option<Span>,
     },
-    /// The table has the key `name`, which is not the name of a field. `expected` are the names and aliases of the
+    /// The table has the key `name`, which is not the name of a field. `expected` lists the names and aliases of the
     /// fields.
     UnknownField {
         name: String,
         expected: Vec<String>,
     },
-    /// The text `name` is not the name of a variant. `expected` are the names and aliases of the variants.
+    /// The text `name` is not the name of a variant. `expected` lists the names and aliases of the variants.
     UnknownVariant {
         name: String,
         expected: Vec<String>,
     },
     /// The array has this number of elements, and the type expects another number.
     Length(usize),
-    /// The array has more elements than the type expects, which is this number.
+    /// The type expects this number of elements, and the array has more.
     TooLong(usize),
     /// The type can't represent the number.
     OutOfRange,
@@ -135,11 +135,11 @@ pub enum Reason {
     Negative,
     /// The type does not accept the value.
     Invalid,
-    /// The type does not accept the value, and gives this message.
+    /// The type does not accept the value, for the reason in this message.
     Custom(String),
 }
 
-/// Writes each name after a comma.
+/// Writes each of the names in backticks, with a comma before it.
 fn write_more<W: Write>(f: &mut Formatter<W>, names: &[String]) -> fmt::Result
     ensures { WritesOnOk W.write_str_gives f.old result
         (flat_map (λ name. codes ", " ++ named name) (map string_bytes names.now)) f.new }
@@ -150,7 +150,7 @@ fn write_more<W: Write>(f: &mut Formatter<W>, names: &[String]) -> fmt::Result
     Ok(())
 }
 
-/// Writes the expected names or, if `names` is empty, the argument `none`.
+/// Writes that one of the names was expected, such as "expected one of `a`, `b`". If `names` is empty, writes `none`.
 fn write_expected<W: Write>(f: &mut Formatter<W>, none: &str, names: &[String]) -> fmt::Result
     ensures { WritesOnOk W.write_str_gives f.old result (expected_text none.now (map string_bytes names.now)) f.new }
 {
@@ -164,7 +164,7 @@ fn write_expected<W: Write>(f: &mut Formatter<W>, none: &str, names: &[String]) 
     }
 }
 
-/// Writes each kind after a comma.
+/// Writes each of the kinds, with a comma before it.
 fn write_parted<W: Write>(f: &mut Formatter<W>, kinds: &[Expected]) -> fmt::Result
     ensures { WritesOnOk W.write_str_gives f.old result
         (flat_map (λ kind. codes ", " ++ words_of kind) kinds.now) f.new }
@@ -176,7 +176,7 @@ fn write_parted<W: Write>(f: &mut Formatter<W>, kinds: &[Expected]) -> fmt::Resu
     Ok(())
 }
 
-/// Writes the kinds after the first one: each after a comma, the last one after "or".
+/// Writes the kinds, which follow another kind: the last one with "or" before it, the others with commas before them.
 fn write_more_kinds<W: Write>(f: &mut Formatter<W>, kinds: &[Expected]) -> fmt::Result
     ensures { WritesOnOk W.write_str_gives f.old result (more_kinds_text kinds.now) f.new }
 {
@@ -299,7 +299,8 @@ impl Reason {
     }
 
     /// Returns the expected name that is nearest to an unknown key or variant. Returns `None` if no name is near enough
-    /// (`toml_span_report::nearest`), and for any other reason. Fails if an allocation fails.
+    /// (`toml_span_report::nearest`), or if this is neither `UnknownField` nor `UnknownVariant`. Fails if an allocation
+    /// fails.
     pub fn meant(&self, alloc: Global) -> Result<Option<&str>, AllocError>
         ensures { IfOk result (λ found. option_map (λ name. name.now) found ≡ meant_by self.now) }
     {
@@ -351,7 +352,7 @@ pub enum Error<'s> {
     Misfit(Misfit),
 }
 
-/// Writes the steps after the first: `.` and a name for a key, and a position in brackets.
+/// Writes the steps after the first step of a path: a key with `.` before it, and a position in brackets.
 fn write_further<W: Write>(f: &mut Formatter<W>, steps: &[Step]) -> fmt::Result
     ensures { WritesOnOk W.write_str_gives f.old result (flat_map further_text steps.now) f.new }
 {

@@ -16,7 +16,7 @@ fn text_of(alloc: Global, name: &Name<'_>) -> Result<String, AllocError>
     Ok(text)
 }
 
-/// Appends a name and its aliases.
+/// Appends a name and its aliases to `texts`.
 fn push_forms(alloc: Global, name: &Name<'_>, texts: &mut Vec<String>) -> Result<(), AllocError>
     ensures { OnOk result (map string_bytes texts.new.items
         ≡ map string_bytes texts.old.items ++ spec.forms_of name.now) }
@@ -25,7 +25,7 @@ fn push_forms(alloc: Global, name: &Name<'_>, texts: &mut Vec<String>) -> Result
     push_copies(alloc, name.aliases, texts)
 }
 
-/// Appends copies of the texts.
+/// Appends copies of the strings in `copied` to `texts`.
 fn push_copies(alloc: Global, copied: &[&str], texts: &mut Vec<String>) -> Result<(), AllocError>
     ensures { OnOk result (map string_bytes texts.new.items
         ≡ map string_bytes texts.old.items ++ map (λ text. text.now) copied.now) }
@@ -36,7 +36,7 @@ fn push_copies(alloc: Global, copied: &[&str], texts: &mut Vec<String>) -> Resul
     Ok(())
 }
 
-/// Appends a name and its aliases, or nothing if its field is skipped.
+/// Appends a name and its aliases to `texts`, or nothing if the field is skipped.
 fn push_read(alloc: Global, name: &Name<'_>, texts: &mut Vec<String>) -> Result<(), AllocError>
     ensures { OnOk result (map string_bytes texts.new.items
         ≡ map string_bytes texts.old.items ++ spec.forms_read name.now) }
@@ -89,7 +89,8 @@ fn lent(alloc: Global, texts: &[String]) -> Result<Vec<&str>, AllocError>
     Ok(lent)
 }
 
-/// Returns the name that is nearest to a word, or `None` if no name is near enough (`toml_span_report::nearest`).
+/// Returns the one of `names` that is nearest to `word`, or `None` if no name is near enough
+/// (`toml_span_report::nearest`).
 pub(crate) fn meant<'a>(
     alloc: Global,
     word: &str,

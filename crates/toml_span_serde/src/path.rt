@@ -1,4 +1,7 @@
-//! Paths from the root of a tree.
+//! Paths from the root of a tree to the values of its pieces.
+//!
+//! Between two pieces, `downs` is the path to the next piece: the position of the next element for each open array, and
+//! the name for each entry whose value has not ended yet, from the root inwards.
 ghost use Rattle.std.specs.Prelude.{◌≡◌, [], IfOk, OnOk, Some, map, reverse};
 ghost use Rattle.toml_span_serde.specs.Misfits.{path_of, step_of};
 ghost use Rattle.toml_span_serde.specs.Tasks.{piece_content, piece_of};
@@ -35,8 +38,8 @@ enum Down<'v> {
     Position(usize),
 }
 
-/// Returns the path to the value of a piece or, for a key, to the value that the key names. `before` are all pieces
-/// before the piece, and `content` is its content.
+/// Returns the path to the value of a piece or, for a key, to the value that the key names. `before` has all pieces
+/// before the piece, and `content` is the content of the piece.
 pub(crate) fn path_to<'v>(
     alloc: Global,
     before: &[Piece<'v>],
@@ -51,7 +54,7 @@ pub(crate) fn path_to<'v>(
 }
 
 /// Counts the elements that have ended in the innermost array that is open after the pieces `before`. Returns 0 if no
-/// array is open, or if an entry of a table in that array is open too.
+/// array is open, or if `before` ends inside an entry of a table in that array.
 pub(crate) fn elements_in(alloc: Global, before: &[Piece<'_>]) -> Result<usize, AllocError>
     ensures { IfOk result (λ count. count ≡ elements_in (map piece_of before.now)) }
 {
@@ -73,7 +76,7 @@ fn way_after<'v>(alloc: Global, before: &[Piece<'v>]) -> Result<Vec<Down<'v>>, A
     Ok(downs)
 }
 
-/// Changes `downs` from the path to the piece with this content to the path to the next piece.
+/// Advances `downs` past a piece with this content.
 fn pass<'v>(downs: &mut Vec<Down<'v>>, content: Content<'v>) -> Result<(), AllocError>
     ensures { OnOk result (way_of downs.new.items ≡ after (piece_content content.entry) (way_of downs.old.items)) }
 {
@@ -90,8 +93,8 @@ fn pass<'v>(downs: &mut Vec<Down<'v>>, content: Content<'v>) -> Result<(), Alloc
     Ok(())
 }
 
-/// Changes `downs` from the path to a piece to the path to the piece's value or, for a key, to the value that the key
-/// names.
+/// Changes `downs`, the path to a piece with this content, to the path to the value of the piece. For a key, this is
+/// the value that the key names.
 fn turn_to<'v>(downs: &mut Vec<Down<'v>>, content: Content<'v>) -> Result<(), AllocError>
     ensures { OnOk result (way_of downs.new.items ≡ way_at (piece_content content.entry) (way_of downs.old.items)) }
 {
@@ -110,7 +113,7 @@ fn leave(downs: &mut Vec<Down<'_>>)
     downs.pop();
 }
 
-/// Changes `downs` from the path to a value to the path to the piece after the value.
+/// Advances `downs` past the end of a value: to the next element of an array, or out of an entry of a table.
 fn end_value(downs: &mut Vec<Down<'_>>) -> Result<(), AllocError>
     ensures { OnOk result (way_of downs.new.items ≡ ended (way_of downs.old.items)) }
 {
@@ -123,7 +126,7 @@ fn end_value(downs: &mut Vec<Down<'_>>) -> Result<(), AllocError>
     Ok(())
 }
 
-/// Returns the path with owned names.
+/// Returns the path `downs` with owned names.
 fn steps_of(alloc: Global, downs: &[Down<'_>]) -> Result<Vec<Step>, AllocError>
     ensures { IfOk result (λ path. path_of path.items ≡ map down_of downs.now) }
 {

@@ -20,7 +20,7 @@ use toml_span_lex::key::Key;
 use toml_span_lex::span::Span;
 use toml_span_tree::{Array, FloatText, Table, Value, ValueInner};
 
-/// A scalar, a key, or the beginning or end of an array or table.
+/// A scalar, a taken value, a key, or the beginning or end of an array or table.
 #[derive(Clone, Copy, Drop)]
 pub(crate) enum Content<'v> {
     Text(&'v str),
@@ -36,7 +36,7 @@ pub(crate) enum Content<'v> {
     Key(&'v str),
 }
 
-/// A part of a tree, with the span of its value or key.
+/// A part of a tree, with the span of the value or key that it belongs to.
 #[derive(Clone, Copy, Drop)]
 pub(crate) struct Piece<'v> {
     pub content: Content<'v>,
@@ -61,7 +61,7 @@ impl<'v> Content<'v> {
         }
     }
 
-    /// Returns the kind of the value or key for serde.
+    /// Returns the kind of the value or key, as serde classifies it.
     pub(crate) fn serde_kind(&self) -> Kind
         ensures { result ≡ kind_ahead (piece_content self.now) }
     {
@@ -158,7 +158,7 @@ pub(crate) fn pieces_of<'v>(
     Err(AllocError)
 }
 
-/// Converts one part: appends its last piece to `made`, and its other parts to `tasks`.
+/// Converts the part `task`: appends its last piece to `made`, and its other parts to `tasks`.
 fn carry_out<'v, 'de>(
     alloc: Global,
     task: Task<'v, 'de>,

@@ -1,4 +1,5 @@
-//! A `Format` of serde that reads from a tree.
+//! A `Format` of serde that reads a tree piece by piece. A piece is a scalar, a key, or the beginning or end of an
+//! array or table.
 ghost use Rattle.std.specs.Float.{binary32, binary64};
 ghost use Rattle.std.specs.Option.{option_and_then};
 ghost use Rattle.std.specs.Prelude.{◌≡◌, ◌+◌, ◌-◌, ◌<◌, ◌≤◌, ◌^◌, ◌∷◌, ◌++◌, ◌↔◌, ◌||◌, [], false, true, not, IfErr};
@@ -61,9 +62,9 @@ pub struct Reader<'p, 'v> {
     fields: Vec<String>,
     /// The names and aliases with which the last unknown variant was compared.
     variants: Vec<String>,
-    /// The last key whose name has aliases.
+    /// The last key that named a field with aliases.
     key: KeyPlace,
-    /// The name and aliases of the field of `key`.
+    /// The name and aliases of the field that `key` names.
     forms: Vec<String>,
     /// The failed attempts to read a piece.
     tried: Tried,
@@ -127,7 +128,7 @@ impl<'p, 'v> Reader<'p, 'v> {
         Ok(piece)
     }
 
-    /// Returns an error with this reason at the piece `at`: the one looked at last or, after `rewind`, the next one.
+    /// Returns an error with this reason at the position `self.at`.
     fn misread(&self, reason: Reason) -> Stop<Misread>
         ensures { result ≡ stop.Fault (record { reason = reason; at = self.now.at }) }
     {
@@ -137,7 +138,7 @@ impl<'p, 'v> Reader<'p, 'v> {
         })
     }
 
-    /// Returns copies of the text of the piece at the position `at`, and of the names.
+    /// Returns copies of the text of the piece at the position `at` (see `text_at`) and of the names.
     fn named(&self, at: usize, names: &[String]) -> Result<(String, Vec<String>), AllocError>
         ensures { IfOk result (λ error. (string_bytes error.0 ≡ piece_text_in (slice_get (laid self.now) at))
             × (map string_bytes error.1.items ≡ map string_bytes names.now)) }
@@ -175,9 +176,9 @@ impl<'p, 'v> Reader<'p, 'v> {
         self.pieces.get(..at).unwrap_or(self.pieces)
     }
 
-    /// Looks for an earlier key for the field of `self.key`. Returns the position of the key that is later in the text,
-    /// and the span of the other key. If only one key is found, returns the position of the last piece looked at, and
-    /// `None`.
+    /// Looks for a key before `self.key` that names the same field in the same table. If there is one, returns the
+    /// position of whichever of the two keys is later in the text, and the span of the other key. Otherwise, returns
+    /// `self.at` and `None`.
     fn twice(&self) -> (usize, Option<Span>)
         ensures { result ≡ twice self.now }
     {
@@ -189,8 +190,9 @@ impl<'p, 'v> Reader<'p, 'v> {
         }
     }
 
-    /// Records a key for later errors. `found` is the position of its name in `names`. If the name has aliases, records
-    /// the key with the name and aliases. If `found` is out of range, the key is unknown: records `all_forms(names)`.
+    /// Records the key at `self.at` for later errors. `span` is the span of the key, and `found` is the position of the
+    /// key's name in `names`. If the name has aliases, records the key, its name and the aliases. If `found` is out of
+    /// range, the key is unknown, and `all_forms(names)` is recorded.
     fn note_key(
         &mut self,
         span: Span,
@@ -417,8 +419,8 @@ impl Format for Reader<'_, '_> {
     /// Reads a string or key that can be borrowed from `input`. Returns the start and the end of its text in `input`,
     /// as byte offsets; both are 0 if the text is empty.
     ///
-    /// Fails if the next piece is neither a string nor a key, if its text differs from the bytes of `input` at its
-    /// span, or if no piece is left. Fails if an allocation fails.
+    /// Fails if the next piece is neither a string nor a key, or if no piece is left. Also fails if the text is not
+    /// empty and differs from the bytes of `input` at its span, or if an allocation fails.
     fn plain_str(&mut self, input: &[u8]) -> Result<(usize, usize), Stop<Misread>>
         ensures gives { IfOk result (λ r. Reads (ahead self.old) (event.text (slice_range input.now r.0 r.1))
             (ahead self.new)) }
@@ -678,8 +680,8 @@ impl Format for Reader<'_, '_> {
         }
     }
 
-    /// Returns the error for the unknown name of a variant. The name is the piece looked at last if this is an unknown
-    /// key, otherwise the piece that was last read as the name of a variant.
+    /// Returns the error for an unknown variant name. The name is the piece that was looked at last if that piece is an
+    /// unknown key, otherwise the piece that was last read as the name of a variant.
     fn unknown_variant(&self) -> Stop<Misread>
         ensures { IsMisread (Lists is.UnknownVariant
             (piece_text_in (slice_get (laid self.now) (variant_place self.now))) (variant_names self.now))
@@ -696,7 +698,7 @@ impl Format for Reader<'_, '_> {
     }
 
     /// Returns the error for an array of the wrong length. If the end of the array was read, the error is `Length` with
-    /// the number of all elements. Otherwise the array is too long, and the error is `TooLong` with the number of
+    /// the number of its elements. Otherwise the array is too long, and the error is `TooLong` with the number of
     /// elements that the type expects.
     fn wrong_len(&self) -> Stop<Misread>
         ensures { IsMisread (λ why. why ≡ length_reason self.now) self.now.at result }
@@ -743,7 +745,7 @@ impl Format for Reader<'_, '_> {
     }
 }
 
-/// Converts a failed allocation to the error of a reader.
+/// Converts the error of `names`, a failed allocation, to the error of a reader.
 fn owned(names: Result<Vec<String>, AllocError>) -> Result<Vec<String>, Stop<Misread>>
     ensures ok { IfOk result (λ all. names ≡ Ok all) }
     ensures memory { IfErr result IsMemory }

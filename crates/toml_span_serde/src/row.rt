@@ -1,4 +1,5 @@
-//! A tree as a row of pieces, which a `Reader` reads.
+//! A tree as a row of pieces, which a `Reader` reads. A piece is a scalar, a key, or the beginning or end of an array
+//! or table.
 ghost use Rattle.std.specs.Prelude.{◌≡◌, ◌<◌, [], IfOk, OnOk, Some, length, slice_get};
 ghost use Rattle.toml_span.specs.Ordered.{HasOneEach, IsOrdered};
 ghost use Rattle.toml_span_tree.specs.Node.{Node};
@@ -17,15 +18,16 @@ use std::alloc::{AllocError, Global};
 use toml_span_lex::stop::Stop;
 use toml_span_tree::Value;
 
-/// The pieces of a tree, from which a `Reader` reads.
+/// A tree as a list of pieces, which a `Reader` reads: a piece for each scalar and key, and two for each array and
+/// table, at its beginning and end.
 #[derive(Drop)]
 pub struct Row<'v> {
     pieces: Vec<Piece<'v>>,
 }
 
 impl<'v> Row<'v> {
-    /// Converts a tree to a row of pieces: each array and table before the values inside, and the entries of a table in
-    /// the order in which their keys' spans start. Fails if an allocation fails.
+    /// Converts the tree `root` to a row of pieces. The entries of each table are in the order in which their keys'
+    /// spans start. Fails if an allocation fails.
     pub fn new(alloc: Global, root: &'v Value<'_>) -> Result<Row<'v>, AllocError>
         ensures pieces { IfOk result (λ row. pieces_in row ≡ pieces (in_text_order (view root.now))) }
         ensures ordered { OnOk result (IsOrdered (view root.now)) }
@@ -42,9 +44,9 @@ impl<'v> Row<'v> {
         Reader::new(alloc, self.pieces.as_slice())
     }
 
-    /// Converts an error of a reader to a misfit. The misfit has the span of the piece at which the read stopped, and
-    /// the path to the value of that piece. If no piece was left to read, the misfit is at the root. `Stop::Memory`
-    /// stays as it is, and is also returned if an allocation fails.
+    /// Converts an error of a reader of this row to a misfit. The misfit has the span of the piece at which the read
+    /// stopped, and the path to the value of that piece. If no piece was left to read, the misfit is at the root.
+    /// `Stop::Memory` stays as it is, and is also returned if an allocation fails.
     pub fn stopped(&self, alloc: Global, stop: Stop<Misread>) -> Stop<Misfit>
         ensures place { (n : Node) → pieces_in self.now ≡ pieces n → HasOneEach n → IsAt n result }
         ensures reported { (n : Node) → pieces_in self.now ≡ pieces n → IsStopOf n stop result }

@@ -44,7 +44,7 @@ fn render_misfit(
     render(alloc, style, &report, name, text)
 }
 
-/// Adds help that suggests the name `meant` to the report, if there is one.
+/// Adds help that suggests the name `meant` to the report. If `meant` is `None`, returns the report unchanged.
 fn helped(alloc: Global, meant: Option<&str>, report: Report) -> Result<Report, AllocError>
     ensures { IfOk result (λ made. report_content made
         ≡ with_meant (option_map (λ name. name.now) meant.entry) (report_content report)) }

@@ -1,4 +1,4 @@
-//! Records failed attempts to read a piece, such as the attempts for each variant of an `untagged` enum.
+//! Records failed attempts to read a piece, such as the attempts to read each variant of an `untagged` enum.
 ghost use Rattle.std.specs.List.{list_any};
 ghost use Rattle.std.specs.Prelude.{◌≡◌, [], false, OnErr, OnOk};
 ghost use Rattle.std.specs.Str.{bytes_eq};
@@ -11,7 +11,7 @@ use std::alloc::{AllocError, Global};
 /// The failed attempts to read one piece.
 #[derive(Drop)]
 pub(crate) struct Tried {
-    /// The position of the piece among all pieces.
+    /// The position of the piece among all pieces, counted from 0.
     at: usize,
     /// Whether an attempt has read the piece, and failed at a later piece.
     is_taken: bool,
@@ -31,7 +31,8 @@ impl Tried {
         }
     }
 
-    /// Records an attempt that expected this kind at the position `at`. Forgets attempts at any other position.
+    /// Records an attempt that expected the kind `expected` at the position `at`. Forgets attempts at any other
+    /// position.
     pub(crate) fn miss(&mut self, at: usize, expected: Expected) -> Result<(), AllocError>
         ensures { OnOk result (tries self.new ≡ missed at expected (tries self.old)) }
     {
@@ -45,7 +46,7 @@ impl Tried {
         Ok(())
     }
 
-    /// Adds a kind, unless it is there already.
+    /// Appends `expected` to `kinds`, unless it is there already.
     fn add(&mut self, expected: Expected) -> Result<(), AllocError>
         ensures kinds { OnOk result (self.new.kinds.items ≡ with_kind expected self.old.kinds.items) }
         ensures stays { (self.new.at ≡ self.old.at) × (self.new.is_taken ≡ self.old.is_taken) }

@@ -1,4 +1,4 @@
-//! Prints the tree of a TOML document, which it reads from standard input: one line for each value, with its span.
+//! Reads TOML from standard input, and prints the tree, one line for each value with its span, or the error.
 #![tactic(auto)]
 
 use std::process::ExitCode;

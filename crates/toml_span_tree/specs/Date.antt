@@ -7,8 +7,8 @@ use Rattle.std.specs.List.{list_all}
 use Rattle.std.specs.Char.{is_ascii_digit}
 use Rattle.toml_span_lex.specs.Bytes.{space, plus, dash, period, digit_zero, colon}
 
--- Toolchain: as `abbrev` the tests of a date take too long ("computing it took more than 200000 steps"), so they are
--- Bool-valued and `unfoldable`.
+-- Toolchain: as an `abbrev`, the check of a date takes too long ("computing it took more than 200000 steps"). So the
+-- checks are Bool-valued, and the large ones `unfoldable`.
 -- the number that the two digits at i spell
 abbrev pub two_digits : List ℕ → ℕ → ℕ
 two_digits text i = 10 * (slice_index text i - digit_zero) + (slice_index text (i + 1) - digit_zero)
@@ -28,7 +28,7 @@ last_day year month =
     if month == 2 then (if is_leap_year year then 29 else 28)
     else (if month == 4 || month == 6 || month == 9 || month == 11 then 30 else 31)
 
--- `date-fullyear = 4DIGIT`, at the front
+-- the number that the four digits at the front spell: `date-fullyear = 4DIGIT`
 abbrev pub year_of : List ℕ → ℕ
 year_of text = 100 * two_digits text 0 + two_digits text 2
 
@@ -51,7 +51,7 @@ abbrev pub is_time_secfrac : List ℕ → Bool
 is_time_secfrac text =
     slice_index text 0 == period && nat_lt 1 (length text) && list_all is_ascii_digit (drop 1 text)
 
--- `[ ":" time-second [ time-secfrac ] ]`; the second may be 60 in any minute, since there is no table of leap seconds
+-- `[ ":" time-second [ time-secfrac ] ]`; the second may be 60 in any minute, since leap seconds are not checked
 abbrev pub is_seconds : List ℕ → Bool
 is_seconds text =
     length text == 0

@@ -27,7 +27,7 @@ abbrev pub unexpected_keys_message : ℕ → List (List ℕ) → List ℕ
 unexpected_keys_message count expected =
     codes "found " ++ decimal count ++ codes " unexpected keys, expected: " ++ listed quoted expected
 
--- the message for a kind of error, which is empty if the label says everything
+-- the message for a kind of error; it is empty if the label alone describes the error
 abbrev pub message_of : Kind → List ℕ
 message_of unexpected_eof = codes "unexpected end of file"
 message_of exceeded_depth_limit = codes "input exceeds the maximum allowed nesting depth"
@@ -75,7 +75,7 @@ secondary file span message = record { primary = false; file = file; span = span
 abbrev pub own_label : {F : Type 0} → F → Span → Kind → LabelContent F
 own_label file span kind = primary file span (label_text_of kind)
 
--- all labels, in order
+-- all labels of an error whose own span is `span`, in the order in which a diagnostic has them
 abbrev pub labels_of : {F : Type 0} → F → Span → Kind → List (LabelContent F)
 labels_of file span (duplicate_table name first) =
     secondary file first (codes "first table instance") ∷ own_label file span (duplicate_table name first) ∷ []

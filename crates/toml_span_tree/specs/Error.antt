@@ -1,4 +1,4 @@
--- The contents of an error as plain data: a string is its bytes, without capacity or address.
+-- The contents of an error as plain data: a string is the list of its bytes, without capacity or address.
 use Rattle.std.specs.Prelude.{◌≡◌, ℕ, List, Option, map, String, string_bytes}
 use Rattle.std.specs.Global.{Global}
 use Rattle.std.specs.Option.{option_map}
@@ -10,7 +10,7 @@ use Rattle.toml_span_tree.specs.declared.error.Error.{Error}
 use Rattle.toml_span_tree.specs.declared.error.ErrorKind.{ErrorKind}
 use Rattle.toml_span_tree.specs.declared.error.ErrorKind.TheVariants as kinds
 
--- What is wrong. A character is its number, and a string the list of its bytes.
+-- What is wrong. A character is given by its code point, and a string by the list of its bytes.
 pub data Kind : Type 0 where
   unexpected_eof : Kind
   exceeded_depth_limit : Kind
@@ -26,14 +26,14 @@ pub data Kind : Type 0 where
   out_of_range : List ℕ → Kind
   -- what was expected, and what was found
   wanted : List ℕ → List ℕ → Kind
-  -- the table's name, and the earlier header
+  -- the table's name, and the span of the earlier header's line
   duplicate_table : List ℕ → Span → Kind
-  -- the key's name, and the earlier key
+  -- the key's name, and the span of the earlier key
   duplicate_key : List ℕ → Span → Kind
   redefine_as_array : Kind
   multiline_string_key : Kind
   custom : List ℕ → Kind
-  -- the span of the key of the earlier value
+  -- the span of the last part of the earlier value's key
   dotted_key_invalid_type : Span → Kind
   -- the keys with their spans, and the names of the expected ones
   unexpected_keys : List (List ℕ × Span) → List (List ℕ) → Kind
@@ -41,9 +41,9 @@ pub data Kind : Type 0 where
   missing_field : List ℕ → Kind
   -- the old name and the new one
   deprecated : List ℕ → List ℕ → Kind
-  -- the values that were expected, and the one that was found
+  -- the values that were expected, and the text of the one that was found, if it is known
   unexpected_value : List (List ℕ) → Option (List ℕ) → Kind
-  -- the code, the message, and other places with their labels
+  -- the code, the message, and the text and span of each further label
   marked : List ℕ → List ℕ → List (List ℕ × Span) → Kind
 
 -- what is wrong, and where
@@ -89,6 +89,6 @@ kind_of (kinds.Marked code message places) = marked code.now (cow_str_bytes mess
 abbrev pub content_of : Error → ErrorContent
 content_of error = record { kind = kind_of error.kind; span = error.span; line_info = error.line_info }
 
--- The stop is a fault that `gives` makes from the error.
+-- `why` is a `Fault` with a value into which the error is converted. `gives` relates each error to its conversion.
 abbrev pub IsFaultOf : {E : Type 0} → (Error → E → Type 0) → Error → Stop E → Type 0
 IsFaultOf gives error why = (fault : _) × gives error fault × (why ≡ stop.Fault fault)

@@ -1,4 +1,4 @@
--- The JSON value of a tree, without spans. Floats and dates are strings.
+-- The JSON value of a tree, without spans. Floats, dates and times are strings.
 use Rattle.serde_json.specs.Data as json
 use Rattle.serde_json.specs.Find.{of_integer}
 use Rattle.toml_span_tree.specs.Float.{float_text}

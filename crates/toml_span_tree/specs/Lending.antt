@@ -12,7 +12,7 @@ use Rattle.toml_span_tree.specs.Pointer.{put_pointed}
 abbrev pub value_row : RattleType
 value_row = value.the_row (record { mir = named 1; lft = [] })
 
--- When the borrows end, the tree of s has the final value of r at the place that the pointer names. If r is None, the
+-- When the borrows end, the tree that s borrows has the final value of r where the pointer p leads. If r is None, the
 -- tree is unchanged.
 abbrev pub lends_pointed : MutBor Value → List ℕ → Option (MutBor Value) → Fml
 lends_pointed s p r =

@@ -11,7 +11,7 @@ use Rattle.toml_span_tree.specs.Error.{duplicate_table, duplicate_key, redefine_
 use Rattle.toml_span_tree.specs.Error.{dotted_key_invalid_type, unexpected_keys, unquoted_string, missing_field}
 use Rattle.toml_span_tree.specs.Error.{deprecated, unexpected_value, marked}
 
--- the code of a kind
+-- the code of a kind of error
 abbrev pub code_of : Kind → List ℕ
 code_of unexpected_eof = codes "unexpected-eof"
 code_of exceeded_depth_limit = codes "exceeded-depth-limit"
@@ -38,7 +38,7 @@ code_of (deprecated old new) = codes "deprecated"
 code_of (unexpected_value expected value) = codes "unexpected-value"
 code_of (marked code message places) = code
 
--- a character in a message
+-- a character as it appears in a message: white space other than a space as an escape, any other character as itself
 abbrev pub char_text : ℕ → List ℕ
 char_text c = if is_whitespace c then escaped_char c else encode_utf8 c
 

@@ -15,14 +15,15 @@ pub data Step : Type 0 where
 abbrev pub Path : Type 0
 Path = List Step
 
--- what is at a place: that it has been taken, or its kind and, for a scalar, its value
+-- the kind of a value and, for a scalar, its content; or that the content of the value has been taken
 pub data Shape : Type 0 where
   shape_taken : Shape
   shape_scalar : Scalar → Shape
   shape_array : Shape
   shape_table : Shape
 
--- The place at a path. It has the span of a key if it is an entry of a table.
+-- The place at a path: the shape and the span of the value there and, if it is an entry of a table, the span of its
+-- key.
 pub record Place : Type 0 where
   pub shape : Shape
   pub key_span : Option Span
@@ -43,7 +44,7 @@ at_step (position i) (array ns) = element_at i ns
 at_step (key name) (table ms) = entry_at name ms
 at_step (position i) (table ms) = None
 
--- the value at a path, with the span of the last step's key
+-- the value to which the path leads from n, with the span of its key, if it has one
 abbrev pub reached : Path → Option Span × Node → Option (Option Span × Node)
 reached [] n = Some n
 reached (s ∷ path) n = option_and_then (reached path) (at_step s (inner_of n.1))
@@ -51,7 +52,7 @@ reached (s ∷ path) n = option_and_then (reached path) (at_step s (inner_of n.1
 abbrev pub place_of : Option Span × Node → Place
 place_of n = record { shape = shape_of (inner_of n.1); key_span = n.0; span = span_of n.1 }
 
--- the path map
+-- the path map: the place at a path of the tree n
 abbrev pub place_at : Path → Node → Option Place
 place_at path n = option_map place_of (reached path (None, n))
 

@@ -13,7 +13,7 @@ abbrev pub is_decimal_form : List ℕ → Bool
 is_decimal_form text =
     nat_lt 0 (length text) && all_ascii_digits text && (length text == 1 || not (slice_index text 0 == digit_zero))
 
--- the position that the segment spells
+-- the position that a segment spells; None if the segment does not have the decimal form
 unfoldable pub position_of : List ℕ → Option ℕ
 position_of text = if is_decimal_form text then Some (digits_value 10 text) else None
 
@@ -48,7 +48,8 @@ unfoldable pub segments : List ℕ → List (List ℕ)
 segments [] = [] ∷ []
 segments (x ∷ xs) = if x == slash then [] ∷ segments xs else push_front x (segments xs)
 
--- The segments of a pointer: none if it is empty, otherwise those after its first slash. None if it is not a pointer.
+-- The segments of a pointer: an empty list if it is empty, otherwise the segments after its first slash. None if the
+-- text is not a pointer.
 unfoldable pub pointer_segments : List ℕ → Option (List (List ℕ))
 pointer_segments [] = Some []
 pointer_segments (x ∷ xs) = if x == slash then Some (segments xs) else None
@@ -69,18 +70,18 @@ put_where_named (Some path) w n = put path w n
 abbrev pub put_pointed : List ℕ → Node → Node → Node
 put_pointed pointer w n = put_where_named (pointed_path pointer n) w n
 
--- the positions differ, if there are two
+-- whether two positions differ; true if one or both are None
 abbrev pub positions_apart : Option ℕ → Option ℕ → Bool
 positions_apart None o = true
 positions_apart (Some i) None = true
 positions_apart (Some i) (Some j) = not (i == j)
 
 -- The segments select different values in any table or array: their bytes differ, and so do the positions that they
--- spell, if they spell any.
+-- spell, if both spell one.
 abbrev pub segments_apart : List ℕ → List ℕ → Bool
 segments_apart segment other = not (bytes_eq segment other) && positions_apart (position_of segment) (position_of other)
 
--- The segments differ at some position. Those after it may be anything.
+-- Both lists have a segment at some position, and these two segments differ. Those after them may be anything.
 abbrev pub paths_part : List (List ℕ) → List (List ℕ) → Bool
 paths_part [] others = false
 paths_part (segment ∷ more) [] = false

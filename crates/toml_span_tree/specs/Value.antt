@@ -1,5 +1,5 @@
--- Values as plain data, and what the methods of `Value` and `ValueInner` return. Plain data does not say whether a
--- string is borrowed.
+-- Values as plain data, and what the methods of `Value` and `ValueInner` return. Plain data leaves out whether a string
+-- is borrowed.
 use Rattle.std.specs.Prelude.{ℕ, ℤ, List, [], ◌∷◌, map, Bool, true, false, Option, Some, None, option_and_then, ◌&&◌}
 use Rattle.std.specs.Prelude.{codes, string_bytes}
 use Rattle.std.specs.Cow.{cow_str_bytes}
@@ -34,7 +34,7 @@ abbrev pub members_of : List (Key × Node) → Members
 members_of [] = no_members
 members_of (m ∷ ms) = member (cow_str_bytes m.0.name) m.0.span m.1 (members_of ms)
 
--- one level of each type, with the values inside already converted
+-- the conversions to plain data for one level of the tree, where the values inside are already converted
 abbrev pub inner_step : ValueInner-F Inner Node → Inner
 inner_step (ValueInner-F.String s) = scalar (text (cow_str_bytes s))
 inner_step (ValueInner-F.Integer z) = scalar (integer z)
@@ -109,7 +109,7 @@ abbrev pub members_in : Inner → Option Members
 members_in (table ms) = Some ms
 members_in _ = None
 
--- a scalar of one kind; None if it is of another kind
+-- the content of a scalar of one kind; None if the scalar is of another kind
 abbrev pub text_of : Scalar → Option (List ℕ)
 text_of (text s) = Some s
 text_of _ = None
@@ -159,16 +159,16 @@ kind_name (scalar s) = scalar_kind s
 kind_name (array ns) = codes "array"
 kind_name (table ms) = codes "table"
 
--- whether there is an entry
+-- whether there is at least one entry
 abbrev pub is_filled : Members → Bool
 is_filled no_members = false
 is_filled (member name key n ms) = true
 
--- whether the value is a table with an entry
+-- whether the value is a table with at least one entry
 abbrev pub has_members : Inner → Bool
 has_members (table ms) = is_filled ms
 has_members _ = false
 
--- the error that names what was expected and the kind of the value that was found
+-- the error `Wanted` at the value's span, which names the expected kind and the kind that was found
 abbrev pub wrong_kind : List ℕ → Node → ErrorContent
 wrong_kind expected n = record { kind = wanted expected (kind_name (inner_of n)); span = span_of n; line_info = None }

@@ -1,3 +1,3 @@
--- How the functions share the work. Nothing else in `specs/` cites it.
+-- Definitions that only inner functions need. Nothing else in `specs/` cites them.
 pub mod Pointer
 pub mod Lending

@@ -38,15 +38,15 @@ impl<'de> DateText<'de> {
     }
 }
 
-/// Returns the byte at the offset `at`, or 0 at or after the end of the text.
+/// Returns the byte at the offset `at`, or 0 if the text is too short.
 fn byte_at(text: &[u8], at: usize) -> u8
     ensures { result ≡ slice_index text.now at }
 {
     text.get(at).copied().unwrap_or(0)
 }
 
-/// Returns the number that the two digits at the byte offset `at` spell. The result is meaningless if there are no two
-/// digits.
+/// Returns the number that the two digits at the byte offset `at` spell. The result is meaningless if one of the two
+/// bytes is not a digit.
 fn two_digits(text: &[u8], at: usize) -> u32
     requires { at < 100 }
     ensures value { result ≡ spec.two_digits text.now at }
@@ -77,7 +77,7 @@ fn is_leap_year(year: u32) -> bool
     (year % 4 == 0 && year % 100 != 0) || year % 400 == 0
 }
 
-/// Returns the number of days of a month in this year. `month` counts from 1.
+/// Returns the number of days in a month of `year`. `month` is counted from 1.
 fn last_day(year: u32, month: u32) -> u32
     ensures { result ≡ spec.last_day year month }
 {

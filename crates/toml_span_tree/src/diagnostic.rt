@@ -11,12 +11,12 @@ use crate::message::Shown;
 use std::alloc::{AllocError, Global};
 use toml_span_lex::span::Span;
 
-/// An error in the form that editors and terminals show: a message, and places with labels.
+/// An error in the form that editors and terminals show: a code, a message and labeled spans.
 #[derive(Debug, Drop)]
 pub struct Diagnostic<F> {
     /// The code of the error's kind, such as `duplicate-key`.
     pub code: String,
-    /// What is wrong, or an empty string if the labels say it.
+    /// What is wrong, or an empty string if the primary label alone describes the error.
     pub message: String,
     /// The primary label, at the error's own span, then the secondary labels. For a duplicate key or table, the label
     /// of the earlier key or table comes first. For unexpected keys, there is one secondary label for each key, and no
@@ -27,8 +27,8 @@ pub struct Diagnostic<F> {
 /// A span in a file, and a text to show there.
 #[derive(Debug, Drop)]
 pub struct Label<F> {
-    /// Whether this label is at the place of the error. Other labels mark related places, such as the first of two
-    /// equal keys.
+    /// Whether this label is at the error's own span. Other labels mark, for example, the first of two equal keys, or
+    /// an unexpected key.
     pub primary: bool,
     /// The file, as the caller of `to_diagnostic` identified it.
     pub file: F,
@@ -39,7 +39,7 @@ pub struct Label<F> {
 }
 
 impl ErrorKind<'_> {
-    /// Returns the message of the diagnostic, or an empty string if the label replaces it.
+    /// Returns the message of the diagnostic, or an empty string if the primary label alone describes the error.
     fn message(&self, alloc: Global) -> Result<String, AllocError>
         ensures { IfOk result (λ text. string_bytes text ≡ message_of (kind_of self.now)) }
     {
@@ -70,7 +70,8 @@ impl ErrorKind<'_> {
         }
     }
 
-    /// Returns the text of the label at the error's own span, or an empty string.
+    /// Returns the text of the label at the error's own span, or an empty string if the message alone describes the
+    /// error.
     fn label_text(&self, alloc: Global) -> Result<String, AllocError>
         ensures { IfOk result (λ text. string_bytes text ≡ label_text_of (kind_of self.now)) }
     {

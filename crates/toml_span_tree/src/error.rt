@@ -1,4 +1,4 @@
-//! Errors: what is wrong with a document, and where.
+//! Errors: what is wrong with an input, and where.
 ghost use Rattle.std.specs.Prelude.{◌≡◌, map, IfOk, string_bytes};
 ghost use Rattle.toml_span_tree.specs.Error.{content_of, kind_of, marked_keys};
 
@@ -8,15 +8,15 @@ use toml_span_lex::span::Span;
 use toml_span_lex::stop::Stop;
 
 // Toolchain: `'static` strings in errors would make the check refuse a generic function with `T: Deserialize<'de>` ("a
-// call goes by a bound that names a lifetime of the function, whose signature names `'static`"). So they have the
-// lifetime of the text.
+// call goes by a bound that names a lifetime of the function, whose signature names `'static`"). So the strings have
+// the lifetime of the input.
 /// What is wrong. Kinds marked "typed reads" come from reading a tree as a type. The others come from `parse`; `Wanted`
 /// and `DuplicateKey` come from both. Spans are byte offsets, end exclusive.
 #[derive(Debug, Drop)]
 pub enum ErrorKind<'s> {
     /// The input ends where a value is expected.
     UnexpectedEof,
-    /// A value is nested too deep, or a header or dotted key has too many parts.
+    /// A value is nested too deeply, or a header or dotted key has too many parts.
     ExceededDepthLimit,
     /// A character that may not occur in a string.
     InvalidCharInString(char),
@@ -57,7 +57,7 @@ pub enum ErrorKind<'s> {
     RedefineAsArray,
     /// A multi-line string as a key.
     MultilineStringKey,
-    /// An error with a message of its own (typed reads).
+    /// An error with its own message (typed reads).
     Custom(CowStr<'s>),
     /// A dotted key that goes through an earlier value that can't be extended: an inline table, or a value that is not
     /// a table. `first` is the span of the last part of that value's key.
@@ -73,7 +73,7 @@ pub enum ErrorKind<'s> {
     UnquotedString,
     /// The name of a field that the table lacks (typed reads).
     MissingField(&'s str),
-    /// A field that is given under its old name (typed reads that warn).
+    /// A field that the input has under its old name (typed reads that warn).
     Deprecated {
         old: &'s str,
         new: &'s str,
@@ -83,9 +83,9 @@ pub enum ErrorKind<'s> {
         expected: &'s [&'s str],
         value: Option<String>,
     },
-    /// An error with a code and message of its own, and more places with their labels (typed reads).
-    /// `TableHelper::keep_repeated` uses the code `duplicate-name`, and reads of `InRange` use `out-of-range`.
-    /// `toml_span_serde` and callers use other codes.
+    /// An error with its own code and message, and with further labeled spans (typed reads). `places` has the text and
+    /// the span of each label. `TableHelper::keep_repeated` uses the code `duplicate-name`, and reads of `InRange` use
+    /// `out-of-range`. `toml_span_serde` and callers use other codes.
     Marked {
         code: &'s str,
         message: CowStr<'s>,
@@ -97,7 +97,7 @@ pub enum ErrorKind<'s> {
 #[derive(Debug, Drop)]
 pub struct Error<'s> {
     pub kind: ErrorKind<'s>,
-    /// The bytes of the document that the error is about. The span may end after the document, or inside a character.
+    /// The bytes of the input that the error is about. The span may end after the input, or inside a character.
     pub span: Span,
     /// The line and the column of `span.start`, both counted from 0, the column in bytes. `None` if they are not known,
     /// as in typed reads.

@@ -13,7 +13,7 @@ use std::alloc::{AllocError, Global};
 use toml_span_lex::key::Key;
 
 impl Value<'_> {
-    /// Converts the value to a JSON value of the same shape, without spans. Floats and dates become strings.
+    /// Converts the value to a JSON value of the same structure, without spans. Floats, dates and times become strings.
     ///
     /// Callers must prove that nothing has been taken from the value (`is_whole`). Fails if an allocation fails.
     pub fn to_json(&self, alloc: Global) -> Result<Json, AllocError>
@@ -121,7 +121,7 @@ fn put_entry(
     insert(made, name, json)
 }
 
-/// Inserts `json` into `made` under `name`, in place of an earlier value with this name.
+/// Inserts `json` into `made` under `name`. Replaces an earlier value with this name.
 fn insert(made: &mut Map<String, Json>, name: String, json: Json) -> Result<(), AllocError>
     ensures { OnOk result (json_members_view made.new.entries
         ≡ put (string_bytes name) (json_view json) (json_members_view made.old.entries)) }

@@ -1,4 +1,5 @@
-//! Laws: facts about the definitions, stated as functions that do nothing.
+//! Laws: facts about the definitions, stated as functions that do nothing. The segments of a pointer are the parts that
+//! its slashes separate.
 ghost use Rattle.std.specs.Prelude.{◌≡◌, ◌↔◌, ◌<◌, ◌^◌, ℕ, List, [], Some, IsTrue, true, false, decimal};
 ghost use Rattle.toml_span_tree.specs.Node.{Node};
 ghost use Rattle.toml_span_tree.specs.Path.{Path, Place, shape_of, place_at, node_at, put, BeginsWith};
@@ -11,8 +12,8 @@ ghost use Rattle.toml_span_tree.specs.Value.{inner_of, span_of, is_taken, date_b
 use crate::date::DateText;
 use crate::float::FloatText;
 
-/// A text is a date text if and only if it is a date, or a time, or a date and a time with a separator between them and
-/// perhaps a time offset after them.
+/// A text is a date text if and only if it is one of these: a date; a time; or a date, a separator, a time and
+/// optionally a time offset.
 pub fn date_texts()
     ensures { (text : List ℕ) → IsDateText text ↔ IsDateOrTime text }
 {}
@@ -23,7 +24,8 @@ pub fn equal_dates()
         → IsTrue (⟦<DateText<'static> as PartialEq>⟧.eq x y) ↔ (date_bytes x ≡ date_bytes y) }
 {}
 
-/// Two floats are equal if and only if they are of the same kind, and their texts or signs are equal.
+/// Two floats are equal if and only if both are finite with the same text, both are infinite with the same sign, or
+/// both are NaN with the same sign.
 pub fn equal_floats()
     ensures { (x y : FloatText)
         → IsTrue (⟦<FloatText as PartialEq>⟧.eq x y) ↔ (float_value x ≡ float_value y) }
@@ -34,14 +36,16 @@ pub fn put_stands()
     ensures { (path : Path) (n m w : Node) → node_at path n ≡ Some m → node_at path (put path w n) ≡ Some w }
 {}
 
-/// A value that is put in place of an old value keeps its own kind and span, and gets the key span of the old value.
+/// A value that replaces an old value keeps its own kind and span and, if it is a scalar, its content. Its key has the
+/// span of the old value's key.
 pub fn put_keeps_the_key()
     ensures { (path : Path) (n w : Node) (p : Place) → place_at path n ≡ Some p
         → place_at path (put path w n)
         ≡ Some (record { shape = shape_of (inner_of w); key_span = p.key_span; span = span_of w }) }
 {}
 
-/// If a value is put at `path`, then all paths that do not begin with `path` keep their places.
+/// If a value is put at `path`, then at each path that does not begin with `path`, the kind and the spans are the same
+/// as before, and so is the content of a scalar.
 pub fn put_keeps_the_rest()
     ensures { (path other : Path) (n w : Node) → (BeginsWith path other → ⊥)
         → place_at other (put path w n) ≡ place_at other n }
@@ -58,20 +62,20 @@ pub fn positions_are_decimal()
     ensures { (i : ℕ) (segment : List ℕ) → i < 2 ^ 64 → (position_of segment ≡ Some i) ↔ (segment ≡ decimal i) }
 {}
 
-/// The empty pointer finds the value itself, even if its content has been taken.
+/// The empty pointer finds the value at which the look-up starts, even if its content has been taken.
 pub fn empty_pointer()
     ensures { (n : Node) → pointed [] n ≡ Some n }
 {}
 
-/// If a pointer finds a value, and another value is put there, then the pointer finds the new value, unless its content
-/// has been taken.
+/// If a pointer finds a value, and a new value replaces it, then the pointer finds the new value, provided that the
+/// content of the new value has not been taken.
 pub fn pointer_names_what_was_put()
     ensures { (pointer : List ℕ) (n m w : Node) → is_taken w ≡ false → pointed pointer n ≡ Some m
         → pointed pointer (put_pointed pointer w n) ≡ Some w }
 {}
 
-/// After a value is put at a pointer, a pointer that differs from it in a segment, and not only in the number of
-/// segments, finds the same value as before.
+/// Replacing the value that one pointer finds changes nothing for another pointer, if the two differ in a segment that
+/// both have: the other pointer finds the same value as before, or again none.
 pub fn other_pointers_keep()
     ensures { (pointer other : List ℕ) (n m w : Node) → pointed pointer n ≡ Some m → pointers_part pointer other ≡ true
         → pointed other (put_pointed pointer w n) ≡ pointed other n }

@@ -1,4 +1,4 @@
-//! Values with spans, and the errors of a TOML document.
+//! Values with spans, pointers to them, and the errors of `parse` and of typed reads.
 #![tactic(auto)]
 
 mod date;

@@ -10,7 +10,7 @@ use std::fmt;
 use std::fmt::{Display, Formatter, Write};
 use toml_span_lex::span::Span;
 
-/// Writes white space or a control character as an escape, except a space, which it writes as it is.
+/// Writes `c` as an escape, or as itself if it is a space. `c` must be white space or a control character.
 pub(crate) fn write_escaped<W: Write>(f: &mut Formatter<W>, c: char) -> fmt::Result
     ensures { WritesOnOk W.write_str_gives f.old result (escaped_char c) f.new }
 {
@@ -54,8 +54,8 @@ fn write_quoted_chars<W: Write>(f: &mut Formatter<W>, name: &str) -> fmt::Result
 }
 
 /// A type whose values can be printed as items of a list.
-// Toolchain: the contract of std's `Debug` leaves text beyond ASCII open (`debug_output` is `None`), so this code
-// prints lists.
+// Toolchain: for text that is not ASCII, the contract of std's `Debug` leaves the output open (`debug_output` is
+// `None`). So this file prints lists itself.
 pub(crate) trait Item {
     ghost shown: { Self → List ℕ };
 
@@ -82,7 +82,7 @@ impl Item for String {
     }
 }
 
-/// Writes a span as `Debug` does, with the names of its fields.
+/// Writes `span` as its `Debug` does: `Span { start: 16, end: 17 }`.
 fn write_span<W: Write>(f: &mut Formatter<W>, span: Span) -> fmt::Result
     ensures { WritesOnOk W.write_str_gives f.old result (span_text span) f.new }
 {
@@ -103,7 +103,7 @@ impl Item for (String, Span) {
     }
 }
 
-/// Writes each item after a comma and a space.
+/// Writes the items, each preceded by a comma and a space.
 fn write_more<T: Item, W: Write>(f: &mut Formatter<W>, items: &[T]) -> fmt::Result
     ensures { WritesOnOk W.write_str_gives f.old result
         (flat_map (λ item. codes ", " ++ T.shown item) items.now) f.new }
@@ -138,7 +138,7 @@ fn write_listed<T: Item, W: Write>(f: &mut Formatter<W>, items: &[T]) -> fmt::Re
     f.write_str("]")
 }
 
-/// A list of names.
+/// A list of names, displayed as `["a", "b"]`.
 #[derive(Clone, Copy)]
 pub(crate) struct Names<'a>(pub(crate) &'a [String]);
 
@@ -150,7 +150,7 @@ impl Display for Names<'_> {
     }
 }
 
-/// A list of borrowed names.
+/// A list of borrowed names, displayed as `["a", "b"]`.
 #[derive(Clone, Copy)]
 pub(crate) struct LentNames<'a>(pub(crate) &'a [&'a str]);
 
@@ -162,7 +162,7 @@ impl Display for LentNames<'_> {
     }
 }
 
-/// A list of keys with their spans.
+/// A list of keys with their spans, displayed as `[("a", Span { start: 16, end: 17 })]`.
 #[derive(Clone, Copy)]
 pub(crate) struct Keys<'a>(pub(crate) &'a [(String, Span)]);
 

@@ -1,4 +1,5 @@
-//! Look-ups by strings that need not live as long as the document.
+//! Look-ups by strings that need not live as long as the document. The segments of a pointer are the parts that its
+//! slashes separate.
 ghost use Rattle.std.specs.Prelude.{◌≡◌, option_map};
 ghost use Rattle.toml_span_tree.specs.Node.{get_member};
 ghost use Rattle.toml_span_tree.specs.code.Pointer.{entry, value_named, untaken_entry};
@@ -25,8 +26,8 @@ fn entry_named<'v, 'de>(table: &'v Table<'de>, name: &str) -> Option<&'v Value<'
 }
 
 impl<'de> ValueInner<'de> {
-    /// Returns the value that a segment selects: an entry of a table, or an element of an array. Returns `None` if it
-    /// selects nothing.
+    /// Returns the value that `segment` selects: of a table, the value of the entry with this name; of an array, the
+    /// element at this position. Returns `None` if no such value exists.
     fn entry_of(&self, segment: &str) -> Option<&Value<'de>>
         ensures { option_map (λ v. view v.now) result ≡ entry segment.now (inner_view self.now) }
     {
@@ -39,8 +40,8 @@ impl<'de> ValueInner<'de> {
 }
 
 impl<'de> Value<'de> {
-    /// Returns the value that a segment selects in this value. Returns `None` if it selects nothing, or if the content
-    /// of this value or of the selected one has been taken.
+    /// Returns the value that `segment` selects in this value. Returns `None` if no such value exists, or if the
+    /// content of this value or of the selected one has been taken.
     fn entry_of(&self, segment: &str) -> Option<&Self>
         ensures { option_map (λ v. view v.now) result ≡ untaken_entry segment.now (view self.now) }
     {
@@ -51,7 +52,7 @@ impl<'de> Value<'de> {
     }
 
     /// Follows the segments of `path`, a pointer without its first `/`, from this value. Returns the value to which
-    /// they lead. Returns `None` if they lead to no value, or if a value on the way or at the end is taken.
+    /// they lead. Returns `None` if no such value exists, or if it, this value or a value on the way is taken.
     fn found_by(&self, path: &str) -> Option<&Self>
         ensures { option_map (λ v. view v.now) result ≡ value_named (segments path.now) (view self.now) }
     {
@@ -63,8 +64,8 @@ impl<'de> Value<'de> {
         }
     }
 
-    /// Returns the value that the pointer names, or `None` if it names no value, as the method `pointer` does. Here the
-    /// string need not live as long as the document, so it can be built at run time.
+    /// Returns the value that `pointer` names, or `None` if it names no value. The method `pointer` does the same, but
+    /// its string must live as long as the document. Here the string can be built at run time.
     ///
     /// Takes time linear in the number of entries of the tables on the way, since it compares names one by one. For
     /// large tables or repeated look-ups, use a `Pointer` and `at`.

@@ -72,7 +72,8 @@ fn push_visited<'t, 'de>(
     Ok(())
 }
 
-/// Appends the value at `path`, and all values inside it, to `list`. If an allocation fails, `list` has some of them.
+/// Appends `value` and all values inside it to `list`. `key` and `path` are those of `value`. If an allocation fails,
+/// `list` has some of them.
 #[cycle(push_node)]
 fn push_node<'t, 'de>(
     alloc: Global,
@@ -95,7 +96,7 @@ fn push_node<'t, 'de>(
     }
 }
 
-/// Appends the elements of the array at `path`, and all values inside them, to `list`. If an allocation fails, `list`
+/// Appends all `elements` of the array at `path`, and all values inside them, to `list`. If an allocation fails, `list`
 /// has some of them.
 #[cycle(push_node)]
 fn push_elements<'t, 'de>(

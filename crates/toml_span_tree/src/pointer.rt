@@ -54,8 +54,8 @@ fn table_entry<'v, 'de>(table: &'v Table<'de>, name: &'de str) -> Option<&'v Val
     table.get(&Key::named(name))
 }
 
-/// Returns the element at the position that the segment spells. Returns `None` if the segment spells no position, or if
-/// there is no element at that position.
+/// Returns the element at the position that `segment` spells. Returns `None` if it spells no position, or if the array
+/// has no element there.
 pub(crate) fn array_entry<'v, 'de>(array: &'v Array<'de>, segment: &str) -> Option<&'v Value<'de>>
     ensures { option_map (λ v. view v.now) result
         ≡ option_and_then (λ i. get_item i (items_view array.now.items)) (position_of segment.now) }
@@ -64,8 +64,8 @@ pub(crate) fn array_entry<'v, 'de>(array: &'v Array<'de>, segment: &str) -> Opti
 }
 
 impl<'de> ValueInner<'de> {
-    /// Returns the value that a segment selects: an entry of a table, or an element of an array. Returns `None` if it
-    /// selects nothing.
+    /// Returns the value that `segment` selects: of a table, the value of the entry with this name; of an array, the
+    /// element at this position. Returns `None` if no such value exists.
     fn entry(&self, segment: &'de str) -> Option<&Value<'de>>
         ensures { option_map (λ v. view v.now) result ≡ entry segment.now (inner_view self.now) }
     {
@@ -78,8 +78,8 @@ impl<'de> ValueInner<'de> {
 }
 
 impl<'de> Value<'de> {
-    /// Returns the value that a segment selects in this value. Returns `None` if it selects nothing, or if the content
-    /// of this value or of the selected one has been taken.
+    /// Returns the value that `segment` selects in this value. Returns `None` if no such value exists, or if the
+    /// content of this value or of the selected one has been taken.
     fn entry(&self, segment: &'de str) -> Option<&Self>
         ensures { option_map (λ v. view v.now) result ≡ untaken_entry segment.now (view self.now) }
     {
@@ -97,7 +97,7 @@ impl<'de> Value<'de> {
     }
 
     /// Follows the segments of `path`, a pointer without its first `/`, from this value. Returns the value to which
-    /// they lead. Returns `None` if they lead to no value, or if a value on the way or at the end is taken.
+    /// they lead. Returns `None` if no such value exists, or if it, this value or a value on the way is taken.
     fn found(&self, path: &'de str) -> Option<&Self>
         ensures { option_map (λ v. view v.now) result ≡ value_named (segments path.now) (view self.now) }
     {
@@ -109,12 +109,12 @@ impl<'de> Value<'de> {
         }
     }
 
-    /// Returns the value that the pointer names, or `None` if it names no value.
+    /// Returns the value that `pointer` names, or `None` if it names no value.
     ///
     /// The empty pointer names `self`, even if its content has been taken. Any other pointer begins with `/`, and `/`
-    /// separates its segments. A segment is the name of a key in a table. In an array it is a position, from 0 and in
-    /// range: decimal digits without a sign, and without a leading zero unless it is `0`. A value below `self` is not
-    /// found if its content, or the content of a value around it, has been taken.
+    /// separates its segments; escapes are not supported. In a table, a segment is the name of a key. In an array, it
+    /// is a position, counted from 0: decimal digits without a sign, and without a leading zero unless it is `0`. A
+    /// value below `self` is not found if its content, or the content of a value around it, has been taken.
     pub fn pointer(&self, pointer: &'de str) -> Option<&Self>
         ensures { option_map (λ v. view v.now) result ≡ pointed pointer.now (view self.now) }
     {
@@ -126,9 +126,9 @@ impl<'de> Value<'de> {
 }
 
 impl<'de> ValueInner<'de> {
-    /// Puts `new` in place of the value that `segment` selects or, if `rest` is given, of the value to which its
-    /// segments lead from there. Returns the old value. Returns `Err(new)` if there is no such value, or if it or a
-    /// value on the way is taken.
+    /// Replaces a value with `new`: the value that `segment` selects or, if `rest` is `Some`, the value to which the
+    /// segments of `rest` lead from there. Returns the old value. Returns `Err(new)` if no such value exists, or if it
+    /// or a value on the way is taken.
     #[cycle(replace)]
     fn replace_found(
         &mut self,
@@ -149,9 +149,9 @@ impl<'de> ValueInner<'de> {
     }
 }
 
-/// Puts `new` in place of the value of the entry `name` or, if `rest` is given, of the value to which its segments lead
-/// from there. Returns the old value. Returns `Err(new)` if there is no such value, or if it or a value on the way is
-/// taken.
+/// Replaces a value with `new`: the value of the entry `name` or, if `rest` is `Some`, the value to which the segments
+/// of `rest` lead from there. Returns the old value. Returns `Err(new)` if no such value exists, or if it or a value on
+/// the way is taken.
 #[cycle(replace)]
 fn replace_entry<'de>(
     table: &mut Table<'de>,
@@ -170,9 +170,9 @@ fn replace_entry<'de>(
     }
 }
 
-/// Puts `new` in place of the element at the position that `segment` spells or, if `rest` is given, of the value to
-/// which its segments lead from there. Returns the old value. Returns `Err(new)` if there is no such value, or if it or
-/// a value on the way is taken.
+/// Replaces a value with `new`: the element at the position that `segment` spells or, if `rest` is `Some`, the value to
+/// which the segments of `rest` lead from there. Returns the old value. Returns `Err(new)` if no such value exists, or
+/// if it or a value on the way is taken.
 #[cycle(replace)]
 fn replace_element<'de>(
     array: &mut Array<'de>,
@@ -196,8 +196,8 @@ fn replace_element<'de>(
 }
 
 impl<'de> Value<'de> {
-    /// Returns a mutable reference to the value that the pointer names, or `None` if it names no value. The method
-    /// `pointer` describes pointers.
+    /// Returns a mutable reference to the value that `pointer` names, or `None` if it names no value. See the method
+    /// `pointer` for the form of pointers.
     pub fn pointer_mut(&mut self, pointer: &'de str) -> Option<&mut Self>
         ensures* writes_back { sem 𝓛 (lends_pointed self.entry pointer.now result) }
         ensures value { option_map (λ v. view v.now) result ≡ pointed pointer.now (view self.old) }
@@ -209,9 +209,9 @@ impl<'de> Value<'de> {
         None
     }
 
-    /// Puts `new` in place of this value or, if `rest` is given, of the value to which its segments lead from this
-    /// value. Returns the old value. Returns `Err(new)` if they lead to no value, or if this value, a value on the way,
-    /// or the value at the end is taken.
+    /// Replaces a value with `new`: this value or, if `rest` is `Some`, the value to which the segments of `rest` lead
+    /// from this value. Returns the old value. Returns `Err(new)` if no such value exists, or if it, this value or a
+    /// value on the way is taken.
     #[cycle(replace)]
     fn replace_here(&mut self, rest: Option<&'de str>, new: Self) -> Result<Self, Self>
         ensures { Exchanged result new.entry (segments_after (option_map (λ r. r.now) rest.entry))
@@ -226,9 +226,9 @@ impl<'de> Value<'de> {
         }
     }
 
-    /// Puts `new` in place of the value to which the segments of `path`, a pointer without its first `/`, lead from
-    /// this value. Returns the old value. Returns `Err(new)` if they lead to no value, or if a value on the way or at
-    /// the end is taken.
+    /// Replaces a value with `new`: the value to which the segments of `path`, a pointer without its first `/`, lead
+    /// from this value. Returns the old value. Returns `Err(new)` if no such value exists, or if it, this value or a
+    /// value on the way is taken.
     #[cycle(replace)]
     fn replace_found(&mut self, path: &'de str, new: Self) -> Result<Self, Self>
         ensures { Exchanged result new.entry (segments path.now) (Some (view self.old)) (λ w. view self.new ≡ w)
@@ -241,18 +241,18 @@ impl<'de> Value<'de> {
         }
     }
 
-    /// Puts `new`, with its own span, in place of the value that the pointer names. Returns the old value. Keys, their
+    /// Replaces the value that `pointer` names with `new`, and returns the old value. `new` keeps its span. Keys, their
     /// spans and all other values are unchanged.
     ///
-    /// If the pointer names no value, returns `Err(new)`, and nothing changes.
+    /// If `pointer` names no value, returns `Err(new)`, and nothing changes.
     pub fn replace(&mut self, pointer: &'de str, new: Self) -> Result<Self, Self>
         ensures done { IfOk result (λ old. (pointed pointer.now (view self.old) ≡ Some (view old))
             × (view self.new ≡ put_pointed pointer.now (view new.entry) (view self.old))) }
         ensures refused { IfErr result (λ back. (back ≡ new.entry) × (pointed pointer.now (view self.old) ≡ None)
             × (view self.new ≡ view self.old)) }
     {
-        // Toolchain: callers learn nothing about a `&mut Value<'de>` that `pointer_mut` returns. Proofs about writes
-        // use this function instead.
+        // Toolchain: in its callers, the prover can't follow a write through the `&mut Value<'de>` that `pointer_mut`
+        // returns. So proofs about writes use this function.
         if pointer.is_empty() {
             return Ok(mem::replace(self, new));
         }
@@ -431,7 +431,7 @@ fn at_pointer<'v, 'de>(value: &'v mut Value<'de>, pointer: &'de str) -> &'v mut 
     at_path(value, path)
 }
 
-/// Returns whether the pointer names a value. Takes a mutable reference, like `pointer_mut`, but changes nothing.
+/// Returns whether `pointer` names a value. Takes a mutable reference, like `pointer_mut`, but changes nothing.
 fn is_pointed<'x, 'de>(value: &'x mut Value<'de>, pointer: &'de str) -> bool
     ensures some { result ≡ true → IsSome (pointed pointer.now (view value.old)) }
     ensures none { result ≡ false → pointed pointer.now (view value.old) ≡ None }

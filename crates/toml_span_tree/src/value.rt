@@ -63,14 +63,14 @@ impl<'de> Value<'de> {
     ghost use Rattle.toml_span_tree.specs.Value.{text_in, integer_in, float_in, boolean_in, datetime_in, items_in};
     ghost use Rattle.toml_span_tree.specs.Value.{members_in, kind_name, wrong_kind, has_members};
 
-    /// Wraps the content. The span is 0..0.
+    /// Returns a value with this content and the span 0..0.
     pub fn new(value: ValueInner<'de>) -> Self
         ensures { view result ≡ node (inner_view value.entry) (record { start = 0; end = 0 }) }
     {
         Self::with_span(value, Span::default())
     }
 
-    /// Wraps the content with this span.
+    /// Returns a value with this content and this span.
     pub fn with_span(value: ValueInner<'de>, span: Span) -> Self
         ensures view { view result ≡ node (inner_view value.entry) span }
         ensures kept { (result.value ≡ Some value.entry) × (result.span ≡ span) }
@@ -81,7 +81,7 @@ impl<'de> Value<'de> {
         }
     }
 
-    /// Replaces the content, taken or not. The span stays the same.
+    /// Sets the content to `value`, even if the old content has been taken. The span stays the same.
     pub fn set(&mut self, value: ValueInner<'de>)
         ensures { view self.new ≡ node (inner_view value.entry) self.old.span }
     {
@@ -171,8 +171,8 @@ impl<'de> Value<'de> {
     pub fn has_key(&self, key: &'de str) -> bool
         ensures { result ≡ is_some (option_and_then (get_member key.now) (members_in (inner_of (view self.now)))) }
     {
-        // Toolchain: a map is searched only for keys of the lifetime of its own keys ("a type argument names two
-        // lifetimes that the function keeps apart"), so `key` lives as long as the document.
+        // Toolchain: a map can be searched only for keys with the lifetime of its own keys ("a type argument names two
+        // lifetimes that the function keeps apart"), so `key` must live as long as the document.
         match self.as_table() {
             Some(table) => table.contains_key(&Key::named(key)),
             None => false,
@@ -190,7 +190,7 @@ impl<'de> Value<'de> {
         }
     }
 
-    /// Returns the content if it is a string, `None` if it is of another kind or has been taken.
+    /// Returns the content if it is a string, or `None` if it is of another kind or has been taken.
     pub fn as_str(&self) -> Option<&str>
         ensures { option_map (λ s. s.now) result ≡ text_in (inner_of (view self.now)) }
     {
@@ -200,7 +200,7 @@ impl<'de> Value<'de> {
         }
     }
 
-    /// Returns the content if it is a table, `None` if it is of another kind or has been taken.
+    /// Returns the content if it is a table, or `None` if it is of another kind or has been taken.
     pub fn as_table(&self) -> Option<&Table<'de>>
         ensures { option_map (λ table. members_view table.now.entries) result ≡ members_in (inner_of (view self.now)) }
     {
@@ -210,7 +210,7 @@ impl<'de> Value<'de> {
         }
     }
 
-    /// Returns the content if it is an array, `None` if it is of another kind or has been taken.
+    /// Returns the content if it is an array, or `None` if it is of another kind or has been taken.
     pub fn as_array(&self) -> Option<&Array<'de>>
         ensures { option_map (λ array. items_view array.now.items) result ≡ items_in (inner_of (view self.now)) }
     {
@@ -220,7 +220,7 @@ impl<'de> Value<'de> {
         }
     }
 
-    /// Returns the content if it is an integer, `None` if it is of another kind or has been taken.
+    /// Returns the content if it is an integer, or `None` if it is of another kind or has been taken.
     pub fn as_integer(&self) -> Option<i64>
         ensures { result ≡ integer_in (inner_of (view self.now)) }
     {
@@ -230,7 +230,7 @@ impl<'de> Value<'de> {
         }
     }
 
-    /// Returns the content if it is a float, `None` if it is of another kind or has been taken.
+    /// Returns the content if it is a float, or `None` if it is of another kind or has been taken.
     pub fn as_float(&self) -> Option<&FloatText>
         ensures { option_map (λ x. float_value x.now) result ≡ float_in (inner_of (view self.now)) }
     {
@@ -240,7 +240,7 @@ impl<'de> Value<'de> {
         }
     }
 
-    /// Returns the content if it is a boolean, `None` if it is of another kind or has been taken.
+    /// Returns the content if it is a boolean, or `None` if it is of another kind or has been taken.
     pub fn as_bool(&self) -> Option<bool>
         ensures { result ≡ boolean_in (inner_of (view self.now)) }
     {
@@ -250,7 +250,7 @@ impl<'de> Value<'de> {
         }
     }
 
-    /// Returns the content if it is a date or time, `None` if it is of another kind or has been taken.
+    /// Returns the content if it is a date or time, or `None` if it is of another kind or has been taken.
     pub fn as_datetime(&self) -> Option<&DateText<'de>>
         ensures { option_map (λ date. date_bytes date.now) result ≡ datetime_in (inner_of (view self.now)) }
     {

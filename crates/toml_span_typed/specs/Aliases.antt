@@ -1,4 +1,4 @@
--- What `TableHelper` returns for a field that has an old name too.
+-- What `TableHelper` returns for a field that also has an old name.
 use Rattle.std.specs.Prelude.{◌≡◌, ◌⊎◌, ℕ, List, [], ◌∷◌, ◌++◌, Option, Some, None, option_map, MatchOption, nat_lt}
 use Rattle.std.specs.Prelude.{if◌then◌else◌, Result, Ok, Err}
 use Rattle.std.specs.declared.alloc.AllocError.{AllocError}
@@ -10,11 +10,11 @@ use Rattle.toml_span_tree.specs.Value.{view}
 use Rattle.toml_span_typed.specs.Errors.{Errors, all}
 use Rattle.toml_span_typed.specs.TableHelper.{Starved, State, keeping, missing, noted, without}
 
--- the error for the second of two keys with this name
+-- the error `DuplicateKey` for the key with this name, at its span; `first` is the span of the earlier key
 abbrev pub again : List ℕ → Span → Span → ErrorContent
 again name span first = record { kind = duplicate_key name first; span = span; line_info = None }
 
--- the error for a field under both names, at the later key
+-- the error for a field that is present under both names, at the later key
 abbrev pub twice : List ℕ → Span → List ℕ → Span → ErrorContent
 twice name span old other = if nat_lt span.start other.start then again old other span else again name span other
 
@@ -29,7 +29,7 @@ abbrev pub twice_at : List ℕ → Option Span → List ℕ → Option Span → 
 twice_at name (Some span) old (Some other) s = keeping (twice name span old other ∷ []) s
 twice_at name _ old _ s = s
 
--- The state s or, if both names have an entry, s after the error for that was kept.
+-- The state s or, if both names have an entry, s after the error for a field under both names was kept.
 abbrev pub keeping_twice : List ℕ → Option Entry → List ℕ → Option Entry → State → State
 keeping_twice name (Some entry) old (Some other) s = twice_at name entry.0 old other.0 s
 keeping_twice name _ old _ s = s
@@ -41,7 +41,7 @@ newer name s = entry_at name s.members
 abbrev pub older : List ℕ → List ℕ → State → Option Entry
 older name old s = entry_at old (without name s.members)
 
--- the value of the first entry or, if there is none, of the second
+-- the value of the first entry or, if the first entry is None, of the second
 abbrev pub first_value : Option Entry → Option Entry → Option Node
 first_value (Some entry) other = Some entry.1
 first_value None other = option_map (λ e. e.1) other
@@ -54,7 +54,8 @@ abbrev pub passed : List ℕ → State → State
 passed name s =
     record { members = without name s.members; asked = s.asked; errors = s.errors; span = s.span }
 
--- The state after both names were recorded and their entries removed. A field under both is an error.
+-- The state after both names were recorded and their entries removed. If both had an entry, the error for that was
+-- kept.
 abbrev pub asked_both : List ℕ → List ℕ → State → State
 asked_both name old s = keeping_twice name (newer name s) old (older name old s) (noted old (noted name s))
 
@@ -75,8 +76,8 @@ outdated name old s = outdated_at name old (option_map (λ entry. entry.0) (olde
 abbrev pub lacks : List ℕ → State → State
 lacks name s = keeping (missing name s ∷ []) s
 
--- A value that was moved out is read: the element, or None after all its errors were kept. If there is no value, the
--- result is None, and the state is as `none` says.
+-- The value `moved`, which was moved out of the table, is read: the result is the element, or None after all errors of
+-- the read were kept. If `moved` is None, the result is None, and the state afterwards is `none` of the state before.
 abbrev pub ReadsMoved : {T : Type 0} → (Node → Result T Errors → Node → Type 0) → (State → State) → Option Node
     → State → Option T → State → Type 0
 ReadsMoved reads none moved before (Some x) after =
@@ -85,8 +86,8 @@ ReadsMoved reads none moved before None after = MatchOption moved
     (after ≡ none before)
     (λ value. (faults : Errors) × (left : Node) × reads value (Err faults) left × (after ≡ keeping (all faults) before))
 
--- An allocation failed: nothing has changed, or the names have been recorded and their entries removed, and the only
--- new error is that of a field under both names.
+-- An allocation failed: nothing has changed, or one or both names have been recorded and their entries removed. A new
+-- error can only be that for a field under both names.
 abbrev pub StarvedEither : List ℕ → List ℕ → State → State → Type 0
 StarvedEither name old before after =
     Starved name before after ⊎ (after ≡ noted old (noted name before)) ⊎ (after ≡ asked_both name old before)
@@ -95,21 +96,21 @@ abbrev pub StarvedDeprecated : List ℕ → List ℕ → State → State → Typ
 StarvedDeprecated name old before after =
     (after ≡ before) ⊎ (after ≡ passed old (noted name before)) ⊎ (after ≡ asked_deprecated name old before)
 
--- `read_either`: the element, or the error that both names are missing
+-- `read_either`: the element; or None, after keeping the error of the missing name, or all errors of the read
 abbrev pub AsksEither : {T : Type 0} → (Node → Result T Errors → Node → Type 0) → List ℕ → List ℕ → State
     → Result (Option T) AllocError → State → Type 0
 AsksEither reads name old before (Ok field) after =
     ReadsMoved reads (lacks name) (either name old before) (asked_both name old before) field after
 AsksEither reads name old before (Err error) after = StarvedEither name old before after
 
--- `read_optional_either`: the element, if one of the names is present
+-- `read_optional_either`: the element; or None if both names are missing, or after keeping the errors of the read
 abbrev pub TriesEither : {T : Type 0} → (Node → Result T Errors → Node → Type 0) → List ℕ → List ℕ → State
     → Result (Option T) AllocError → State → Type 0
 TriesEither reads name old before (Ok field) after =
     ReadsMoved reads (λ s. s) (either name old before) (asked_both name old before) field after
 TriesEither reads name old before (Err error) after = StarvedEither name old before after
 
--- `read_deprecated` and `read_optional_deprecated`: the same, and the old name is not recorded
+-- `read_deprecated` and `read_optional_deprecated`: the same, but the old name is not recorded
 abbrev pub AsksDeprecated : {T : Type 0} → (Node → Result T Errors → Node → Type 0) → List ℕ → List ℕ → State
     → Result (Option T) AllocError → State → Type 0
 AsksDeprecated reads name old before (Ok field) after =

@@ -31,13 +31,13 @@ Asks reads name before (Ok None) after = MatchOption (found name before)
     × (after ≡ keeping (all faults) (noted name before)))
 Asks reads name before (Err error) after = Starved name before after
 
--- `kept`: what was read; or None, after keeping the errors
+-- `kept`: the element that was read; or None, after keeping the errors of the read
 abbrev pub Keeps : {T : Type 0} → Result T (Stop Errors) → State → Option T → State → Type 0
 Keeps (Ok x) before answer after = (answer ≡ Some x) × (after ≡ before)
 Keeps (Err (stop.Fault faults)) before answer after = (answer ≡ None) × (after ≡ keeping (all faults) before)
 Keeps (Err (stop.Memory error)) before answer after = ⊥
 
--- `require`: as in `Requires`, with the error in a list
+-- `require`: as in `Requires`, with the error as the only one in `Errors`
 abbrev pub RequiresAll : {T : Type 0} → (Node → Result T Errors → Node → Type 0) → List ℕ → State
     → Result T (Stop Errors) → State → Type 0
 RequiresAll reads name before (Ok x) after = Requires reads name before (Ok x) after
@@ -66,7 +66,7 @@ FinishesInto s (Ok done) = s.errors ≡ []
 FinishesInto s (Err (stop.Fault faults)) = s.errors ≡ all faults
 FinishesInto s (Err (stop.Memory error)) = ⊥
 
--- `parsed`: as in `Parses`, with the error in a list
+-- `parsed`: as in `Parses`, with the error as the only one in `Errors`
 abbrev pub ParsesAll : {T E : Type 0} → (List ℕ → Result T E → Type 0) → (E → Option (List ℕ)) → Node
     → Result T (Stop Errors) → Type 0
 ParsesAll gives output value (Ok x) = Parses gives output value (Ok x)
@@ -79,7 +79,8 @@ abbrev pub with_fault : {T E : Type 0} → Result T E → Result T (Stop E)
 with_fault (Ok x) = Ok x
 with_fault (Err refusal) = Err (stop.Fault refusal)
 
--- `parse_with`: what `makes` returns for the string; its error is reported as by `parsed`, and an allocation may fail
+-- `parse_with`: the element that `makes` allows for the string; or its error, reported as by `parsed`; or a failed
+-- allocation
 abbrev pub ParsesWith : {T E : Type 0} → (List ℕ → Result T (Stop E) → Type 0) → (E → Option (List ℕ)) → Node
     → Result T (Stop Errors) → Type 0
 ParsesWith makes output value (Ok x) = ParsesAll (λ text r. makes text (with_fault r)) output value (Ok x)

@@ -14,7 +14,7 @@ abbrev pub if_finite : Option Float → Option Float
 if_finite (Some x) = if float_is_finite x then Some x else None
 if_finite None = None
 
--- the number of the format that is nearest to the text, if it is finite
+-- the number of this format that is nearest to the number that the text spells, if it is finite
 abbrev pub finite_float : Format → List ℕ → Option Float
 finite_float format s = if_finite (parse_float format s)
 

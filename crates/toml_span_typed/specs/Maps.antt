@@ -17,7 +17,7 @@ use Rattle.toml_span_typed.specs.Reads.{EachReads, Taken, errors, refused}
 abbrev pub shown_pair : {T : Type 0} → String Global × T → List ℕ × T
 shown_pair entry = (string_bytes entry.0, entry.1)
 
--- the entries of a map after an element was added under a name; names are in order by their bytes
+-- the entries of a map after an element was added under a name; entries are sorted by the bytes of their names
 abbrev pub holding : {T : Type 0} → List (List ℕ × T) → List ℕ → T → List (List ℕ × T)
 holding entries name element = insert_entry (slice_cmp nat_cmp) entries name element
 
@@ -50,7 +50,7 @@ ReadsEntries reads ms (Ok entries) = EntriesRead reads (names_of ms) (values_of 
 ReadsEntries {T} reads ms (Err faults) = (entries : List (List ℕ × T))
     × EntriesRead reads (names_of ms) (values_of ms) entries (all faults)
 
--- The results of reading a table's values as T, joined. The table is taken.
+-- The results of reading a table's values as T, joined; or the error for any other value. The value is taken.
 abbrev pub table_reads : {T : Type 0} → (Node → Result T Errors → Node → Type 0) → Node
     → Result (List (List ℕ × T)) Errors → Node → Type 0
 table_reads reads (node (table ms) span) answer after = ReadsEntries reads ms answer

@@ -15,7 +15,7 @@ Name = List ℕ × Span
 abbrev pub named : Spanned (String Global) → Name
 named s = (string_bytes s.value, s.span)
 
--- the error for a name that occurs earlier, which also marks the earlier one
+-- the error for the name n, which also occurs at `before`; the error is at the span of n and marks `before` too
 abbrev pub again : Name → Span → ErrorContent
 again n before = record {
   kind = marked (codes "duplicate-name") (codes "duplicate name: `" ++ n.0 ++ codes "`")
@@ -27,7 +27,8 @@ again n before = record {
 abbrev pub duplicate_errors : Name → Option Span → List ErrorContent
 duplicate_errors n before = option_to_list (option_map (again n) before)
 
--- the errors of the names in the second list; the first list has the names before them, the latest first
+-- the errors of the names in the second list that occur earlier; the first list has the names before the second list,
+-- in reverse order
 abbrev pub repeated_after : List Name → List Name → List ErrorContent
 repeated_after before [] = []
 repeated_after before (n ∷ ns) =

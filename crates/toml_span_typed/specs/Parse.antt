@@ -8,7 +8,8 @@ use Rattle.toml_span_tree.specs.Error.{ErrorContent, custom, content_of}
 use Rattle.toml_span_tree.specs.Node.{Node}
 use Rattle.toml_span_tree.specs.Value.{inner_of, wrong_kind, span_of, text_in}
 
--- The error at the span has a message that ends in the text of the error of `FromStr`, if its type says what that is.
+-- The error is `Custom` at the span, and its message ends with the text of the error of `FromStr`. The text is `shown`,
+-- or any text if `shown` is None.
 abbrev pub ReportsRefusal : Option (List ℕ) → Span → ErrorContent → Type 0
 ReportsRefusal shown span fault =
     (text : List ℕ) × (fault ≡ record {
@@ -18,7 +19,8 @@ ReportsRefusal shown span fault =
     })
     × IfSome shown (λ stated. text ≡ stated)
 
--- The string is read as `from_str_gives` says. An allocation can fail only if `FromStr` fails.
+-- The string is read as `gives`, the `from_str_gives` of the type, allows. An allocation can fail only if `FromStr`
+-- fails.
 abbrev pub Parses : {T E : Type 0} → (List ℕ → Result T E → Type 0) → (E → Option (List ℕ)) → Node
     → Result T (Stop Error) → Type 0
 Parses gives output value (Ok parsed) =

@@ -28,8 +28,8 @@ fault_at low high span found =
 abbrev pub range_fault : ℤ → ℤ → Node → Option ErrorContent
 range_fault low high value = option_and_then (fault_at low high (span_of value)) (integer_in (inner_of value))
 
--- A read of T allows this result. For an integer outside the range, however, the result is the one error for that, and
--- the value stays as it is.
+-- A read of T allows this result, unless the value is an integer outside the range. In that case, the only error is
+-- `out_of_range`, and the value is unchanged.
 abbrev pub in_range : {T : Type 0} → ℤ → ℤ → (Node → Result T Errors → Node → Type 0) → Node → Result T Errors → Node
     → Type 0
 in_range low high reads value answer left = MatchOption (range_fault low high value)

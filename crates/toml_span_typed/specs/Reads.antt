@@ -30,15 +30,15 @@ Taken before after = after ≡ node taken (span_of before)
 abbrev pub Unchanged : Node → Node → Type 0
 Unchanged before after = after ≡ before
 
--- This does not happen, because the call does not allocate.
+-- No allocation can fail, because the call does not allocate.
 abbrev pub Never : Node → Node → Type 0
 Never before after = ⊥
 
--- The result is this function of the value, and the value's content has been taken.
+-- The result is the one that the function `read` returns for the value, and the value's content has been taken.
 abbrev pub Gives : {T : Type 0} → (Node → Result T Errors) → Node → Result T Errors → Node → Type 0
 Gives read before answer after = (answer ≡ read before) × Taken before after
 
--- the only error, that a value of another kind was expected
+-- a failed read, whose only error is that a value of another kind was expected
 abbrev pub refused : {T : Type 0} → List ℕ → Node → Result T Errors
 refused expected value = Err (one (wrong_kind expected value))
 
@@ -64,7 +64,7 @@ abbrev pub read_datetime : Node → Result (List ℕ) Errors
 read_datetime (node (scalar (datetime d)) span) = Ok d
 read_datetime value = refused (codes "a datetime") value
 
--- the unsigned number, if it is below the limit
+-- the integer as an unsigned number, if it is not negative and is below the limit
 abbrev pub unsigned : ℕ → ℤ → Option ℕ
 unsigned limit (pos n) = if nat_lt n limit then Some n else None
 unsigned limit (negsuc n) = None
@@ -125,7 +125,7 @@ abbrev pub ReadsAll : {T : Type 0} → (Node → Result T Errors → Node → Ty
 ReadsAll reads values answer =
     (answers : List (Result _ Errors)) × EachReads reads values answers × Joins answers answer
 
--- The results of reading an array's elements as T, joined. The array is taken.
+-- The results of reading an array's elements as T, joined; or the error for any other value. The value is taken.
 abbrev pub array_reads : {T : Type 0} → (Node → Result T Errors → Node → Type 0) → Node → Result (List T) Errors → Node
     → Type 0
 array_reads reads (node (array values) span) answer after =

@@ -41,11 +41,11 @@ state_of helper = record {
 abbrev pub AllWhole : State → Type 0
 AllWhole s = IsTrue (all_members_whole s.members)
 
--- the value of a name
+-- the value of the entry with this name
 abbrev pub found : List ℕ → State → Option Node
 found name s = option_map (λ entry. entry.1) (entry_at name s.members)
 
--- the entries without that of a name
+-- the entries without the one with this name
 abbrev pub without : List ℕ → Members → Members
 without name no_members = no_members
 without name (member other span value rest) =
@@ -89,7 +89,7 @@ Takes name before (Err error) after = after ≡ before
 abbrev pub Starved : List ℕ → State → State → Type 0
 Starved name before after = (after ≡ before) ⊎ (after ≡ noted name before)
 
--- `required`: the element, or the last of the errors that were kept
+-- `required`: the element; or, after keeping all errors, the error of the missing name or the last error of the read
 abbrev pub Requires : {T : Type 0} → (Node → Result T Errors → Node → Type 0) → List ℕ → State → Result T (Stop Error)
     → State → Type 0
 Requires reads name before (Ok x) after =
@@ -135,7 +135,7 @@ unasked s = where_filled s.members (unexpected_entries s ∷ [])
 abbrev pub with_unasked : State → List ErrorContent
 with_unasked s = s.errors ++ unasked s
 
--- Ok if there are no errors, otherwise all of them. Nothing is allocated.
+-- Ok if the list of errors is empty, otherwise all of them. Nothing is allocated.
 abbrev pub EndsWithErrors : List ErrorContent → Result (Unit {0}) Unfinished → Type 0
 EndsWithErrors errors (Ok done) = errors ≡ []
 EndsWithErrors errors (Err (unfinished.Faults faults)) = errors ≡ all faults
@@ -148,7 +148,7 @@ Refuses s (Err (unfinished.Memory helper)) = (is_filled s.members ≡ true) × (
 Refuses s (Err (unfinished.Faults faults)) = with_unasked s ≡ all faults
 Refuses s (Ok done) = with_unasked s ≡ []
 
--- `finalize`
+-- `finalize`: with a value, only kept errors are returned; without one, remaining keys are an error too
 abbrev pub Finalizes : {V : Type 0} → State → Option V → Result (Unit {0}) Unfinished → Type 0
 Finalizes s (Some value) answer = EndsWithErrors s.errors answer
 Finalizes s None answer = Refuses s answer

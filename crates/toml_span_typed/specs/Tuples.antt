@@ -1,4 +1,4 @@
--- Arrays of two elements with different types.
+-- Arrays of two elements, whose types may differ.
 use Rattle.std.specs.Prelude.{◌≡◌, ◌≢◌, ⊤, ℕ, [], ◌∷◌, ◌++◌, length, Result, Ok, Err, None, codes}
 use Rattle.std.specs.Fmt.{decimal}
 use Rattle.toml_span_lex.specs.declared.span.Span.{Span}
@@ -14,7 +14,7 @@ use Rattle.toml_span_typed.specs.Reads.{Taken, errors, nodes_of}
 abbrev pub holds_two : Node → Node → Span → Node
 holds_two first second span = node (array (item first (item second no_items))) span
 
--- the error that an array has another number of elements
+-- the error for an array of `found` elements instead of `wanted`
 abbrev pub other_length : ℕ → ℕ → Span → ErrorContent
 other_length wanted found span = record {
   kind = custom (codes "expected " ++ decimal wanted ++ codes " elements, found " ++ decimal found);
@@ -48,7 +48,7 @@ JoinsTwo (Ok a) (Ok b) answer = answer ≡ Ok (a, b)
 JoinsTwo first second (Err faults) = errors (first ∷ []) ++ errors (second ∷ []) ≡ all faults
 JoinsTwo first second (Ok pair) = ⊥
 
--- The results of reading the elements of an array of two, joined. The array is taken.
+-- The results of reading the two elements of an array, joined; or the error for any other value. The value is taken.
 abbrev pub pair_reads : {A B : Type 0} → (Node → Result A Errors → Node → Type 0)
     → (Node → Result B Errors → Node → Type 0)
     → Node → Result (A × B) Errors → Node → Type 0

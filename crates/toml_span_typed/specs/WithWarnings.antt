@@ -15,7 +15,7 @@ use Rattle.toml_span_typed.specs.TableHelper.{Starved, State, found, keeping, no
 abbrev pub Extends : List ErrorContent → List ErrorContent → Type 0
 Extends warnings more = more ≡ warnings ++ drop (length warnings) more
 
--- The result and the warnings are ones that the type's `reads` allows. If an allocation failed, nothing is said.
+-- The result and the warnings are ones that the type's `reads` allows. If an allocation failed, any are allowed.
 abbrev pub AnswersWithWarnings : {T : Type 0}
     → (Node → Result T Errors → List ErrorContent → List ErrorContent → Type 0) → Node → Result T (Stop Errors)
     → List ErrorContent → List ErrorContent → Type 0
@@ -23,8 +23,8 @@ AnswersWithWarnings reads value (Ok x) warnings more = reads value (Ok x) warnin
 AnswersWithWarnings reads value (Err (stop.Fault faults)) warnings more = reads value (Err faults) warnings more
 AnswersWithWarnings reads value (Err (stop.Memory error)) warnings more = ⊤
 
--- A value that was moved out is read: the element, or None after all its errors were kept. If there is no value, the
--- result is None, and the state is as `none` says.
+-- The value `moved`, which was moved out of the table, is read: the result is the element, or None after all errors of
+-- the read were kept. If `moved` is None, the result is None, and the state afterwards is `none` of the state before.
 abbrev pub ReadsMoved : {T : Type 0}
     → (Node → Result T Errors → List ErrorContent → List ErrorContent → Type 0) → (State → State) → Option Node
     → State → Option T → State → List ErrorContent → List ErrorContent → Type 0
@@ -34,7 +34,7 @@ ReadsMoved reads none moved before None after warnings more = MatchOption moved
     ((after ≡ none before) × (more ≡ warnings))
     (λ value. (faults : Errors) × reads value (Err faults) warnings more × (after ≡ keeping (all faults) before))
 
--- `read_with_warnings`: the element, or the error that the name is missing
+-- `read_with_warnings`: the element; or None, after keeping the error of the missing name, or all errors of the read
 abbrev pub AsksWithWarnings : {T : Type 0}
     → (Node → Result T Errors → List ErrorContent → List ErrorContent → Type 0) → List ℕ → State
     → Result (Option T) AllocError → State → List ErrorContent → List ErrorContent → Type 0
@@ -42,7 +42,7 @@ AsksWithWarnings reads name before (Ok field) after warnings more =
     ReadsMoved reads (lacks name) (found name before) (noted name before) field after warnings more
 AsksWithWarnings reads name before (Err error) after warnings more = Starved name before after
 
--- `read_optional_with_warnings`: the element, if the name is present
+-- `read_optional_with_warnings`: the element; or None if the name is missing, or after keeping the errors of the read
 abbrev pub TriesWithWarnings : {T : Type 0}
     → (Node → Result T Errors → List ErrorContent → List ErrorContent → Type 0) → List ℕ → State
     → Result (Option T) AllocError → State → List ErrorContent → List ErrorContent → Type 0
@@ -66,7 +66,7 @@ abbrev pub ReadsAllWithWarnings : {T : Type 0}
 ReadsAllWithWarnings reads values answer warnings more =
     (answers : List (Result _ Errors)) × EachWithWarnings reads values answers warnings more × Joins answers answer
 
--- the results of reading an array's elements as T, joined
+-- the results of reading an array's elements as T, joined; or the error for any other value
 abbrev pub array_with_warnings : {T : Type 0}
     → (Node → Result T Errors → List ErrorContent → List ErrorContent → Type 0) → Node → Result (List T) Errors
     → List ErrorContent → List ErrorContent → Type 0

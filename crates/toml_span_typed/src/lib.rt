@@ -9,8 +9,8 @@ mod read_table;
 mod read_tagged;
 mod with_warnings;
 
-/// `read_table!` looks up unknown options in this module. The compiler's message is then at the option, and names this
-/// module, whose name lists the known options.
+/// `read_table!` turns an unknown option into a path in this module. The compiler then reports the error at the option,
+/// and names this module, whose name lists the known options.
 #[doc(hidden)]
 pub mod words_are_alias_deprecated_flatten_optional_or_parsed_range_unique_with_warnings {}
 

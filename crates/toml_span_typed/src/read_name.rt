@@ -15,7 +15,7 @@ macro_rules! read_name {
     ($alloc:expr, $value:expr, { $first:literal => $variant:expr $(, $name:literal => $other:expr)* $(,)? }) => {
         match $crate::de_helpers::name_of($alloc, $value, &[$first $(, $name)*])? {
             $($name => Ok($other),)*
-            // the first name: `name_of` returns one of them, and the others have their own arms
+            // the first name: `name_of` returns one of the names, and the other names have their own arms
             _ => Ok($variant),
         }
     };

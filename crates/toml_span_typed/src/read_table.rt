@@ -7,7 +7,7 @@
 /// type:
 ///
 /// - `port: u16 = "listen-port";`: read from another key;
-/// - `tags: Option<Vec<String>>;`: `None` if the key is absent. If the type is an alias of an `Option`, write
+/// - `tags: Option<Vec<String>>;`: `None` if the key is absent. If the field has a type alias for this type, write
 ///   `tags: Vec<String>, optional;`
 /// - `port: u16, or(80);`: the value `80` if the key is absent; it is evaluated only then;
 /// - `port: u16, range(1..=65535);`: an error for an integer outside this range (`InRange`). The type may also be an
@@ -29,7 +29,7 @@
 ///
 /// - `max_body: u64 = "max-body", deprecated("max_body");`: like `alias`, but the old name causes a warning, and is not
 ///   listed as expected (`TableHelper::read_deprecated`);
-/// - `origin: Server, with_warnings;`: a type that warns itself, or an `Option` of one.
+/// - `origin: Server, with_warnings;`: a type that implements `DeserializeWithWarnings`, or an `Option` of one.
 #[macro_export]
 macro_rules! read_table {
     ($alloc:expr, $value:expr, $table:ident { $($fields:tt)* }) => {{
@@ -42,7 +42,8 @@ macro_rules! read_table {
         $crate::read_table!(@fields [helper, $value, [gathered $warnings], [$table]] [] $($fields)*)
     }};
 
-    // each field: its name, the form around its type, the type inside that form, its key, and its options
+    // each field: its name, the form of its type (`Option`, `Spanned`, both or neither), the type inside, its key, and
+    // its options
     (@fields $read:tt [$($done:tt)*]
         $field:ident: Option<Spanned<$ty:ty>> $(= $key:literal)? $(, $how:ident $(($($word:tt)*))?)*; $($rest:tt)*
     ) => {
@@ -129,7 +130,7 @@ macro_rules! read_table {
             "`, so the call needs a list of warnings: `read_table!(alloc, value, warnings, ..)`"))
     };
 
-    // options of any form
+    // options that are allowed with every form
     (@words $read:tt $form:tt [$ty:ty] [$($keys:tt)*] alias($old:literal), $($words:tt)*) => {
         $crate::read_table!(@words $read $form [$ty] [$($keys)*, $old] $($words)*)
     };
@@ -259,7 +260,7 @@ macro_rules! read_table {
         $crate::words_are_alias_deprecated_flatten_optional_or_parsed_range_unique_with_warnings::$how
     };
 
-    // the field of the struct, after all errors have been returned
+    // the value for the field of the struct; at this point, no read has failed
     (@field $form:tt $field:ident alias $old:tt, $($words:tt)*) => {
         $crate::read_table!(@field $form $field $($words)*)
     };

@@ -1,7 +1,7 @@
 """Checks TOML files: python3 -m toml_span FILE..
 
-Prints the report of each error. The status is 0 if all files are valid, 1 if one is not, and 2 if one can't be read
-or none is given.
+Prints the report of each error. The exit status is 0 if all files are valid, 1 if one is not, and 2 if one can't be
+read or none is given.
 """
 
 import sys

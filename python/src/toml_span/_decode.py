@@ -22,8 +22,8 @@ class TOMLDecodeError(ValueError):
     """The text is not valid TOML.
 
     msg: the message. doc: the text. pos: the index of the error in the text. lineno and colno: its line and column,
-    both counted from 1, the column in characters. For an error of the library there are also code, such as
-    ``duplicate-key``; span, the bytes as (start, end); and report, the source lines with marks, to print.
+    both counted from 1, the column in characters. Three attributes may be None. code: the kind of error, such as
+    ``duplicate-key``. span: the bytes of the error, as (start, end). report: the source lines with marks, to print.
     """
 
     def __init__(
@@ -166,7 +166,7 @@ class Document:
             if needed.value <= room:
                 break
             room = needed.value
-        # (the collector of cycles, of which a tree has none, would walk over it again and again as it grows)
+        # (a tree has no reference cycles, but the garbage collector would walk over it again and again as it grows)
         collects = gc.isenabled()
         gc.disable()
         try:
@@ -179,7 +179,7 @@ class Document:
 
 
 class _Builder(pickle.Unpickler):
-    """Unpickles what the library writes. Its pickles have no classes, so nothing is imported or called."""
+    """Unpickles the output of toml_span_pickle. It has no classes, so nothing is imported or called."""
 
     document: Document
     parse_float: Callable[[str], Any]
@@ -199,7 +199,7 @@ class _Builder(pickle.Unpickler):
 
 _CLOCK = r"(\d\d):(\d\d)(?::(\d\d)(?:\.(\d+))?)?"
 _DATE_TIME = re.compile(rf"(?:(\d{{4}})-(\d\d)-(\d\d)[Tt ])?{_CLOCK}([Zz]|[+-]\d\d:\d\d)?")
-# from Python 3.11 on it reads every text that TOML has
+# whether fromisoformat reads every date and time that TOML allows: from Python 3.11 on
 _HAS_ISO = sys.version_info >= (3, 11)
 
 

@@ -32,7 +32,8 @@ def _checked(text: AnyStr) -> AnyStr:
 def _made(text: AnyStr, room: int, call: Callable[..., int], refused: Callable[[str], Exception]) -> AnyStr:
     """Returns the new text that a call of the library makes from a text.
 
-    Raises TOMLDecodeError if the text is not valid, and the exception of ``refused`` if there is no new text.
+    Raises TOMLDecodeError if the text is not valid. If the library refuses to make a new text, raises the exception
+    that ``refused`` makes from the reason.
     """
     data = text.encode("utf-8", "surrogatepass") if isinstance(text, str) else text
     needed = ctypes.c_size_t()
@@ -43,7 +44,7 @@ def _made(text: AnyStr, room: int, call: Callable[..., int], refused: Callable[[
         if status == native.MEMORY:
             raise MemoryError
         if status in (native.REFUSED, native.UNREAD):
-            # (the error of a parse)
+            # (raises the error)
             parse(text)
             raise AssertionError("a text is refused and read")
         if needed.value <= room:
@@ -60,7 +61,7 @@ class Edits(Generic[AnyStr]):
 
     A path is a dotted key with positions, such as ``server.ports[0]``; a JSON Pointer, such as ``/server/ports/0``; or
     names and positions, such as the ``path`` of a Node: ``("server", "ports", 0)``. Values are written as ``dumps``
-    writes them. Each method returns the list, so that calls can be chained.
+    writes them. Each method except ``finish`` returns the list, so that calls can be chained.
     """
 
     def __init__(self, text: AnyStr) -> None:
@@ -149,7 +150,7 @@ def format(text: AnyStr, *, width: int = 80, indent: int = 4) -> AnyStr:
     """Formats a text, or its bytes. Raises TOMLDecodeError if it is not valid TOML.
 
     An array is written on one line if the line then has at most ``width`` columns. Otherwise each element is on a line
-    of its own, indented by ``indent`` spaces per level, which may be 64 at most.
+    of its own, indented by ``indent`` spaces per level, at most 64.
     """
     if width < 0 or not 0 <= indent <= 64:
         raise ValueError("width must not be negative, and indent must be from 0 to 64")

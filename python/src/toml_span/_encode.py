@@ -11,7 +11,7 @@ from ._decode import TOMLDecodeError, loads
 _BARE = re.compile(r"[A-Za-z0-9_-]+")
 _ESCAPED = re.compile(r'[\x00-\x08\x0a-\x1f"\\\x7f]')
 _SHORT = {"\n": "\\n", "\r": "\\r", "\f": "\\f", "\b": "\\b", '"': '\\"', "\\": "\\\\"}
-# no text is nested deeper
+# the maximum nesting depth of a text
 _DEEPEST = 128
 
 
@@ -100,8 +100,8 @@ def _is_same(one: Any, other: Any) -> bool:
 def dumps(mapping: Mapping[str, Any], /) -> str:
     """Writes a mapping as TOML, with a header for each table, and a tuple as an array.
 
-    Raises TypeError for a type that TOML does not have, and ValueError for a value that it does not have, such as an
-    integer of more than 64 bits. The text is parsed again, and is returned only if ``loads`` reads the same values.
+    Raises TypeError for a type that TOML does not have, and ValueError for a value that TOML can't represent, such as
+    an integer of more than 64 bits. The text is parsed again, and is returned only if ``loads`` reads the same values.
     """
     if not isinstance(mapping, Mapping):
         raise TypeError(f"Expected a mapping, not '{type(mapping).__qualname__}'")

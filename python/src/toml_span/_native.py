@@ -55,7 +55,7 @@ lib = _library()
 
 
 def text_of(call: Any, *arguments: Any) -> str:
-    """Returns the text that a call writes."""
+    """Returns the text that ``call`` writes, which takes a buffer after the arguments."""
     needed, room = ctypes.c_size_t(), 512
     while True:
         out = ctypes.create_string_buffer(room)

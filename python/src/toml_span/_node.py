@@ -19,7 +19,7 @@ class _Source(Document):
 
     def __init__(self, text: str, data: bytes, name: str) -> None:
         super().__init__(text, data, name)
-        # the offsets in bytes at which lines start, and in characters; and the children of tables and arrays
+        # the offsets at which lines start, in bytes and in characters; and the children of tables and arrays
         self.starts: Optional[Tuple[List[int], List[int]]] = None
         self.held: Dict[int, Dict[Key, int]] = {}
 

@@ -24,13 +24,13 @@ use Rattle.toml_span.specs.code.Borrowed.{branch_strings}
 use Rattle.toml_span.specs.declared.branch.Branch.TheViews.{out-Branch}
 use Rattle.toml_span.specs.declared.sections.Assembly.{Assembly}
 
--- The section has been placed below the root.
+-- The section has been placed below the root, or the result is the first clash.
 abbrev pub PlacesAtRoot : ParsedSection → Branch → Branch → Result (Unit {0}) PlaceError → Type 0
 PlacesAtRoot b root new r =
     Places root new r (section_at (counts root) (header_info b) b.header (assignments_claims b.assignments []))
     (counts_after (counts root) (header_info b) b.header)
 
--- what remains: the sections `rest` of `all` have not been placed, and the root has the claims of the others
+-- The sections `rest`, the last of the sections `all`, have not been placed yet. The root has the claims of the others.
 pub record Remaining (all rest : List ParsedSection) (root : Branch) : Type 0 where
   pub earlier : List ParsedSection
   pub headers : AreSections rest
@@ -39,8 +39,8 @@ pub record Remaining (all rest : List ParsedSection) (root : Branch) : Type 0 wh
   pub counting : counts root ≡ elements_added (opened_by earlier)
   pub scope : IsScope root
 
--- The tree has the claims of these sections, and later ones can still be placed; or this is the first clash of these
--- sections.
+-- Without a clash, the tree `root` has the claims of the sections `bs`, and later sections can still be placed. A clash
+-- is the first clash of these sections.
 abbrev pub AssemblesTo : List ParsedSection → Branch → Option (Box Clash) → Type 0
 AssemblesTo bs root None = (rest : List ParsedSection) → AreSections rest → Remaining (bs ++ rest) rest root
 AssemblesTo bs root (Some c) =
@@ -53,11 +53,11 @@ IsAssemblyOf bs g = AssemblesTo bs g.root g.clash
 abbrev pub IsAssemblyInside : ℕ → Assembly → Type 0
 IsAssemblyInside n g = IfSome g.clash (λ c. IsInside n (box_value c).info.span)
 
--- The strings and keys in the tree are borrowed where they equal the text.
+-- Unless the assembly has a clash, the strings and keys in the tree are borrowed correctly.
 abbrev pub AssemblyBorrows : List ℕ → Assembly → Type 0
 AssemblyBorrows text g = IfNone g.clash (AreBorrowedRight text (branch_strings g.root))
 
--- There is no clash, and no table is left to finish.
+-- The assembly has no clash, and no table is left to finish.
 abbrev pub IsBare : Assembly → Type 0
 IsBare g = (g.clash ≡ None) × ((out-Branch g.root).tables.entries ≡ [])
 

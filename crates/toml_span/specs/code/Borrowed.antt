@@ -1,4 +1,5 @@
--- Which strings and keys are borrowed in the tree under construction, and in the parts from which it is made.
+-- Which strings and keys are borrowed in the tree under construction, and in the parts from which it is made. They are
+-- borrowed correctly if `AreBorrowedRight` holds for them.
 use Rattle.std.specs.Prelude.{◌≡◌, ℕ, ◌⊎◌, List, ◌∷◌, ◌++◌, map, Option, Some, None, Result, IfOk, OnOk, option_map}
 use Rattle.std.specs.Box.{box_value}
 use Rattle.std.specs.Global.{Box}
@@ -26,12 +27,14 @@ table_held es = entries_strings (map (λ e. (e.0, strings_and_keys e.1)) es)
 
 -- ---- finished values
 
--- the spans of the keys in a value; its own key has this span, if it has one
+-- The span of the key at each path in the value n, whose own key, if it has one, has the span `at`. At the path of a
+-- value without a key, it is the span of that value.
 abbrev pub own_spans : Option Span → Node → KeySpans
 own_spans at n p = option_map (λ d. d.key) (value_shows at n p)
 
--- The strings and keys in a value, whose own key has this span, if it has one. All keys are written at their spans.
--- Then the same for elements and for a table.
+-- The strings and keys in a value, where each key is written at the span that it has in the tree. The key of the value
+-- itself, if it has one, has the span `at`. `own_elements` and `own_table` do the same for the elements of an array and
+-- for a table.
 abbrev pub own_held : Option Span → Value → List StringOrKey
 own_held at v = strings_and_keys v (own_spans at (view v))
 
@@ -41,13 +44,13 @@ own_elements vs = joined (map (own_held None) vs)
 abbrev pub own_table : List (Key × Value) → List StringOrKey
 own_table es = table_held es (own_spans None (node (table (members_view es)) (record { start = 0; end = 0 })))
 
--- a value with its key
+-- the key of an entry, and the strings and keys in its value
 abbrev pub value_strings : Key × Value → List StringOrKey
 value_strings e = (e.0.name, Some e.0.span) ∷ own_held (Some e.0.span) e.1
 
 -- ---- branches
 
--- The name of a branch is that of the first claim on it.
+-- the span where the name of a branch is written: that of the key in the first claim on the branch
 abbrev pub name_span : List ClaimInfo → Option Span
 name_span ms = option_map (λ m. m.key) (first ms)
 
@@ -58,7 +61,8 @@ Contents = Option Span × List StringOrKey
 abbrev pub named_strings : Key × Box Contents → List StringOrKey
 named_strings e = (e.0.name, (box_value e.1).0) ∷ (box_value e.1).1
 
--- The strings and keys of the assigned values, of the branches in `tables`, and of the elements.
+-- The contents of a branch, given those of the branches in it: the strings and keys of the assigned values, of the
+-- branches in `tables`, and of the elements.
 abbrev pub node_step : Branch-F Contents → Contents
 node_step n = (
   name_span n.infos.items,
@@ -72,18 +76,20 @@ branch_strings n = (fold-Branch Contents node_step n).1
 
 -- ---- what the functions preserve
 
--- If the function succeeds, strings and keys that were borrowed correctly still are, and the claims on the branch are
--- unchanged.
+-- If the strings and keys in the branch were borrowed correctly and the function succeeds, they still are, and the
+-- claims on the branch itself are unchanged.
 abbrev pub KeepsBorrows : List ℕ → Branch → Branch → Result (Unit {0}) PlaceError → Type 0
 KeepsBorrows text old new r =
     AreBorrowedRight text (branch_strings old)
     → OnOk r (AreBorrowedRight text (branch_strings new) × (infos new ≡ infos old))
 
--- The name of the branch is written at this span; or the branch has no claim yet, and its name will be written there.
+-- The name of the branch is written at the span `at`, or the branch is new and its name will be written there, at
+-- `next`.
 abbrev pub IsWrittenAt : Span → Span → Branch → Type 0
 IsWrittenAt next at n = (name_span (infos n) ≡ Some at) ⊎ (IsFresh n × (next ≡ at))
 
--- The same for a branch that a key claims. Its name is written where it was before.
+-- Like `KeepsBorrows`, for a branch that a key with the span `next` claims. The claims on the branch may change, but
+-- its name is written where it was before or, if the branch was new, at `next`.
 abbrev pub KeepsName : List ℕ → Span → Branch → Branch → Result (Unit {0}) PlaceError → Type 0
 KeepsName text next old new r =
     AreBorrowedRight text (branch_strings old)
@@ -106,7 +112,7 @@ IfSectionRight text parts pairs P =
     AreWrittenRight text (keys_written parts) → AreWrittenRight text (assignments_written pairs) → P
 
 -- If the strings and keys of a branch are borrowed correctly, so are those of the value that is made from it. Keys are
--- written where the first claims have them.
+-- written at the spans of the first claims on their paths.
 abbrev pub StaysRight : Branch → StringsAndKeys → Type 0
 StaysRight n h =
     (text : List ℕ) → AreBorrowedRight text (branch_strings n) → AreBorrowedRight text (h (key_spans (cells n)))

@@ -23,15 +23,17 @@ use Rattle.toml_span.specs.declared.claims.ClaimKind.TheVariants.{Assigned}
 
 -- ---- entries
 
--- A header made the entry: it begins with the header's bracket. What an assignment makes begins after its key.
+-- A header made the entry: its value begins at the header's first bracket, before the key. A value that an assignment
+-- makes begins after its key.
 abbrev pub IsByHeader : Key × Value → Type 0
 IsByHeader e = e.1.span.start < e.0.span.start
 
--- The strings and keys in the entry are borrowed where they equal the text, with the keys at these spans.
+-- The strings and keys in the entry are borrowed correctly, where the keys are written at these spans.
 abbrev pub EntryRight : List ℕ → KeySpans → Key × Value → Type 0
 EntryRight text spans e = IsBorrowedRight text (e.0.name, spans []) × AreBorrowedRight text (strings_and_keys e.1 spans)
 
--- The entry shows the state at its path and below. Its tables are in order, and it is borrowed correctly.
+-- The entry has the places in the cells `st`, at its path and below. The names in its tables ascend, and its strings
+-- and keys are borrowed correctly.
 pub record EntryShows (text : List ℕ) (e : Key × Value) (st : CellMap) : Type 0 where
   pub places : (p : Path) → option_map tree_place (reached p (Some e.0.span, view e.1)) ≡ place_shown (st p)
   pub ordered : IsOrdered (view e.1)
@@ -41,18 +43,18 @@ abbrev pub is_assigned : ClaimKind → Bool
 is_assigned Assigned = true
 is_assigned _ = false
 
--- No value has been assigned, and a header determines the path.
+-- No value has been assigned to the path of the cell, and a header determines the place there.
 pub record IsTableCell (x : Cell) : Type 0 where
   pub free : AllByRecursion (λ (m : ClaimInfo). is_assigned m.kind ≡ false) x.infos
   pub header : IsSomeAnd x.shown (λ d. d.header ≡ true)
 
--- the elements of an array of tables; nothing has been claimed after them
+-- The list has the elements of an array of tables, at least one. Nothing has been claimed at positions after them.
 pub record HasElements (vs : List Value) (st : CellMap) (e : Path → ℕ) : Type 0 where
   pub count : e [] ≡ length vs
   pub some : vs ≡ [] → ⊥
   pub free : (i : ℕ) (p : Path) → length vs ≤ i → st (position i ∷ p) ≡ no_cell
 
--- the state and the numbers of elements at an entry that a header made
+-- The cells `st` and the numbers of elements `e` are those of v, a table or an array of tables that a header made.
 pub record IsMade (v : Value) (st : CellMap) (e : Path → ℕ) : Type 0 where
   pub table : (t : Table) → v.value ≡ Some (table_inner t) → (e [] ≡ 0) × IsTableCell (st [])
   pub array : (a : Array) → v.value ≡ Some (array_inner a) → HasElements a.items st e
@@ -63,8 +65,8 @@ EntryAt text (Some x) st e = EntryShows text x st × (IsByHeader x → IsMade x.
 
 -- ---- tables
 
--- The table shows this state of the claims, where the arrays of tables have these numbers of elements. It is borrowed
--- correctly.
+-- The table has the places in the cells `st`, and its arrays of tables have the numbers of elements `e`. Its strings
+-- and keys are borrowed correctly.
 pub data IsBuilt (text : List ℕ) : Table → CellMap → (Path → ℕ) → Type 0 where
   built : (t : Table) (st : CellMap) (e : Path → ℕ)
       → ((i : ℕ) (p : Path) → st (position i ∷ p) ≡ no_cell)
@@ -75,19 +77,22 @@ pub data IsBuilt (text : List ℕ) : Table → CellMap → (Path → ℕ) → Ty
       → IsBuilt text u (λ p. st (key name ∷ p)) (λ p. e (key name ∷ p)))
       → IsBuilt text t st e
 
--- an entry that a header made, or through which it passed
+-- The entry x, which a header made or passed through, has the places in the cells `st`, and its arrays of tables have
+-- the numbers of elements `e`.
 pub record EntryBuilt (text : List ℕ) (x : Key × Value) (st : CellMap) (e : Path → ℕ) : Type 0 where
   pub shows : EntryShows text x st
   pub made : IsMade x.1 st e
   pub inside : (u : Table) → x.1.value ≡ Some (table_inner u) → IsBuilt text u st e
 
--- The claims do not clash with those before, and the new table shows them too.
+-- The claims `cs` do not clash with the claims from which the table `old` was built, and the table `new` is built from
+-- both.
 abbrev pub BuildsOn : List ℕ → Table → Table → ((Path → ℕ) → Claims) → ((Path → ℕ) → Path → ℕ) → Type 0
 BuildsOn text old new cs after =
     (st : CellMap) (e : Path → ℕ) → IsBuilt text old st e
     → (clash_found st (cs e) ≡ None) × IsBuilt text new (put_all st (cs e)) (after e)
 
--- the same for an entry
+-- The claims `cs` do not clash with the claims from which the entry's value `old` was built, and the value `new` is
+-- built from both.
 abbrev pub EntryBuildsOn : List ℕ → Key → Value → Value → ((Path → ℕ) → Claims) → ((Path → ℕ) → Path → ℕ) → Type 0
 EntryBuildsOn text k old new cs after =
     (st : CellMap) (e : Path → ℕ) → EntryBuilt text (k, old) st e
@@ -98,14 +103,15 @@ EntryBuildsOn text k old new cs after =
 abbrev pub IsEmptyBelow : CellMap → Type 0
 IsEmptyBelow st = (s : Step) (p : Path) → st (s ∷ p) ≡ no_cell
 
--- The claims are those of a section, as paths below its table, and the table shows them where nothing is claimed yet.
+-- The claims `tail` are those of the assignments of a section, with paths that begin at the section's table. If nothing
+-- is claimed below the table yet, they do not clash, and t is the table that is built from them.
 pub record IsSection (text : List ℕ) (tail : Claims) (t : Table) : Type 0 where
   pub free : (st : CellMap) → IsEmptyBelow st → clash_found st tail ≡ None
   pub here : (st : CellMap) → put_all st tail [] ≡ st []
   pub built : (st : CellMap) → IsEmptyBelow st → IsBuilt text t (put_all st tail) (λ p. 0)
 
--- The value is the table of a section with this header, and these are its claims. The parts of the header that are left
--- are borrowed correctly.
+-- The value v is the table of a section with the header h, and `tail` are the claims of the section's assignments.
+-- `parts`, the remaining parts of the header, are borrowed correctly.
 pub record Placed (text : List ℕ) (h : HeaderInfo) (tail : Claims) (parts : List Key) (array : Bool) (v : Value)
     : Type 0 where
   pub brackets : h.array ≡ array
@@ -121,7 +127,7 @@ abbrev pub IsKeyFor : List ℕ → Key → Key → Type 0
 IsKeyFor text k part =
     (cow_str_bytes k.name ≡ cow_str_bytes part.name) × (k.span ≡ part.span) × IsBorrowedRight text (k.name, Some k.span)
 
--- The claims do not clash, and the entry shows them.
+-- The claims `cs` do not clash, and the entry x is built from them.
 abbrev pub MakesEntry : List ℕ → Key × Value → Claims → (Path → ℕ) → Type 0
 MakesEntry text x cs e = (clash_found no_cells cs ≡ None) × EntryBuilt text x (put_all no_cells cs) e
 

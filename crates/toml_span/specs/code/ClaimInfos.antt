@@ -36,14 +36,15 @@ has_kind infos kind = list_any (λ info. same_kind info.kind kind) infos
 abbrev pub remember : List ClaimInfo → ClaimInfo → List ClaimInfo
 remember infos info = if has_kind infos info.kind then infos else infos ++ info ∷ []
 
--- the clash of two claims on the same path
+-- the clash of two claims on the same path, or None if they do not clash
 abbrev pub clash_info_between : ClaimInfo → ClaimInfo → Option ClashInfo
 clash_info_between earlier later = option_map (clash_info earlier later) (clash_kind earlier.kind later.kind)
 
 abbrev pub with_name : List ℕ → ClashInfo → NamedClash
 with_name name m = record { info = m; name = name }
 
--- the clash of a claim with the first of these claims that it clashes with
+-- the clash of the claim `later` with the first of these claims with which it clashes, or None if it clashes with none
+-- of them
 abbrev pub earliest_clash_info : List ClaimInfo → ClaimInfo → Option ClashInfo
 earliest_clash_info [] later = None
 earliest_clash_info (earlier ∷ infos) later =
@@ -53,11 +54,11 @@ earliest_clash_info (earlier ∷ infos) later =
 abbrev pub PlaceError : Type 0
 PlaceError = Stop (Box code.Clash)
 
--- a clash over this name
+-- The clash has this info and this name.
 abbrev pub IsClashOver : code.Clash → ClashInfo → List ℕ → Type 0
 IsClashOver c m name = (c.info ≡ m) × (string_bytes c.name ≡ name)
 
--- the `PlaceError` of a clash over this name, or a failed allocation
+-- The error is a clash with this info and this name, or a failed allocation.
 abbrev pub IsErrorOver : PlaceError → ClashInfo → List ℕ → Type 0
 IsErrorOver (Fault c) m name = IsClashOver (box_value c) m name
 IsErrorOver (Memory e) m name = ⊤
@@ -70,11 +71,12 @@ abbrev pub first : List ClaimInfo → Option ClaimInfo
 first [] = None
 first (info ∷ infos) = Some info
 
--- the claim that determines a branch: that of the first header or, if there is none, the first claim
+-- the claim that determines the spans of a branch: that of the first header or, if no header claims the branch, the
+-- first claim
 abbrev pub deciding : List ClaimInfo → Option ClaimInfo
 deciding infos = option_or (first_by_header infos) (first infos)
 
--- If this is a clash, its span is inside the first n bytes.
+-- If the error is a clash, its span is inside the first n bytes.
 abbrev pub IsPlaceErrorInside : ℕ → PlaceError → Type 0
 IsPlaceErrorInside n (Memory e) = ⊤
 IsPlaceErrorInside n (Fault c) = IsInside n (box_value c).info.span

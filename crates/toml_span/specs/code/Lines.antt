@@ -14,8 +14,8 @@ use Rattle.toml_span.specs.code.Borrowed.{branch_strings, own_table}
 use Rattle.toml_span.specs.code.Placing.{Places, ScopeGives}
 use Rattle.toml_span.specs.code.Tree.{counts, IsScope}
 
--- These assignments are read from `from` on, and have been placed in the branch. The last one ends at `end`, and the
--- next section, or the end of the text, is at `next`.
+-- These assignments are read from `from` on, and have been placed in the branch. The last one ends at `end` (`from`
+-- without assignments), and the next section, or the end of the text, is at `next`.
 pub record PlacesLines (text : List ℕ) (limit from : ℕ) (old new : Branch) (end next : ℕ) : Type 0 where
   pub assignments : List ParsedAssignment
   pub read : IsScope old → assignment_lines text limit from (Ok (assignments, next))
@@ -26,8 +26,8 @@ pub record PlacesLines (text : List ℕ) (limit from : ℕ) (old new : Branch) (
   pub boundary : IsCharBoundary text next
   pub header : (next ≡ length text) ⊎ (slice_index text next ≡ left_bracket)
 
--- These assignments are read from `from` on, do not clash, and are what the table shows. Its names ascend, and its
--- strings and keys are borrowed where they equal the text.
+-- These assignments are read from `from` on and do not clash, and the table is the one that they define. The names in
+-- its tables ascend, and its strings and keys are borrowed correctly.
 pub record IsSectionTable (text : List ℕ) (limit from : ℕ) (lines : Lines) : Type 0 where
   pub assignments : List ParsedAssignment
   pub read : assignment_lines text limit from (Ok (assignments, lines.next))

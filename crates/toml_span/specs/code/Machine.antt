@@ -1,5 +1,5 @@
--- What the tree under construction keeps of the claims so far, for each path (a cell), and the clash that is found with
--- the cells.
+-- A cell is what the tree under construction keeps of the claims on one path. The cells of all paths suffice to find
+-- the first clash.
 use Rattle.std.specs.Option.{option_or}
 use Rattle.std.specs.Box.{box_value}
 use Rattle.std.specs.Global.{Box}
@@ -16,15 +16,15 @@ use Rattle.toml_span.specs.Clashes.{NamedClash}
 use Rattle.toml_span.specs.declared.claims.Clash as code
 use Rattle.toml_span_lex.specs.declared.stop.Stop.TheVariants.{Memory, Fault}
 
--- The claim that determines a path so far: whether a header made it, its place, and the span of the key in the first
--- claim on the path.
+-- What is known of the place at a path so far: whether the claim that determines it was made by a header, the place,
+-- and the span of the key in the first claim on the path.
 pub record Decided : Type 0 where
   pub header : Bool
   pub place : Place
   pub key : Span
 
--- What is kept for a path: the first claim of each kind in the path's own scope, and the claim that determines the
--- path, in whatever scope it is.
+-- What is kept for a path: the first claim of each kind in the path's own scope, and the place there, which a claim in
+-- any scope may determine.
 pub record Cell : Type 0 where
   pub infos : List ClaimInfo
   pub shown : Option Decided
@@ -41,7 +41,8 @@ no_cells p = no_cell
 abbrev pub with_span : Span → Decided → Decided
 with_span span d = record { header = d.header; place = d.place; key = span }
 
--- The first header determines the path or, if there is none, the first claim.
+-- the place at a path after one more claim on it: that of the first header or, if no header claims the path, that of
+-- the first claim
 abbrev pub decide : Option Decided → Decided → Option Decided
 decide None next = Some next
 decide (Some first) next = if first.header || not next.header then Some first else Some (with_span first.key next)
@@ -49,7 +50,8 @@ decide (Some first) next = if first.header || not next.header then Some first el
 abbrev pub decided : Claim → Decided
 decided c = record { header = by_header c.info.kind; place = c.place; key = c.info.key }
 
--- the cell after a claim in its scope, and after a claim in a scope inside it
+-- the cell x after the claim c: `with_claim` for a claim in the path's own scope, `with_inner` for a claim in a scope
+-- inside it
 abbrev pub with_claim : Claim → Cell → Cell
 with_claim c x = record { infos = remember x.infos c.info; shown = decide x.shown (decided c) }
 
@@ -69,17 +71,18 @@ show_all st no_claims = st
 show_all st (claimed c cs) = show_all (change st c.path (with_inner c)) cs
 show_all st (scope inner cs) = show_all (show_all st inner) cs
 
--- the cells after these claims, one after the other, and after those in inner scopes
+-- the cells after these claims, where only those in a `scope` count as claims in inner scopes
 unfoldable pub put_all : CellMap → Claims → CellMap
 put_all st no_claims = st
 put_all st (claimed c cs) = put_all (change st c.path (with_claim c)) cs
 put_all st (scope inner cs) = put_all (show_all st inner) cs
 
--- the clash of a claim with the first of the claims on its path that it clashes with
+-- the clash of a claim, whose key has this name, with the first of the claims `infos` with which it clashes
 abbrev pub earliest_clash : List ClaimInfo → ClaimInfo → List ℕ → Option NamedClash
 earliest_clash infos info name = option_map (with_name name) (earliest_clash_info infos info)
 
--- The first clash that is found. An inner scope begins without claims.
+-- The first clash that these claims cause if the cells `st` have the claims before them. An inner scope begins without
+-- claims.
 unfoldable pub clash_found : CellMap → Claims → Option NamedClash
 clash_found st no_claims = None
 clash_found st (claimed c cs) =

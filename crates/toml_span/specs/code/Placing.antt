@@ -51,21 +51,21 @@ Reaches Before After old new r cs entries =
     → OkOrClash r (clash_found (cells old) cs)
     (λ _. (cells new ≡ put_all (cells old) cs) × (counts new ≡ entries) × After new)
 
--- the same for a table, whose own claims stay the same
+-- `Reaches` holds for a branch that is a table before and after, and the claims on this table itself do not change.
 abbrev pub Places : Branch → Branch → Result (Unit {0}) PlaceError → Claims → (Path → ℕ) → Type 0
 Places old new r cs entries = Reaches IsScope (λ n. IsScope n × (infos n ≡ infos old)) old new r cs entries
 
--- the same for the branch that a name leads to
+-- `Reaches` holds for a branch to which a name leads.
 abbrev pub Passes : Branch → Branch → Result (Unit {0}) PlaceError → Claims → (Path → ℕ) → Type 0
 Passes old new r cs entries = Reaches IsChild IsHeld old new r cs entries
 
--- the same for a table, which is claimed first
+-- `Reaches` holds for a branch that is a table afterwards, and the claim m has been recorded on this table itself.
 abbrev pub Opening : (Branch → Type 0) → ClaimInfo → Branch → Branch → Result (Unit {0}) PlaceError → Claims
     → (Path → ℕ) → Type 0
 Opening Before m old new r cs entries =
     Reaches Before (λ n. IsScope n × (infos n ≡ remember (infos old) m)) old new r cs entries
 
--- A branch that can be claimed for a section, or a new entry that can be claimed.
+-- The branch can be claimed as this kind: as the table of a header or, if it has no entries, as a new entry.
 abbrev pub Opens : ClaimKind → Branch → Type 0
 Opens kind n = Sound n × ((kind ≡ StandardTable) ⊎ ((kind ≡ TableElement) × (entries n ≡ [])))
 
@@ -79,27 +79,31 @@ assignment_claims e p = key_claims p e.parts e.value (value_claims e.value)
 abbrev pub claims_of : List Assignment → Claims
 claims_of pairs = assignments_claims (map parsed_assignment pairs) []
 
--- The pending value has been placed. The branch is that of a part of its key, and `rest` are the inner parts after it.
+-- The pending value d, which was read as v, has been placed, or the result is the first clash. The branch is that of
+-- `part`, a part of its key, and `rest` are the parts after `part` except the last.
 abbrev pub PassesPair : Branch → Branch → Result (Unit {0}) PlaceError
     → Key → List Key → Pending → Read → Type 0
 PassesPair old new r part rest d v =
     Passes old new r (through_pair (simple_key part) (map simple_key rest) (simple_key d.last) v) (counts old)
 
--- A section has been placed below a branch. `parts` are the parts of its header that lead there from the branch.
+-- A section has been placed below a branch, or the result is the first clash. `parts` are the parts of its header that
+-- lead from the branch to the section's table.
 abbrev pub PlacesSection : Branch → Branch → Result (Unit {0}) PlaceError
     → HeaderInfo → List Key → List Assignment → Type 0
 PlacesSection old new r h parts pairs =
     Places old new r (section_at (counts old) h (map simple_key parts) (claims_of pairs))
     (counts_after (counts old) h (map simple_key parts))
 
--- the same for the branch of a part, with the parts after it
+-- A section has been placed at or below the branch of `part`, or the result is the first clash. `part` is a part of its
+-- header, and `rest` are the parts after it.
 abbrev pub PassesHeader : Branch → Branch → Result (Unit {0}) PlaceError
     → HeaderInfo → Key → List Key → List Assignment → Type 0
 PassesHeader old new r h part rest pairs =
     Passes old new r (through (counts old) h (simple_key part) (map simple_key rest) (claims_of pairs))
     (counts_after_through (counts old) h (map simple_key rest))
 
--- the same for a table that the header passes through
+-- A section has been placed below a table, or the result is the first clash. `part` is the part of its header that
+-- passes through the table, and `rest` are the parts after it.
 abbrev pub PassesTable : Branch → Branch → Result (Unit {0}) PlaceError
     → HeaderInfo → Key → List Key → List Assignment → Type 0
 PassesTable old new r h part rest pairs =
@@ -109,7 +113,8 @@ PassesTable old new r h part rest pairs =
 
 -- ---- values
 
--- The finished value shows what was read, at its own path and below it, and its tables are in order.
+-- The finished value x has the places of the value v that was read, at its own path and below it. The names in its
+-- tables ascend.
 abbrev pub IsFinished : Read → Value → Type 0
 IsFinished v x =
     ((at : Option Span)
@@ -126,19 +131,19 @@ ValueGives r v = OkOrClash r (clash_found no_cells (value_claims v [])) (IsFinis
 abbrev pub place_shown : Cell → Option Place
 place_shown x = option_map (λ d. d.place) x.shown
 
--- The tree shows the places of a state, except for its own.
+-- The tree has the places in the cells `st` at all paths except the empty one.
 abbrev pub ShowsBelow : tree.Inner → CellMap → Type 0
 ShowsBelow i st =
     (s : Step) (p : Path)
     → option_map tree_place (reached (s ∷ p) (None, tree.node i (record { start = 0; end = 0 })))
     ≡ place_shown (st (s ∷ p))
 
--- The same, and what determines them is never a header.
+-- The tree has the places in the cells `st` at all paths except the empty one, and a header determines none of them.
 abbrev pub ShowsPlain : tree.Inner → CellMap → Type 0
 ShowsPlain i st =
     (s : Step) (p : Path) → value_shows None (tree.node i (record { start = 0; end = 0 })) (s ∷ p) ≡ (st (s ∷ p)).shown
 
--- the result for the scope of an inline table or array
+-- The result is that for an inline table or array whose scope has these claims: its content, or the first clash in it.
 abbrev pub ScopeGives : {A : Type 0} → Result A PlaceError → (A → tree.Inner) → Claims → Type 0
 ScopeGives r seen cs =
     OkOrClash r (clash_found no_cells cs) (λ x. ShowsPlain (seen x) (show_all no_cells cs) × HoldsOrdered (seen x))
@@ -165,7 +170,7 @@ Finishes tables values (Ok t) =
     × StaysRight n (table_held t.entries)
 Finishes tables values (Err e) = ⊤
 
--- the value made from a branch, with the span of its key
+-- The result is the value made from the branch n, and the span of its key.
 abbrev pub Becomes : Branch → Result (Span × Value) AllocError → Type 0
 Becomes n (Ok r) =
     Sound n
@@ -175,24 +180,24 @@ Becomes n (Ok r) =
     × ShowsBelow (tree_inner (view r.1)) (cells n) × IsOrdered (view r.1) × StaysRight n (strings_and_keys r.1)
 Becomes n (Err e) = ⊤
 
--- the value made from an entry, which has no key
+-- The value v is made from the entry n, which has no key.
 abbrev pub BecomesEntry : Branch → Value → Type 0
 BecomesEntry n v = (at : Span) × Becomes n (Ok (at, v))
 
--- the values made from the entries of an array of tables, in order
+-- The result is the array of the values made from the entries of an array of tables, in order.
 abbrev pub EachBecomes : List Branch → Result Array AllocError → Type 0
 EachBecomes ns (Ok a) = AllZip BecomesEntry ns a.items
 EachBecomes ns (Err e) = ⊤
 
 -- ---- the document
 
--- A section without a header does not add an element.
+-- No section without a header adds an element to an array of tables.
 abbrev pub AreSections : List ParsedSection → Type 0
 AreSections [] = ⊤
 AreSections (b ∷ bs) = (b.header ≡ [] → b.array ≡ false) × AreSections bs
 
--- If no two claims clash, the result is a tree that shows the flat document and is in order. Otherwise it is the first
--- clash.
+-- If no two claims clash, the result is a tree that has the places of the flat document, with ascending names in each
+-- table. Otherwise the result is the first clash.
 abbrev pub Assembles : List ParsedSection → ℕ → Result Value PlaceError → Type 0
 Assembles bs length (Ok root) =
     Resolves (claims bs) × ShowsExactly (view root) (flat length (claims bs)) × IsOrdered (view root)

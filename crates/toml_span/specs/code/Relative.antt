@@ -10,7 +10,7 @@ use Rattle.toml_span.specs.declared.claims.ClaimKind.TheVariants.{Passed, Standa
 use Rattle.toml_span.specs.declared.claims.HeaderInfo.{HeaderInfo}
 use Rattle.toml_span.specs.code.Machine.{graft}
 
--- a claim one step further down, and all claims one step further down
+-- the claim c with the step s before its path; `under` does the same for all claims
 abbrev pub step_down : Step → Claim → Claim
 step_down s c = record { path = s ∷ c.path; name = c.name; info = c.info; place = c.place }
 
@@ -26,7 +26,8 @@ unfoldable pub pair_at : List SimpleKey → SimpleKey → ParsedValue → Claims
 pair_at [] last v = under (key last.name) (claimed (assigned [] last v) (value_claims v []))
 pair_at (k ∷ inner) last v = under (key k.name) (claimed (dotted [] k v) (pair_at inner last v))
 
--- the same as paths below the branch of the first inner part
+-- the claims of a value that is assigned to the key of k, the parts `inner` and the part `last`, with paths that begin
+-- at the branch of k
 abbrev pub through_pair : SimpleKey → List SimpleKey → SimpleKey → ParsedValue → Claims
 through_pair k inner last v = claimed (dotted [] k v) (pair_at inner last v)
 
@@ -43,7 +44,7 @@ abbrev pub entered : ℕ → (Path → ℕ) → ((Path → ℕ) → Claims) → 
 entered zero e f = f e
 entered (suc latest) e f = under (position latest) (f (λ q. e (position latest ∷ q)))
 
--- the claim of a table, and those in it
+-- the claim of a table, followed by the claims `tail` in it
 abbrev pub opening : HeaderInfo → ClaimKind → SimpleKey → Claims → Claims
 opening h kind k tail = claimed (header_claim h kind [] k) tail
 
@@ -63,11 +64,13 @@ section_at e h (k ∷ l ∷ more) tail =
     under (key k.name)
     (entered (e (key k.name ∷ [])) (λ q. e (key k.name ∷ q)) (λ f. opening h Passed k (section_at f h (l ∷ more) tail)))
 
--- the same as paths below a branch that the header passes through
+-- the claims of a section, with paths that begin at the table through which the part k of its header passes; `rest` are
+-- the parts after k
 abbrev pub passing : HeaderInfo → SimpleKey → List SimpleKey → Claims → (Path → ℕ) → Claims
 passing h k rest tail f = opening h Passed k (section_at f h rest tail)
 
--- the same as paths below the branch of the part k
+-- the claims of a section, with paths that begin at the branch of the part k of its header; the list has the parts
+-- after k
 abbrev pub through : (Path → ℕ) → HeaderInfo → SimpleKey → List SimpleKey → Claims → Claims
 through e h k [] tail = ending h k tail (e [])
 through e h k (l ∷ more) tail = entered (e []) e (passing h k (l ∷ more) tail)

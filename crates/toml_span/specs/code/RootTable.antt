@@ -10,12 +10,12 @@ use Rattle.toml_span.specs.code.Built.{IsBuilt}
 use Rattle.toml_span.specs.code.Machine.{no_cells, put_all, clash_found}
 use Rattle.toml_span.specs.code.Placing.{Table}
 
--- these sections, the latest of them first, before the earlier ones
+-- the sections in reverse order, followed by the list `earlier`
 unfoldable pub latest_first : List ParsedSection → List ParsedSection → List ParsedSection
 latest_first [] earlier = earlier
 latest_first (b ∷ bs) earlier = latest_first bs (b ∷ earlier)
 
--- The sections do not clash, and the table shows them. Its strings and keys are borrowed where they equal the text.
+-- The sections do not clash, and the table is built from them. Its strings and keys are borrowed correctly.
 pub record IsRootOf (text : List ℕ) (bs : List ParsedSection) (t : Table) : Type 0 where
   pub free : clash_found no_cells (claims bs) ≡ None
   pub built : IsBuilt text t (put_all no_cells (claims bs)) (elements_added (opened_by (latest_first bs [])))

@@ -63,19 +63,19 @@ child_infos (Some n) = infos n
 
 -- ---- what a branch keeps and shows
 
--- The place at a path that this claim of a table or of an array of tables determines.
+-- the place at a path if this claim of a table or of an array of tables determines it
 abbrev pub place_claimed : ClaimInfo → Place
 place_claimed m = record { shape = shape_claimed m.kind; key_span = key_span_of m.kind m.key; span = m.extent }
 
 abbrev pub by_info : ClaimInfo → Decided
 by_info m = record { header = by_header m.kind; place = place_claimed m; key = m.key }
 
--- What these claims show at their path. The key is that of the first one.
+-- the place at a path with these claims; the key is that of the first claim
 abbrev pub by_infos : List ClaimInfo → Option Decided
 by_infos [] = None
 by_infos (m ∷ ms) = option_map (λ x. with_span m.key (by_info x)) (deciding (m ∷ ms))
 
--- the span of the key or, for an element in brackets, which has no key, its own span
+-- the span of the key or, for an element of an array in brackets, which has no key, its own span
 abbrev pub span_or : Span → Option Span → Span
 span_or span None = span
 span_or span (Some at) = at
@@ -83,7 +83,7 @@ span_or span (Some at) = at
 abbrev pub plain : Place → Decided
 plain p = record { header = false; place = p; key = span_or p.span p.key_span }
 
--- what a finished value shows at each path inside it; its own key has this span, if it has one
+-- the place at each path in the finished value n, whose own key, if it has one, has the span `at`
 abbrev pub value_shows : Option Span → tree.Node → Path → Option Decided
 value_shows at n p = option_map (λ m. plain (tree_place m)) (reached p (at, n))
 
@@ -149,7 +149,7 @@ NoArray ms = AllByRecursion (λ m. is_array_kind m.kind ≡ false) ms
 abbrev pub NoEntry : List ClaimInfo → Type 0
 NoEntry ms = AllByRecursion (λ m. is_entry_kind m.kind ≡ false) ms
 
--- The claims are those of a branch that a name leads to: at least one, but not that of an entry.
+-- The claims are those of a branch that a name leads to: at least one, but no claim of the kind `TableElement`.
 abbrev pub IsNamed : List ClaimInfo → Type 0
 IsNamed [] = ⊥
 IsNamed (m ∷ ms) = NoEntry (m ∷ ms)
@@ -166,7 +166,7 @@ pub record IsFresh (n : Branch) : Type 0 where
   pub no_tables : (out-Branch n).tables.entries ≡ []
   pub no_entries : entries n ≡ []
 
--- An array of tables is claimed once, and has nothing but entries.
+-- The branch is an array of tables: it is claimed once, and has nothing except entries.
 pub record IsArray (n : Branch) : Type 0 where
   pub claim : ClaimInfo
   pub only : infos n ≡ claim ∷ []
@@ -174,12 +174,12 @@ pub record IsArray (n : Branch) : Type 0 where
   pub no_values : (out-Branch n).values.entries ≡ []
   pub no_tables : (out-Branch n).tables.entries ≡ []
 
--- A branch without entries is a table, and a branch with entries is an array of tables.
+-- The branch n is a table if this list of its entries is empty, otherwise an array of tables.
 abbrev pub IsTableOrArray : Branch → List Branch → Type 0
 IsTableOrArray n [] = NoArray (infos n)
 IsTableOrArray n (x ∷ xs) = IsArray n
 
--- Each branch in `tables` has claims by name, and its name is not in `values`.
+-- Each branch in `tables` has the claims of a branch that a name leads to, and its name is not in `values`.
 abbrev pub AreNamed : Branch → Type 0
 AreNamed n = (name : List ℕ) (c : Branch) → child name n ≡ Some c → (closed name n ≡ None) × IsNamed (infos c)
 
@@ -187,12 +187,12 @@ AreNamed n = (name : List ℕ) (c : Branch) → child name n ≡ Some c → (clo
 abbrev pub AreEntries : List Branch → Type 0
 AreEntries ns = (i : ℕ) (c : Branch) → item i ns ≡ Some c → (entries c ≡ []) × IsEntry (infos c)
 
--- The names in the tables of the values ascend.
+-- In the tables of the assigned values, the names ascend.
 abbrev pub HoldsOrderedValues : Branch → Type 0
 HoldsOrderedValues n = (name : List ℕ) (e : Key × Value) → closed name n ≡ Some e → IsOrdered (view e.1)
 
--- Each branch is a table or an array of tables. No name is in both `values` and `tables`. The names in the values'
--- tables ascend.
+-- The branch, and each branch in it, is a table or an array of tables. No name is in both `values` and `tables`. In the
+-- tables of the assigned values, the names ascend.
 pub data Sound : Branch → Type 0 where
   sound : (n : Branch)
       → IsTableOrArray n (entries n) → AreNamed n → AreEntries (entries n) → HoldsOrderedValues n
@@ -200,18 +200,18 @@ pub data Sound : Branch → Type 0 where
       → ((i : ℕ) (c : Branch) → item i (entries n) ≡ Some c → Sound c)
       → Sound n
 
--- the root, an inline table, an entry, or any other table
+-- The branch is a table: the root, an inline table, an entry, or any other table.
 abbrev pub IsScope : Branch → Type 0
 IsScope n = Sound n × (entries n ≡ [])
 
--- a branch that a name leads to, or a new one that will be claimed for the name
+-- A name leads to the branch, or the branch is new and will be claimed for the name.
 abbrev pub IsChild : Branch → Type 0
 IsChild n = Sound n × (IsFresh n ⊎ IsNamed (infos n))
 
 abbrev pub IsHeld : Branch → Type 0
 IsHeld n = Sound n × IsNamed (infos n)
 
--- an array of tables to which an entry is added, the first or a later one
+-- The branch is an array of tables to which an entry is added, the first or a later one.
 pub record IsOpen (n : Branch) : Type 0 where
   pub array : IsArray n
   pub added : AreEntries (entries n)

@@ -5,29 +5,31 @@ use Rattle.toml_span_c.specs.declared.records.Record.{Record}
 use Rattle.toml_span_c.specs.Records.{Entry, records_of, strings_of}
 use Rattle.toml_span_c.specs.declared.records.TheConstants.{NONE}
 
--- the array with the list written from this index on, as much of the list as fits
+-- the array with the list `xs` written from the index `at` on, as much of the list as fits
 abbrev pub laid : {A : Type 0} → ℕ → List A → List A → List A
 laid at xs [] = []
 laid zero [] (y ∷ ys) = y ∷ ys
 laid zero (x ∷ xs) (y ∷ ys) = x ∷ laid zero xs ys
 laid (suc at) xs (y ∷ ys) = y ∷ laid at xs ys
 
--- These bytes were written after the first m bytes, as many as fit.
+-- The bytes `added` were written after the first `m` bytes, as many as fit, and `total` counts all of them.
 pub record PutsBytes (m : ℕ) (added old new : List ℕ) (total : ℕ) : Type 0 where
   pub bytes : new ≡ laid m added old
   pub count : total ≡ m + length added
 
--- This many records and bytes have been written.
+-- So far, there are `k` records and `m` bytes, counting those that did not fit.
 pub record IsAt (k m : ℕ) (counts : Counts) : Type 0 where
   pub nodes : counts.nodes ≡ k
   pub strings : counts.strings ≡ m
 
--- After k records and m bytes, and those of these entries, the numbers of both still fit into a `usize`.
+-- If the records and bytes of the entries `es` follow `k` records and `m` bytes, the total numbers still fit into a
+-- `usize`.
 pub record Fits (document : List ℕ) (k m : ℕ) (es : List Entry) : Type 0 where
   pub few : k + length es ≤ NONE
   pub short : m + length (strings_of document es) ≤ NONE
 
--- The records and the bytes of these entries were written after the first k records and m bytes, as many as fit.
+-- The records and the bytes of the entries `es` were written after the first `k` records and `m` bytes, as many as fit.
+-- `total` counts all of them.
 pub record Puts (document : List ℕ) (k m : ℕ) (es : List Entry) (old new : List Record) (bytes bytes' : List ℕ)
     (total : Counts) : Type 0 where
   pub nodes : new ≡ laid k (records_of document m es) old

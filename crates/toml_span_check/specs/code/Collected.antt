@@ -23,14 +23,14 @@ Holds task old new text held = HoldsRest old new text held × ((held ≡ text) �
 
 -- ---- the bytes of a file
 
--- A document is being printed, and a prefix has been written.
+-- A document is being printed, and a prefix of the buffered text `held` and the answer has been written.
 abbrev pub Begun : Says → Format → Task → List ℕ → List ℕ → List ℕ → Option (List ℕ) → Option (List ℕ) → List ℕ → Type 0
 Begun says format task pointer name bytes old new held =
     Shows task × ((answer : Answer) × IsAnswer says format task pointer name bytes answer
     × HasWritten old new (held ++ answer.1))
 
--- If the result is `Ok` with the verdict, the buffered text and the answer have been written, except for the text that
--- is in the buffer now. Something is written only if a document is printed.
+-- If the result is `Ok`, the buffered text and the answer have been written, except for the text that is in the buffer
+-- now. If it is an error, a prefix of them may have been written. Something is written only if a document is printed.
 abbrev pub CollectsBytes : Says → Format → Task → List ℕ → List ℕ → List ℕ → Result Verdict Unwritten → Option (List ℕ)
     → Option (List ℕ) → Bool → List ℕ → List ℕ → Type 0
 CollectsBytes says format task pointer name bytes (Ok verdict) old new failed held held' =
@@ -48,7 +48,7 @@ CollectsBytes says format task pointer name bytes (Err Failed) old new failed he
 abbrev pub TextsOf : Type 0
 TextsOf = List ℕ × List ℕ × ℕ × Tally
 
--- The second texts are the first with the output for one more file.
+-- `new` is `old` with the output for one more file.
 abbrev pub Adds : Says → Format → Task → List ℕ → List ℕ → Result (List ℕ) (List ℕ) → TextsOf → TextsOf → Type 0
 Adds says format task pointer name (Ok bytes) old new =
     (answer : Answer) × IsAnswer says format task pointer name bytes answer
@@ -77,7 +77,7 @@ CollectsOne says format task pointer name reading (Err Memory) old new failed he
 CollectsOne says format task pointer name reading (Err Failed) old new failed held held' =
     (failed ≡ true) × BegunOne says format task pointer name reading old new held
 
--- ---- the files of these names
+-- ---- files with these names
 
 abbrev pub CollectsFiles : Says → Format → Task → List ℕ → List (List ℕ) → Result Collected Unwritten → Option Asked
     → Option Asked → Option (List ℕ) → Option (List ℕ) → Bool → Type 0
@@ -91,9 +91,10 @@ CollectsFiles says format task pointer names (Err Memory) old new stdout stdout'
 CollectsFiles says format task pointer names (Err Failed) old new stdout stdout' failed =
     (failed ≡ true) × Shows task × CollectsFirst says format task pointer names old new stdout stdout'
 
--- ---- the files that arguments stand for
+-- ---- the files that arguments select
 
--- Nothing was written or, if documents are printed, a prefix of the output for the first files.
+-- If the result is `Ok`, the output has been written, except for the text in the buffer. Otherwise at most a prefix of
+-- the output for the first files has been written. Before the end, only documents that are printed are written.
 abbrev pub CollectsAll : Says → Format → Task → List ℕ → List (List ℕ) → List (List ℕ) → Bool → Result Collected Unwritten
     → Option Asked → Option Asked → Option (List ℕ) → Option (List ℕ) → Bool → Type 0
 CollectsAll says format task pointer excludes names is_watched (Ok t) old new stdout stdout' failed =

@@ -1,4 +1,4 @@
--- How the functions that find errors share the work.
+-- The values that the functions in `src/every.rt` pass to each other.
 use Rattle.std.specs.Prelude.{◌≡◌, ℕ, List, map, Option, Some, None, string_bytes}
 use Rattle.toml_span_lex.specs.declared.stop.Stop.TheVariants.{Fault}
 use Rattle.toml_span_tree.specs.declared.error.Error.{Error}
@@ -20,13 +20,13 @@ progress f = record {
   kept = string_bytes f.kept;
 }
 
--- `made` has the report of this error, and the start of its span.
+-- `made` has the report of this error, and the start of the error's span.
 abbrev pub IsErrorOf : List ℕ → Error → ErrorAt → Type 0
 IsErrorOf text error made =
     ReportsError severity.Error text (content_of error) (report_content made.report)
     × (made.place ≡ error.span.start)
 
--- the error of a text, or `None` if the text is a document
+-- the error that `parse` returns for a text, or `None` if the text is a document
 abbrev pub Judges : List ℕ → Option ErrorAt → Type 0
 Judges text None = (root : Value) × IsTree text depth_limit root
 Judges text (Some made) = (error : Error) × IsRefusal text depth_limit (Fault error) × IsErrorOf text error made

@@ -1,4 +1,4 @@
--- The result for a file, as `Judged` has it: a text, or a document to print.
+-- The result for a file, a `Judged`: the text of its reports, or a document to print.
 use Rattle.std.specs.Prelude.{◌≡◌, ℕ, List, Option, string_bytes}
 use Rattle.toml_span_places.specs.Dotted.{Locates}
 use Rattle.toml_span_tree.specs.Node.{Node}
@@ -11,7 +11,7 @@ use Rattle.toml_span_check.specs.declared.answer.Task.{Task}
 use Rattle.toml_span_check.specs.declared.answer.Task.TheVariants.{Show}
 use Rattle.toml_span_check.specs.declared.faults.Format.{Format}
 
--- The result is the answer to a text or, if its document is to be printed, the tree of the text.
+-- The result is the answer to `text` or, if `text` is a document to print, its tree.
 abbrev pub JudgesText : Says → Format → Task → List ℕ → List ℕ → List ℕ → Judged → Type 0
 JudgesText says format task pointer name text (Text verdict out) =
     IsRead says format task pointer name text (verdict.errors, out.items, string_bytes verdict.complaint)
@@ -20,7 +20,7 @@ JudgesText says format task pointer name text (Document form root) =
     × ((place : Option Node) → Locates pointer (view root) place
     → IsRead says format task pointer name text (found format form pointer name place))
 
--- The result is the answer to the bytes of a file or, if the document is to be printed, its tree.
+-- The result is the answer to the bytes of a file or, if they are a document to print, its tree.
 abbrev pub Judges : Says → Format → Task → List ℕ → List ℕ → List ℕ → Judged → Type 0
 Judges says format task pointer name bytes (Text verdict out) =
     IsAnswer says format task pointer name bytes (verdict.errors, out.items, string_bytes verdict.complaint)

@@ -14,7 +14,7 @@ use Rattle.toml_span_read.specs.Read as read
 abbrev pub Onto : List ℕ → ℕ → ℕ → Type 0
 Onto text i j = (i ≤ j) × IsCharBoundary text j
 
--- What was read ends after i.
+-- If a form was read, it ends after i, at a character boundary.
 abbrev pub EndsPast : {A : Type 0} → List ℕ → ℕ → Result (A × ℕ) Fault → Type 0
 EndsPast text i (Ok found) = Onto text (i + 1) found.1
 EndsPast text i (Err fault) = Unit {0}

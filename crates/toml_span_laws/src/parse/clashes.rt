@@ -12,7 +12,7 @@ ghost use Rattle.toml_span_laws.specs.Clashing.{IsFirstPair, IsIn, ShareScope};
 
 /// The clash that is reported is the first by its offsets. Its later claim starts before every other claim of the
 /// document that clashes with an earlier one in its scope (the document, an array in brackets or an inline table). Its
-/// earlier claim starts before every other claim that clashes with the later claim.
+/// earlier claim starts before every other earlier claim that clashes with the later claim.
 pub fn reported_is_first_by_place()
     ensures { (text : List ℕ) (limit : ℕ) (sections : List ParsedSection) (reported : NamedClash)
         → SpellsDocument sections text limit
@@ -20,8 +20,8 @@ pub fn reported_is_first_by_place()
         × (clash c d ≡ Some reported)) }
 {}
 
-/// A claim of a header that passes through an element does not determine the place at the element's position: the
-/// element's own claim does, in an array of tables and in an array in brackets.
+/// A header that passes through an element of an array never determines the place at the element's position. The
+/// element's own claim does, both in an array of tables and in an array in brackets.
 pub fn no_header_through_an_element_decides()
     ensures { (text : List ℕ) (limit : ℕ) (sections : List ParsedSection) (path : Path) (index : ℕ) (c : Claim)
         → SpellsDocument sections text limit
@@ -39,9 +39,9 @@ pub fn claims_on_one_path_are_of_one_scope()
         → c.path ≡ d.path → ShareScope (claims sections) c d }
 {}
 
-/// A dotted key that goes through a value is never the first clash. In one section or inline table it is a fault, so
-/// the text does not spell a document. A dotted key of another section goes through a value only if two earlier claims
-/// clash: on a table that two headers open, or that a header opens and a dotted key creates.
+/// The first clash is never that of a dotted key that goes through a value. If the key and the value are in the same
+/// section or inline table, this is a fault, so the text does not spell a document. If they are in different sections,
+/// two earlier claims clash: on a table that two headers open, or that a header opens and a dotted key creates.
 pub fn no_dotted_key_through_a_value_is_reported()
     ensures { (text : List ℕ) (limit : ℕ) (sections : List ParsedSection) (c d : Claim)
         → SpellsDocument sections text limit

@@ -13,8 +13,8 @@ use Rattle.toml_span_lex.specs.declared.tokens.Token.TheVariants as tokens
 use Rattle.toml_span_lex.specs.Strings.{IsContent, IsContentCutOff, HasChange, NeedsCopy, opens_multi, IsString}
 use Rattle.toml_span_lex.specs.Strings.{IsNoString, NeedsMemory, Borrows, BorrowsWhereSame}
 
--- The value of the content from `from` to `at`. It is not copied (None) as long as it equals the text. After that it is
--- an owned string, which is shorter than the text.
+-- `value` is the value of the content from `from` to `at`. As long as it equals the text, it is not copied (None).
+-- Otherwise it is an owned string, which is shorter than the text.
 abbrev pub Kept : {Z : Type 0} → ℕ → List ℕ → ℕ → ℕ → List ℕ → Option (String Z) → Type 0
 Kept q text from at value None = value ≡ slice_range text from at
 Kept q text from at value (Some s) = (string_bytes s ≡ value) × (length value + from < at) × HasChange q text from at
@@ -30,7 +30,7 @@ abbrev pub StringBorrows : List ℕ → Result (Span × Token × ℕ) (Stop (Err
 StringBorrows text (Ok (span, tokens.String src val multi, j)) = BorrowsWhereSame text span val
 StringBorrows text _ = Unit {0}
 
--- the result of reading a string at i
+-- The result of reading the string at i is this string, fault or failed allocation.
 abbrev pub StringGives : List ℕ → ℕ → Result (Span × Token × ℕ) (Stop (Error × ℕ)) → Type 0
 StringGives text i (Ok (span, tokens.String src val multi, j)) =
     IsString text i j span src.now (cow_str_bytes val) multi × Borrows text i j span val
@@ -38,7 +38,7 @@ StringGives text i (Ok (span, _, j)) = ⊥
 StringGives text i (Err (stops.Memory e)) = NeedsMemory text i
 StringGives text i (Err (stops.Fault (e, j))) = IsNoString text i j e
 
--- the result of scanning the string at i
+-- The result of finding the end of the string at i is this offset or fault.
 abbrev pub ScanGives : List ℕ → ℕ → Result ℕ (Error × ℕ) → Type 0
 ScanGives text i (Ok j) =
     (span : Span) × (source : List ℕ) × (value : List ℕ) × IsString text i j span source value (opens_multi text i)

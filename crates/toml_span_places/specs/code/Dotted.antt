@@ -1,4 +1,4 @@
--- What the functions for paths return.
+-- What the functions that read paths return.
 use Rattle.std.specs.Prelude.{◌≡◌, ℕ, Bool, List, ◌++◌, Result, Ok, Err}
 use Rattle.std.specs.Cow.{cow_str_bytes}
 use Rattle.std.specs.declared.borrow.CowStr.{CowStr}
@@ -34,11 +34,12 @@ StepGives text i (Ok (segment, j)) = IsStep text i j (cow_str_bytes segment) × 
 StepGives text i (Err (stops.Memory e)) = Unit {0}
 StepGives text i (Err (stops.Fault e)) = NoStep text i e
 
--- the segments before those of an outcome
+-- the outcome with `names` put before its segments, if it has segments
 abbrev pub prefixed : List (List ℕ) → Outcome → Outcome
 prefixed names (Ok segments) = Ok (names ++ segments)
 prefixed names (Err e) = Err e
 
--- whatever the steps from i on are, the segments before them are these
+-- The whole text is a dotted key with positions whose segments are `names` and then those of the steps from i on,
+-- whatever these are.
 abbrev pub AfterSegments : List ℕ → List (List ℕ) → ℕ → Type 0
 AfterSegments text names i = (rest : Outcome) → Steps text i rest → IsDotted text (prefixed names rest)

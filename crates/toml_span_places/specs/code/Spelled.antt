@@ -1,4 +1,4 @@
--- What is true of every value in memory, so that it can be written as TOML.
+-- Properties that every value in memory has, and that are needed to write it as TOML.
 use Rattle.std.specs.Prelude.{FitsSigned}
 use Rattle.std.specs.Str.{IsUtf8}
 use Rattle.toml_span_tree.specs.Date.{IsDateText}

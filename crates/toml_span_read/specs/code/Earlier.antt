@@ -33,7 +33,7 @@ child name es = lookup (is_named name) es
 abbrev pub no_spans : Holds
 no_spans names = None
 
--- what a child stores, or nothing if there is none
+-- what a child stores at each path below it, or nothing without a child
 abbrev pub below : Option Holds → Holds
 below None names = None
 below (Some holds) names = holds names
@@ -46,13 +46,13 @@ holds_step n (name ∷ names) = below (child name n.below.entries) names
 abbrev pub holds : Tree → Holds
 holds = fold-Node Holds holds_step
 
--- The span is stored at this path, unless there was one before. Nothing else changes.
+-- The span `first` is stored at the path `names`, unless a span was stored there before. Nothing else changes.
 abbrev pub Puts : List (List ℕ) → Span → Holds → Holds → Type 0
 Puts names first old new =
     (new names ≡ Some (unwrap_or (old names) first))
     × ((other : List (List ℕ)) → (other ≡ names → ⊥) → new other ≡ old other)
 
--- Below the name, the new tree stores what `under` says. Nothing else changes.
+-- At the paths that begin with this name, the new tree stores the spans of `under`. Nothing else changes.
 abbrev pub PutsBelow : List ℕ → Holds → Holds → Holds → Type 0
 PutsBelow name under old new =
     ((names : List (List ℕ)) → new (name ∷ names) ≡ under names)

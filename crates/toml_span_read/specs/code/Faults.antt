@@ -10,7 +10,7 @@ use Rattle.toml_span_read.specs.Faults.{StartsInside, token_fault}
 use Rattle.toml_span_read.specs.Read.{Reading}
 use Rattle.toml_span_read.specs.code.Gaps.{Further}
 
--- The function returns what the definition reads, or its fault, unless an allocation fails.
+-- The function returns what the definition m reads, converted by `view`, or the fault of m, unless an allocation fails.
 abbrev pub MatchesReading : {A B : Type 0} → (A → B) → Reading B → Result A (Stop Fault) → Type 0
 MatchesReading view m (Ok a) = m (Ok (view a))
 MatchesReading view m (Err (stops.Memory e)) = Unit {0}
@@ -20,7 +20,7 @@ abbrev pub IsPlacedStop : List ℕ → Stop Fault → Type 0
 IsPlacedStop text (stops.Memory e) = Unit {0}
 IsPlacedStop text (stops.Fault fault) = StartsInside text fault.span
 
--- What was read ends after i, or the fault is inside the text.
+-- What was read ends after i, or the fault starts inside the text or at its end.
 abbrev pub Advances : {A : Type 0} → List ℕ → ℕ → Result (A × ℕ) (Stop Fault) → Type 0
 Advances text i (Ok found) = Further text i found.1
 Advances text i (Err stop) = IsPlacedStop text stop
@@ -33,7 +33,7 @@ IsPlacedEnd text (Err stop) = IsPlacedStop text stop
 abbrev pub IsTokenFault : List ℕ → ℕ → Fault → Type 0
 IsTokenFault text i fault = (j : ℕ) × (e : Error) × IsNoToken text i j e × (fault ≡ token_fault e)
 
--- The offsets in a tokenizer's error are below n.
+-- The offsets in a tokenizer's error are below n, except the second one of `MultilineStringKey`.
 abbrev pub Bounded : ℕ → Error → Type 0
 Bounded n (errors.InvalidCharInString at c) = at < n
 Bounded n (errors.InvalidEscape at c) = at < n

@@ -29,7 +29,7 @@ AfterElementGives c text i (after.Comma j) = Separator comma text i j × Further
 AfterElementGives c text i (after.Closed j) = Closes c text i j × Further text i j
 AfterElementGives c text i (after.Neither j) = Neither c text i j × IsCharBoundary text j
 
--- a byte with gaps around it, or the offset at which it was expected
+-- The result is the end of the byte c with the gaps around it, or the offset at which the byte was expected.
 abbrev pub SeparatorGives : ℕ → List ℕ → ℕ → Result ℕ ℕ → Type 0
 SeparatorGives c text i (Ok j) = Separator c text i j × Further text i j
 SeparatorGives c text i (Err k) = MaximalGap text i k × ((slice_index text k == c) ≡ false) × IsCharBoundary text k

@@ -13,7 +13,7 @@ abbrev pub DigitGives : ℕ → ℕ → Option ℕ → Type 0
 DigitGives radix c None = is_digit_in radix c ≡ false
 DigitGives radix c (Some value) = (is_digit_in radix c ≡ true) × (value ≡ digit_value c)
 
--- the number, or None if it does not fit into 64 bits
+-- The result is the number n, or None if n does not fit into 64 bits.
 abbrev pub WithinGives : ℕ → Option ℕ → Type 0
 WithinGives n None = 2 ^ 64 ≤ n
 WithinGives n (Some m) = m ≡ n

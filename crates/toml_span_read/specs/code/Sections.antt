@@ -38,7 +38,7 @@ sections_found found = map parsed_section found.items
 
 -- ---- where reading ends
 
--- What was read ends at i or after it, or the fault is inside the text.
+-- What was read ends at i or after it, or the fault starts inside the text or at its end.
 abbrev pub EndsAfter : {A : Type 0} → List ℕ → ℕ → Result (A × ℕ) (Stop Fault) → Type 0
 EndsAfter text i (Ok found) = (i ≤ found.1) × IsCharBoundary text found.1
 EndsAfter text i (Err stop) = IsPlacedStop text stop
@@ -48,19 +48,19 @@ abbrev pub EndsAtHeader : {A : Type 0} → List ℕ → Result (A × ℕ) (Stop 
 EndsAtHeader text (Ok found) = (found.1 ≡ length text) ⊎ (slice_index text found.1 ≡ left_bracket)
 EndsAtHeader text (Err stop) = Unit {0}
 
--- The rest of a line or of a header ends at i or after it, or the fault is inside the text.
+-- The rest of a line or of a header ends at i or after it, or the fault starts inside the text or at its end.
 abbrev pub LineReads : List ℕ → ℕ → Result ℕ (Stop Fault) → Type 0
 LineReads text i (Ok j) = (i ≤ j) × IsCharBoundary text j
 LineReads text i (Err stop) = IsPlacedStop text stop
 
--- A header begins at i and ends after it.
+-- The header begins at i and ends after i, or the fault starts inside the text or at its end.
 abbrev pub HeaderReads : List ℕ → ℕ → Result Header (Stop Fault) → Type 0
 HeaderReads text i (Ok h) = (h.extent.start ≡ i) × Further text i h.extent.end
 HeaderReads text i (Err stop) = IsPlacedStop text stop
 
 -- ---- section by section
 
--- A section ends where a header begins, or at the end of the text.
+-- A header begins at j, or the text ends there.
 abbrev pub EndsSection : List ℕ → ℕ → Type 0
 EndsSection text j = IsCharBoundary text j × ((j ≡ length text) ⊎ (slice_index text j ≡ left_bracket))
 

@@ -9,7 +9,7 @@ use Rattle.toml_span_read.specs.declared.strings.StringToken.{StringToken}
 use Rattle.toml_span_read.specs.code.Faults.{IsTokenFault}
 use Rattle.toml_span_read.specs.code.Gaps.{Further}
 
--- what reading a string at i returns
+-- The result of reading the string at i is this string, fault or failed allocation.
 abbrev pub StringReads : List ℕ → ℕ → Result StringToken (Stop Fault) → Type 0
 StringReads text i (Ok token) =
     (source : List ℕ) × IsString text i token.end token.span source (cow_str_bytes token.content) token.is_multiline

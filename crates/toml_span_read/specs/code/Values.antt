@@ -31,13 +31,13 @@ abbrev pub IsScalarKind : Result (ValKind × ℕ) (Stop Fault) → Type 0
 IsScalarKind (Ok found) = is_scalar (parsed_kind found.0) ≡ true
 IsScalarKind (Err stop) = Unit {0}
 
--- The scalar that the definition reads, or its fault, unless an allocation fails.
+-- The function returns the scalar that the definition reads, or its fault, unless an allocation fails.
 abbrev pub ScalarGives : Reading (Scalar × ℕ) → Result (ValKind × ℕ) (Stop Fault) → Type 0
 ScalarGives m (Ok (kind, j)) = (s : Scalar) × (parsed_kind kind ≡ scalar s) × m (Ok (s, j))
 ScalarGives m (Err (stops.Memory e)) = Unit {0}
 ScalarGives m (Err (stops.Fault fault)) = m (Err fault)
 
--- the fault of a value that is nested too deep
+-- The fault is that of a value at i that is nested too deep.
 abbrev pub IsTooDeep : ℕ → Stop Fault → Type 0
 IsTooDeep i (stops.Memory e) = ⊥
 IsTooDeep i (stops.Fault fault) = fault ≡ fault_at kinds.ExceededDepthLimit i
@@ -49,7 +49,7 @@ pub record IsOtherWord (word : List ℕ) : Type 0 where
   pub no_infinity : word ≡ codes "inf" → ⊥
   pub no_nan : word ≡ codes "nan" → ⊥
 
--- what the bytes of a run are
+-- The bytes of the run spell this word.
 abbrev pub IsRunOf : List ℕ → Run → Type 0
 IsRunOf bytes runs.True = bytes ≡ codes "true"
 IsRunOf bytes runs.False = bytes ≡ codes "false"

@@ -23,7 +23,7 @@ FoundGives text i (Ok (found, j)) = IsFound text i j found
 FoundGives text i (Err (stops.Memory e)) = Unit {0}
 FoundGives text i (Err (stops.Fault fault)) = IsTokenFault text i fault
 
--- the fault if the expected token is not at i
+-- The result is the fault for something other than the expected token at i, or a failed allocation.
 abbrev pub WantedGives : List ℕ → ℕ → ExpectedToken → Stop Fault → Type 0
 WantedGives text i expected (stops.Memory e) = Unit {0}
 WantedGives text i expected (stops.Fault fault) =

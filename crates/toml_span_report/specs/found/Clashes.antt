@@ -16,7 +16,7 @@ use Rattle.toml_span_report.specs.declared.words.TheConstants.{TABLE_TWICE, THRO
 abbrev pub header_end : List ℕ → ℕ → ℕ
 header_end text at = start_of class.Blank text (end_of class.Left text at)
 
--- two headers for the same table or array of tables
+-- the finding for two headers of the same table or array of tables
 unfoldable pub table_twice : List ℕ → Span → Span → FindingContent
 table_twice text span first =
     let was_array = begins text first.start (codes "[[") in
@@ -32,7 +32,8 @@ table_twice text span first =
     then record (shown (said TABLE_OF_ARRAY) span first as_element) { edit = Some (span_of span.start end) }
     else shown (said TABLE_TWICE) span first as_element
 
--- the offset of the value of a key, or of whatever follows the key instead
+-- the offset of the value whose key ends at `end` or, without `=` after the key, of the first non-blank byte after the
+-- key
 unfoldable pub value_at : List ℕ → ℕ → ℕ
 value_at text end =
     let equals = end_of class.Blank text end in
@@ -51,7 +52,8 @@ no_table text at =
     else if next == 45 || next == 58 then codes "this is a date or time, not a table"
     else codes "this is an integer, not a table"
 
--- the line of an inline table with one more assignment, if its key begins with the key of the table
+-- the line of an inline table with the assignment at `at` added; empty unless the assignment's key begins with the
+-- table's key and a dot, and the table's line ends with `}`
 unfoldable pub extended : List ℕ → ℕ → ℕ → ℕ → CodeContent
 extended text key_end table at =
     let start = first_of_line text key_end in
@@ -65,8 +67,8 @@ extended text key_end table at =
     else six (part text start end) (if slice_index text (end - 1) == 123 then [] else codes ", ")
     (part text (ahead text dot 1) (last_of_line text at)) (part text end last) [] []
 
--- the body of a section, as part of an inline table: its assignment if there is only one, nothing if there is none,
--- otherwise `..`
+-- the body of a section, as the content of an inline table: nothing if the section has no lines, its line if it has
+-- only one, with only one `=` or `#`, otherwise `..`
 unfoldable pub body : List ℕ → ℕ → List ℕ
 body text end =
     let start = end_of class.Gap text end in
@@ -78,7 +80,7 @@ body text end =
     then part text start last
     else codes ".."
 
--- what to write in an inline table instead of a header through it
+-- the assignment to write in an inline table instead of a header that goes through the table
 unfoldable pub subtable : List ℕ → ℕ → CodeContent
 subtable text end =
     let dot = end_of class.Blank text end in

@@ -20,7 +20,7 @@ is_date text start end =
     && (are_digits text start 4 && (are_digits text (ahead text start 5) 2 && (are_digits text (ahead text start 8) 2
     && ahead text start 10 == end))))
 
--- a date with slashes
+-- the finding for a date with slashes, or None
 unfoldable pub slash_date : List ℕ → ℕ → ℕ → Option FindingContent
 slash_date text start end =
     let second = ahead text start 3 in
@@ -36,7 +36,7 @@ slash_date text start end =
 abbrev pub zero_for : ℕ → ℕ → List ℕ
 zero_for from to = if to - from == 1 then codes "0" else []
 
--- whether two digits spell a greater number than two others
+-- whether the two digits at `at` spell a higher number than the digits `tens` and `ones`
 abbrev pub is_past : List ℕ → ℕ → ℕ → ℕ → Bool
 is_past text at tens ones =
     nat_lt tens (slice_index text at)
@@ -46,7 +46,7 @@ is_past text at tens ones =
 abbrev pub is_fourth : List ℕ → ℕ → Bool
 is_fourth text at = (2 * slice_index text at + slice_index text (ahead text at 1)) % 4 == 0
 
--- the message with the length of a month
+-- the message with the length of a month other than February, or None for any other text
 abbrev pub days_of : List ℕ → Option (List ℕ)
 days_of month = text_in (map (λ entry. (entry.0.now, entry.1.now)) MONTHS) month
 

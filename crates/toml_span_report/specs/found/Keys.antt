@@ -18,12 +18,12 @@ use Rattle.toml_span_report.specs.declared.words.TheConstants.{JSON_DOCUMENT, KE
 use Rattle.toml_span_report.specs.declared.words.TheConstants.{NO_VALUE, TEMPLATE, TEMPLATE_LINE, YAML_ITEM}
 use Rattle.toml_span_report.specs.declared.words.TheConstants.{YAML_ITEMS, YAML_LIST, YAML_TABLE}
 
--- a comment of another language, whose sign has this length
+-- the finding for a comment of another language, which begins with a sign of this length, such as `//`
 unfoldable pub comment : WordsContent → List ℕ → ℕ → ℕ → FindingContent
 comment mistake text at length =
     mended mistake (span_of at (last_of_line text at)) (span_of at (ahead text at length)) (pieces (codes "#") [] [])
 
--- a part of a header, or a key, that needs quotes
+-- the finding for a part of a header that needs quotes, and for a key that needs quotes
 unfoldable pub header_key : List ℕ → ℕ → Option FindingContent
 header_key text at =
     let from = end_of class.Blank text (start_of class.Header text at) in
@@ -41,7 +41,7 @@ other_key text at =
     then Some (quoted (said BARE_KEY) text from to)
     else None
 
--- the start of a key, and the end of a value on its line
+-- the start of the key that ends at `end`, and the end of the value at `at`
 unfoldable pub key_start : List ℕ → ℕ → ℕ
 key_start text end =
     if byte_before text end == 34 || byte_before text end == 39
@@ -55,7 +55,8 @@ value_end text at =
     else if slice_index text at == 91 || slice_index text at == 123 then last_of_line text at
     else end_of class.Word text at
 
--- whether a word is a valid value: a boolean, a number, a date, or something that begins with a quote or bracket
+-- whether a word looks like a value: it is a boolean, `inf` or `nan` (`is_named`), a number or a date, or begins with a
+-- quote, bracket or brace
 abbrev pub is_named : List ℕ → Bool
 is_named word =
     bytes_eq word (codes "true") || bytes_eq word (codes "false") || bytes_eq word (codes "inf")
@@ -77,7 +78,8 @@ is_value text at end =
     else if is_date text at end then true
     else is_named (part text at end)
 
--- a key and a word that is not a value, with another sign than `=` between them
+-- the findings for a key and a word that is not a value, with a sign other than `=` between them; a program must ask
+-- before it applies their replacements (`doubtful`)
 abbrev pub doubtful : WordsContent → Span → Span → CodeContent → FindingContent
 doubtful words mark edit code = mended (record words { is_safe = false }) mark edit code
 
@@ -97,7 +99,7 @@ unfoldable pub other_word : WordsContent → List ℕ → List ℕ → Span → 
 other_word mistake text key mark edit at =
     with_word mistake text key mark edit at (known_word (part text at edit.end))
 
--- a key and a value, with another sign than `=` between them
+-- the finding for a key and a value, with a sign other than `=` between them
 unfoldable pub other_sign : WordsContent → List ℕ → ℕ → ℕ → FindingContent
 other_sign mistake text from to =
     let end = start_of class.Blank text from in
@@ -109,7 +111,8 @@ other_sign mistake text from to =
     then mended mistake (span_of from to) (span_of start stop) (pieces key (codes " = ") (part text value stop))
     else other_word mistake text key (span_of from to) (span_of start stop) value
 
--- a list in the style of YAML: one or two elements, and `..` if there are more
+-- the end of the array that replaces a list in the style of YAML; and the finding for such a list, whose code has one
+-- or two elements, and `..` if there are more
 abbrev pub closing_of : Bool → Bool → List ℕ
 closing_of are_values has_more =
     if are_values then (if has_more then codes ", ..]" else codes "]")
@@ -138,7 +141,7 @@ yaml_list text start colon dash =
     else if has_more then shown (said YAML_LIST) mark mark two
     else mended (said YAML_LIST) mark (span_of start second_end) two
 
--- a key and a colon at the end of a line
+-- the finding for a key and a colon at the end of a line
 unfoldable pub yaml : List ℕ → ℕ → FindingContent
 yaml text at =
     let end = ahead text at 1 in
@@ -160,14 +163,14 @@ is_keyword word =
     bytes_eq word (codes "export") || bytes_eq word (codes "let") || bytes_eq word (codes "var")
     || bytes_eq word (codes "const") || bytes_eq word (codes "set") || bytes_eq word (codes "local")
 
--- a key alone on its line
+-- the finding for a key without `=` after it, or for the marker `---` of YAML
 unfoldable pub lone_key : List ℕ → ℕ → FindingContent
 lone_key text end =
     let start = key_start text end in
     if bytes_eq (part text start end) (codes "---") then marked (said DOCUMENT_MARKER) start end
     else marked (said NO_VALUE) start end
 
--- a key of several words
+-- the finding for a key of several words
 unfoldable pub spaced_key : List ℕ → ℕ → ℕ → ℕ → FindingContent
 spaced_key text end at stop =
     let start = start_of class.Name text end in
@@ -175,7 +178,7 @@ spaced_key text end at stop =
     else quoted (said BARE_KEY) text (end_of class.Blank text (start_of class.Spaced text at))
     (start_of class.Blank text stop)
 
--- an item of a YAML list
+-- the finding for an item of a YAML list
 unfoldable pub yaml_item : List ℕ → ℕ → ℕ → FindingContent
 yaml_item text dash at =
     let end = last_of_line text at in
@@ -196,7 +199,7 @@ second_word text end at =
     else if slice_index text (end_of class.Left text at) == 61 then None
     else Some (other_sign (said NO_EQUALS) text at at)
 
--- a token where `=` is expected
+-- the finding for the token `found`, where `=` is expected
 unfoldable pub no_equals : List ℕ → List ℕ → ℕ → Option FindingContent
 no_equals found text at =
     let end = start_of class.Blank text at in
@@ -205,7 +208,7 @@ no_equals found text at =
     then Some (lone_key text end)
     else second_word text end at
 
--- a header in braces
+-- the finding for a header in braces, or None
 unfoldable pub brace_header : List ℕ → ℕ → Option FindingContent
 brace_header text at =
     let name = ahead text at 1 in
@@ -215,7 +218,7 @@ brace_header text at =
     (pieces (codes "[") (part text name end) (codes "]")))
     else None
 
--- a placeholder of a template, in double braces
+-- the finding for a placeholder of a template, in double braces
 unfoldable pub placeholder : List ℕ → ℕ → FindingContent
 placeholder text at =
     let close = end_of class.Enclosed text at in
@@ -232,7 +235,7 @@ brace text at =
     else if slice_index text (end_of class.Gap text next) == 34 then Some (marked (said JSON_DOCUMENT) at next)
     else brace_header text at
 
--- an extra dot or comma
+-- the finding for an extra dot, comma or bracket
 unfoldable pub extra : WordsContent → List ℕ → ℕ → FindingContent
 extra mistake text at = removed mistake at (ahead text at 1)
 
@@ -242,7 +245,7 @@ missing_key mistake text at =
     else if begins text at (codes "=======") then marked (said CONFLICT) at (last_of_line text at)
     else marked mistake at (ahead text at 1)
 
--- a token where a key is expected
+-- the finding for the token `found`, where a key is expected
 unfoldable pub no_key : List ℕ → List ℕ → ℕ → Option FindingContent
 no_key found text at =
     if bytes_eq found (codes "a period") then Some (extra (said EXTRA_DOT) text at)

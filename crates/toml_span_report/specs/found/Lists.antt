@@ -17,7 +17,7 @@ use Rattle.toml_span_report.specs.declared.words.TheConstants.{EQUALS, EXTRA_COM
 use Rattle.toml_span_report.specs.declared.words.TheConstants.{NO_COMMA, NO_COMMA_IN_TABLE, NO_NAME, NO_VALUE_BEHIND}
 use Rattle.toml_span_report.specs.declared.words.TheConstants.{OPEN_ARRAY, OPEN_HEADER, OPEN_TABLE, VALUE_BELOW}
 
--- the outermost open bracket
+-- the span of a bracket; and the finding for the outermost bracket that is open at `at`
 abbrev pub bracket_span : List ℕ → ℕ → Span
 bracket_span text bracket = span_of bracket (ahead text bracket 1)
 
@@ -31,14 +31,14 @@ unclosed text at =
 unfoldable pub open_end : List ℕ → ℕ → Option FindingContent
 open_end text at = if nat_lt 0 (open_before text at).depth then Some (unclosed text at) else None
 
--- the end of the line or of the text, where a key is expected
+-- the finding for the end of a line or of the text, where a key is expected
 unfoldable pub unfinished_key : List ℕ → ℕ → Option FindingContent
 unfinished_key text at =
     if byte_before text at == 46 || is_in_header text (open_before text at)
     then Some (missing_key (said NO_NAME) text at)
     else open_end text at
 
--- a value that begins on the line below its key
+-- the finding for a value that begins below the line of its key, or None
 unfoldable pub value_below : List ℕ → ℕ → Option FindingContent
 value_below text at =
     let below = end_of class.Gap text at in
@@ -56,7 +56,7 @@ missing_value text at =
     then first_found (value_below text at) (Some (marked (said NO_VALUE_BEHIND) at at))
     else open_end text at
 
--- a comment, a comma, a decimal point or `=` where a value is expected
+-- the finding for a comment, a comma, a point or `=`, where a value is expected
 unfoldable pub hash : List ℕ → ℕ → Option FindingContent
 hash text at =
     let end = end_of class.Hex text (ahead text at 1) in
@@ -83,7 +83,7 @@ equals text at =
     if begins text (at - 1) (codes "==") then Some (other_sign (said EQUALS) text (at - 1) (ahead text at 1))
     else None
 
--- a token where a value is expected
+-- the finding for the token `found`, where a value is expected
 unfoldable pub no_value : List ℕ → List ℕ → ℕ → Option FindingContent
 no_value found text at =
     if bytes_eq found (codes "a comma") then comma text at
@@ -93,7 +93,7 @@ no_value found text at =
     else if bytes_eq found (codes "a comment") then hash text at
     else None
 
--- a header that is not closed on its line
+-- the finding for a header that is not closed on its line
 unfoldable pub open_header : List ℕ → ℕ → ℕ → FindingContent
 open_header text at bracket =
     let end = start_of class.Blank text at in
@@ -108,27 +108,27 @@ header found text at bracket =
     else if bytes_eq found (codes "a comma") then Some (marked (said ARRAY_ALONE) bracket (last_of_line text at))
     else header_key text at
 
--- whether an assignment begins at an offset at the start of a line
+-- whether an assignment begins at the offset, with only blanks before it on its line
 unfoldable pub is_assignment : List ℕ → ℕ → Bool
 is_assignment text at =
     let end = end_of class.Dotted text at in
     first_of_line text at == at && (nat_lt at end && byte_after text end == 61)
 
--- whether the line looks like a header
+-- whether the line that contains `at` looks like a header
 unfoldable pub is_heading : List ℕ → ℕ → Bool
 is_heading text at =
     let end = end_of class.Dotted text at in
     slice_index text (start_of class.Line text at) == 91 && slice_index text end == 93
     && (is_last text (ahead text end 1) || is_last text (ahead text end 2))
 
--- a word instead of a value
+-- the finding for a word that is written instead of a value
 unfoldable pub word : List ℕ → ℕ → FindingContent
 word text at =
     if (is_assignment text at || is_heading text at) && nat_lt 0 (open_before text at).depth
     then unclosed text at
     else unquoted text at
 
--- a missing comma
+-- the finding for a missing comma
 unfoldable pub missing_comma : WordsContent → List ℕ → ℕ → FindingContent
 missing_comma mistake text at =
     let end = start_of class.Gap text at in
@@ -142,14 +142,14 @@ unseparated mistake text at =
     then unclosed text at
     else missing_comma mistake text at
 
--- a closing bracket of the wrong kind
+-- the finding for a closing bracket of the wrong kind
 unfoldable pub wrong_closing : WordsContent → List ℕ → ℕ → List ℕ → FindingContent
 wrong_closing mistake text at closing =
     record (replaced mistake at (ahead text at 1) (pieces closing [] [])) {
       also = bracket_span text (open_before text at).bracket;
     }
 
--- a value that `.`, `:` or `+` follows
+-- the finding for a value that `.`, `:` or `+` follows, or None
 unfoldable pub glued : List ℕ → ℕ → Option FindingContent
 glued text at =
     let start = start_of class.Atom text at in
@@ -161,7 +161,8 @@ abbrev pub is_glue : List ℕ → Bool
 is_glue found =
     bytes_eq found (codes "a period") || bytes_eq found (codes "a colon") || bytes_eq found (codes "a plus")
 
--- a token where `]` is expected, and where a comma is expected in an inline table
+-- the finding for the token `found`, where `]` is expected in an array (`in_array`) or also in a header (`no_bracket`),
+-- and where a comma is expected in an inline table (`no_comma`)
 abbrev pub in_array : List ℕ → List ℕ → ℕ → Option FindingContent
 in_array found text at =
     if bytes_eq found (codes "eof") then Some (unclosed text at)

@@ -38,7 +38,8 @@ abbrev pub base_of : ℕ → ℕ
 base_of letter =
     if letter == 120 || letter == 88 then 16 else if letter == 111 || letter == 79 then 8 else 2
 
--- the number that digits and `_` spell, or 2 ^ 64 - 1 if it is higher
+-- the value of a number that continues with the byte b; and the value of the first bytes of a number, at most 2 ^ 64 -
+-- 1, or None if one of them is neither `_` nor a digit in this base
 abbrev pub next_value : Option ℕ → ℕ → ℕ → Option ℕ
 next_value None base b = None
 next_value (Some value) base b =
@@ -51,12 +52,13 @@ unfoldable pub value_of : List ℕ → ℕ → ℕ → Option ℕ
 value_of digits base zero = Some 0
 value_of digits base (suc i) = next_value (value_of digits base i) base (slice_index digits i)
 
--- a number with this value and the minus sign, if it is there, as code
+-- the code of a number with this value, with the sign `-` if that is the sign at `start`
 abbrev pub decimal_code : List ℕ → ℕ → ℕ → CodeContent
 decimal_code text start value =
     record (pieces (if slice_index text start == 45 then codes "-" else []) [] []) { number = Some value }
 
--- a sign before a prefix
+-- the finding for a number with a sign before a prefix such as `0x`; the value is that of the digits, or None if one of
+-- them is not valid
 abbrev pub signed_value : List ℕ → ℕ → ℕ → Option ℕ → FindingContent
 signed_value text start end None = marked (said SIGNED_PREFIX) start end
 signed_value text start end (Some value) =
@@ -73,8 +75,8 @@ signed_prefix text start zero_at end =
 abbrev pub with_digits : FindingContent → ℕ → FindingContent
 with_digits found letter = record found { label = pieces (digits_of letter) [] [] }
 
--- A number with a lowercase prefix and without a sign. If its digits are valid and it is not too large, a `_` is
--- misplaced.
+-- The finding for a number with a lowercase prefix and without a sign. If it has digits, all of them are valid, and it
+-- is not too large, a `_` is misplaced.
 abbrev pub unsigned_value : List ℕ → ℕ → ℕ → ℕ → Option ℕ → FindingContent
 unsigned_value text start end letter None = with_digits (marked (said OTHER_DIGIT) start end) letter
 unsigned_value text start end letter (Some value) =
@@ -88,7 +90,7 @@ unsigned_prefix text start end letter =
     let digits = part text (ahead text start 2) end in
     unsigned_value text start end letter (value_of digits (base_of letter) (length digits))
 
--- a mistake in a number with a prefix
+-- the finding for a number with a prefix such as `0x`, or None without a prefix
 unfoldable pub prefixed : List ℕ → ℕ → ℕ → ℕ → Option FindingContent
 prefixed text start zero_at end =
     let letter = slice_index text (ahead text zero_at 1) in
@@ -100,7 +102,7 @@ prefixed text start zero_at end =
     (pieces (lower_prefix letter) (part text (ahead text zero_at 2) end) []))
     else Some (unsigned_prefix text start end letter)
 
--- leading zeros
+-- the finding for leading zeros
 unfoldable pub zeros : List ℕ → ℕ → ℕ → ℕ → FindingContent
 zeros text start digits end =
     let more = ahead text digits 1 in
@@ -112,7 +114,7 @@ zeros text start digits end =
     then replaced (said OCTAL) start end (pieces (codes "0o") (part text more end) [])
     else replaced (said LEADING_ZERO) start end (pieces (part text start digits) (part text kept end) [])
 
--- a decimal point without a digit after it
+-- the finding for a decimal point without a digit after it, or None
 unfoldable pub trailing_point : List ℕ → ℕ → ℕ → ℕ → Option FindingContent
 trailing_point text start point end =
     let next = ahead text point 1 in
@@ -122,7 +124,8 @@ trailing_point text start point end =
     (pieces (part text start next) (codes "0") (part text next end)))
     else None
 
--- an integer of digits and `_`, which is too large, or has a leading zero or a misplaced `_`
+-- the largest absolute value of an integer with the sign at `start`; and the mistake in an integer of digits and `_`
+-- that is not too large
 abbrev pub largest : List ℕ → ℕ → ℕ
 largest text start = if slice_index text start == 45 then 9223372036854775808 else 9223372036854775807
 
@@ -131,7 +134,8 @@ grouping_mistake text digits =
     if begins text digits (codes "0_") && is_digit (slice_index text (ahead text digits 2)) then said LEADING_ZERO
     else said UNDERSCORE
 
--- the integer with one `_` where two follow the first digits, or else without any `_`
+-- the code for the integer: with `_` instead of `__` if that is between digits and the integer has no other `_`,
+-- otherwise without any `_`
 abbrev pub regrouped : List ℕ → ℕ → ℕ → ℕ → ℕ → CodeContent
 regrouped text start digits end value =
     let first = end_of class.Digit text digits in
@@ -152,7 +156,8 @@ integer text start digits end =
     let number = part text digits end in
     integer_value text start digits end (value_of number 10 (length number))
 
--- whether the byte is a `_` without a digit on both sides; whether one of so many bytes is
+-- whether the byte at `at` is a `_` that lacks a digit on at least one side; and whether such a `_` is among the first
+-- n bytes
 abbrev pub is_misplaced : List ℕ → ℕ → Bool
 is_misplaced number at =
     slice_index number at == 95
@@ -162,7 +167,8 @@ unfoldable pub has_misplaced : List ℕ → ℕ → Bool
 has_misplaced number zero = false
 has_misplaced number (suc i) = has_misplaced number i || is_misplaced number i
 
--- a float without digits after `e`, or with a misplaced `_`
+-- whether a number lacks digits after `e`; and the finding for a float with this mistake, a point without a digit after
+-- it, or a misplaced `_`
 abbrev pub lacks_exponent : List ℕ → ℕ → Bool
 lacks_exponent text end =
     let last = slice_index text (end - 1) in
@@ -200,7 +206,7 @@ number text at =
     first_found (slash_date text start end)
     (first_found (prefixed text start digits end) (signed text start digits end))
 
--- digits that are grouped by commas
+-- the finding for digits that are grouped by commas, or None
 unfoldable pub thousands : List ℕ → ℕ → Option FindingContent
 thousands text at =
     let start = start_of class.Atom text at in

@@ -11,7 +11,7 @@ use Rattle.toml_span_report.specs.declared.words.TheConstants.{CONTROL_IN_LITERA
 use Rattle.toml_span_report.specs.declared.words.TheConstants.{OPEN_LITERAL, OPEN_LONG, OPEN_LONG_LITERAL}
 use Rattle.toml_span_report.specs.declared.words.TheConstants.{OPEN_STRING, QUOTE_IN_STRING, SHORT_ESCAPE, SURROGATE}
 
--- a quoted key that is not closed
+-- the finding for a quoted key that is not closed
 unfoldable pub open_key : List ℕ → ℕ → ℕ → FindingContent
 open_key text quote end =
     let equals = end_of class.Left text quote in
@@ -20,14 +20,14 @@ open_key text quote end =
     else replaced (said OPEN_KEY) quote end
     (pieces (part text quote key_end) (part text quote (ahead text quote 1)) (part text key_end end))
 
--- a single-line string that is not closed
+-- the finding for a single-line string that is not closed
 unfoldable pub open_string : List ℕ → ℕ → ℕ → FindingContent
 open_string text quote end =
     if first_of_line text quote == quote && (open_before text quote).depth == 0 then open_key text quote end
     else if slice_index text quote == 34 then marked (said OPEN_STRING) quote end
     else marked (said OPEN_LITERAL) quote end
 
--- two hexadecimal digits for a byte that is below 32, or is 127
+-- the two hexadecimal digits of a byte that is below 32, or is 127; empty for any other byte
 unfoldable pub hex_of : ℕ → List ℕ
 hex_of byte =
     if byte == 127 then codes "7f"
@@ -47,7 +47,7 @@ character text at c =
     then open_string text state.string at
     else control text at state.string
 
--- a backslash that does not begin an escape
+-- the finding for a backslash that does not begin an escape
 unfoldable pub backslash : List ℕ → ℕ → ℕ → FindingContent
 backslash text at end =
     let quote = (open_before text at).string in
@@ -106,7 +106,7 @@ abbrev pub requoted : List ℕ → ℕ → ℕ → ℕ → ℕ → List ℕ → 
 requoted text open_at content close end quote = Some (mended (said QUOTE_IN_STRING) (span_of open_at end)
     (span_of open_at end) (pieces quote (part text content close) quote))
 
--- a string that contains its own quote
+-- the finding for a string that contains the quote that ends it, as in `"b "c" d"`, or None
 unfoldable pub quote_in_string : List ℕ → ℕ → Option FindingContent
 quote_in_string text at =
     let equals = end_of class.Left text (first_of_line text at) in

@@ -1,4 +1,4 @@
--- Mistakes in characters that do not begin a token.
+-- Mistakes with characters that do not begin a token, such as curly quotes and `;`.
 use Rattle.std.specs.Prelude.{ℕ, ◌+◌, ◌-◌, ◌*◌, ◌==◌, ◌&&◌, ◌||◌, not, nat_lt, nat_le, List, [], ◌∷◌, codes, length}
 use Rattle.std.specs.Prelude.{slice_index, Option, Some, None, if◌then◌else◌}
 use Rattle.toml_span_report.specs.Bytes.{ahead, begins, byte_before, end_of, first_of_line, is_last, last_of_line}
@@ -15,7 +15,7 @@ use Rattle.toml_span_report.specs.declared.words.TheConstants.{CONFLICT, CURLY_Q
 use Rattle.toml_span_report.specs.declared.words.TheConstants.{OTHER_SIGN, OTHER_SPACE, PARENTHESES, SEMICOLON}
 use Rattle.toml_span_report.specs.declared.words.TheConstants.{SEMICOLONS, SLASHES}
 
--- the character of TOML that a character looks like, and its Unicode name
+-- the TOML character that the character c looks like, and the Unicode name of c
 unfoldable pub look_alike : ℕ → Option MeantContent
 look_alike c =
     if c == 0xA0 then Some (as_meant (said OTHER_SPACE) (codes "NO-BREAK SPACE (U+00A0)") (codes " "))
@@ -41,7 +41,7 @@ curly_name c =
     else if c == 0x201E then codes "DOUBLE LOW-9 QUOTATION MARK (U+201E)"
     else []
 
--- a curly quote, and the string that it begins
+-- the finding for a curly quote, with a replacement if the string that it begins is closed
 unfoldable pub curly : List ℕ → ℕ → List ℕ → FindingContent
 curly text at name =
     let content = ahead text at 3 in
@@ -70,14 +70,14 @@ unfoldable pub alike : List ℕ → ℕ → ℕ → Option FindingContent
 alike text at c =
     if length (curly_name c) == 0 then as_alike text at (look_alike c) else Some (curly text at (curly_name c))
 
--- a semicolon, which ends a line or begins a comment in other languages
+-- the finding for a semicolon, which ends a line or begins a comment in other languages
 unfoldable pub semicolon : List ℕ → ℕ → FindingContent
 semicolon text at =
     if is_last text (ahead text at 1) && not (first_of_line text at == at)
     then removed (said SEMICOLON) at (ahead text at 1)
     else comment (said SEMICOLONS) text at 1
 
--- a string in backticks, and a list in parentheses
+-- the finding for a string in backticks, and for a list in parentheses
 unfoldable pub backticks : List ℕ → ℕ → FindingContent
 backticks text at =
     let content = ahead text at 1 in
@@ -103,7 +103,7 @@ at_line_start text at =
     else if begins text at (codes "<") && slice_index text (end - 1) == 62 then Some (marked (said MARKUP) at end)
     else None
 
--- a block comment, which can be replaced if it is on one line, and nothing follows it
+-- the finding for a block comment, with a replacement if the comment is on one line, and nothing follows it
 unfoldable pub block_comment : List ℕ → ℕ → FindingContent
 block_comment text at =
     let start = ahead text at 2 in
@@ -113,7 +113,7 @@ block_comment text at =
     else replaced (said COMMENT_LINE) at last
     (pieces (codes "#") (part text start (start_of class.Blank text close)) [])
 
--- a comment, or the end of a line, in the style of other languages
+-- the finding for a comment or a line end in the style of other languages, or None
 unfoldable pub foreign : List ℕ → ℕ → Option FindingContent
 foreign text at =
     if begins text at (codes "//") then Some (comment (said SLASHES) text at 2)
@@ -122,7 +122,7 @@ foreign text at =
     else if begins text at (13 ∷ []) then Some (marked (said LONE_RETURN) at (ahead text at 1))
     else None
 
--- a key or value that needs quotes because of a character
+-- the finding for a key or value that needs quotes because of the character at `at`, or None
 unfoldable pub unquoted : List ℕ → ℕ → ℕ → Option FindingContent
 unquoted text at start =
     let state = open_before text at in
@@ -130,7 +130,7 @@ unquoted text at start =
     else first_found (other_key text at)
     (if nat_lt 0 state.depth then Some (unquoted_value text start) else None)
 
--- a value with an invalid character
+-- the finding for a value with an invalid character
 abbrev pub other_value : List ℕ → ℕ → ℕ → Option FindingContent
 other_value text at start =
     let byte = slice_index text at in

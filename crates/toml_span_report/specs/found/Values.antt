@@ -10,8 +10,8 @@ use Rattle.toml_span_report.specs.declared.words.TheConstants.{NEAR_FALSE, NEAR_
 use Rattle.toml_span_report.specs.declared.words.TheConstants.{OTHER_FLOAT, PREFIXED, RAW_STRING}
 use Rattle.toml_span_report.specs.declared.words.TheConstants.{UNQUOTED, UNQUOTED_TEXT, UPPER_BOOLEAN}
 
--- The word and the name are equal up to an offset. From there on they are equal after one byte is skipped in the word,
--- in the name or in both, or after two swapped bytes are skipped in both.
+-- The word and the name are equal up to the offset `at`. From there on they are equal after one byte is skipped in the
+-- word, in the name or in both, or after two swapped bytes are skipped in both.
 unfoldable pub is_near_at : List ℕ → List ℕ → ℕ → Bool
 is_near_at word name at =
     let after = ahead word at 1 in
@@ -25,7 +25,7 @@ is_near_at word name at =
     || (slice_index word at == slice_index name name_after && slice_index word after == slice_index name at
     && bytes_eq (part rest 1 last) (part name_rest 1 name_last)))
 
--- a word that is at most one edit away from a name of at most five bytes
+-- whether the word is at most one edit away from the name, which has at most five bytes
 unfoldable pub is_near : List ℕ → List ℕ → Bool
 is_near word name =
     is_near_at word name 0 || is_near_at word name 1 || is_near_at word name 2 || is_near_at word name 3
@@ -60,7 +60,7 @@ known_word word =
     then Some (as_meant (said OTHER_FLOAT) [] (codes "inf"))
     else near_boolean word
 
--- whether the words that are meant as one string end at this byte
+-- whether words that are meant as one string end before this byte
 abbrev pub ends_phrase : ℕ → Bool
 ends_phrase b = b == 0 || b == 10 || b == 13 || b == 35 || b == 44 || b == 93 || b == 125
 
@@ -78,7 +78,7 @@ unquoted_value text at =
     if is_quote (byte_after text end) then marked (said UNQUOTED_TEXT) at end
     else quoted (said UNQUOTED) text at (phrase_end text at end)
 
--- a string with a prefix, whose quote is at `quote`
+-- the finding for a string with a prefix, whose quote is at `quote`
 unfoldable pub prefixed : List ℕ → ℕ → ℕ → FindingContent
 prefixed text at quote =
     let close = end_of class.Unquoted text (ahead text quote 1) in

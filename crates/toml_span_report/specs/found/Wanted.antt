@@ -1,4 +1,4 @@
--- Mistakes in tokens other than the expected ones, and in values of another kind than a typed read expects.
+-- Mistakes that cause the error Wanted: unexpected tokens and, in typed reads, values of the wrong kind.
 use Rattle.std.specs.Prelude.{ℕ, ◌-◌, ◌==◌, ◌&&◌, ◌||◌, Bool, not, nat_lt, List, [], ◌∷◌, codes, slice_index, map}
 use Rattle.std.specs.Prelude.{Option, Some, None, if◌then◌else◌}
 use Rattle.std.specs.Str.{bytes_eq}
@@ -20,12 +20,12 @@ use Rattle.toml_span_report.specs.declared.words.TheConstants.{FLOAT_DUE, HALF_D
 use Rattle.toml_span_report.specs.declared.words.TheConstants.{KEY_AFTER_HEADER, LAST_COMMA, SECOND_KEY, STRING_DUE}
 use Rattle.toml_span_report.specs.declared.words.TheConstants.{VALUE_OF_HEADER, ZONE_NAME}
 
--- a key that should be on the next line: the repair puts a line feed before it
+-- the finding for a key that should be on the next line; the replacement puts a line feed before it
 abbrev pub broken : WordsContent → List ℕ → ℕ → ℕ → FindingContent
 broken mistake text from at = mended mistake (span_of at (end_of class.Dotted text at)) (span_of from at)
     (pieces (10 ∷ []) [] [])
 
--- a comma after a value, at the end of an assignment
+-- the first finding or, if it is None, the second; and the finding for a comma after a value
 abbrev pub or_comma : Option FindingContent → FindingContent → FindingContent
 or_comma (Some f) other = f
 or_comma None other = other
@@ -40,7 +40,7 @@ comma text at =
     (pieces (10 ∷ []) [] [])
     else marked (said AFTER_VALUE) at end)
 
--- something after a header, on its line
+-- the finding for a token after a header, on the same line
 unfoldable pub header_value : List ℕ → ℕ → ℕ → FindingContent
 header_value text line at =
     replaced (said VALUE_OF_HEADER) line (last_of_line text at)
@@ -59,7 +59,8 @@ abbrev pub is_half_day : List ℕ → Bool
 is_half_day word =
     bytes_eq word (codes "AM") || bytes_eq word (codes "PM") || bytes_eq word (codes "am") || bytes_eq word (codes "pm")
 
--- an hour of a 12-hour clock, on a 24-hour clock
+-- the second hour or, if it is None, the first; and an hour of a 12-hour clock, converted to a 24-hour clock (`is_late`
+-- is set for `PM`)
 abbrev pub or_same : List ℕ → Option (List ℕ) → List ℕ
 or_same hour None = hour
 or_same hour (Some later) = later
@@ -70,7 +71,7 @@ full_hour hour is_late =
     else if bytes_eq hour (codes "12") then codes "00"
     else hour
 
--- a time with `AM` or `PM` after it
+-- the finding for a time with `AM` or `PM` after it
 unfoldable pub half_day : List ℕ → ℕ → ℕ → FindingContent
 half_day text at end =
     let before = start_of class.Blank text at in
@@ -91,7 +92,7 @@ zone text at end =
     let start = start_of class.Atom text before in
     mended (said ZONE_NAME) (span_of at end) (span_of start end) (pieces (part text start before) (codes "Z") [])
 
--- a word after a value, on its line
+-- the finding for a word after a value, on the same line
 unfoldable pub word_after : List ℕ → ℕ → FindingContent
 word_after text at =
     let end = end_of class.Word text at in
@@ -103,7 +104,7 @@ word_after text at =
     then broken (said SECOND_KEY) text (start_of class.Blank text at) at
     else marked (said AFTER_VALUE) at end
 
--- a token after a value, on its line
+-- the finding for the token `found` after a value, on the same line
 unfoldable pub after_value : List ℕ → List ℕ → ℕ → Option FindingContent
 after_value found text at =
     let is_string = byte_before text at == 34 || byte_before text at == 39 in
@@ -126,7 +127,7 @@ no_newline found text at =
     if slice_index text line == 91 && byte_before text at == 93 then after_header found text line at
     else after_value found text at
 
--- a value of another kind than a typed read expects
+-- the finding for a value of a kind that the typed read does not expect, or None
 unfoldable pub other_kind : List ℕ → List ℕ → List ℕ → Span → Option FindingContent
 other_kind expected found text span =
     if bytes_eq found (codes "integer") && (bytes_eq expected (codes "a float")

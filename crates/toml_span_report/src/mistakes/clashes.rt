@@ -15,7 +15,7 @@ use crate::words::{
 use toml_span_lex::span::Span;
 
 /// Returns the end of the header that begins at `at`: before the next `=`, `#` or line end, without the blanks before
-/// that.
+/// it.
 fn header_end(text: &str, at: usize) -> usize
     ensures { result ≡ spec.header_end text.now at }
 {
@@ -45,8 +45,8 @@ pub(crate) fn table_twice<'a>(text: &'a str, span: Span, first: Span) -> Finding
     }
 }
 
-/// Returns the offset of the value of a key that ends at `end`. Without `=` after the key, returns the offset of the
-/// first byte after the key that is not a blank.
+/// Returns the offset of the value whose key ends at `end`. Without `=` after the key, returns the offset of the first
+/// byte after the key that is not a blank.
 #[tactic(auto, unfolding(crate::specs::found::Clashes::value_at))]
 fn value_at(text: &str, end: usize) -> usize
     ensures { result ≡ spec.value_at text.now end }
@@ -78,9 +78,9 @@ fn no_table(text: &str, at: usize) -> &'static str
     }
 }
 
-/// Returns the line of an inline table with one more assignment: the assignment of the dotted key at `at`, which begins
-/// with the table's key. The table's key ends at `key_end`, its brace is at `table`. Returns empty code if the dotted
-/// key does not begin with the table's key and a dot, or if the table's line does not end with `}`.
+/// Returns the line of an inline table, with the assignment at `at` moved into its braces. The dotted key of the
+/// assignment goes through the table. The table's key ends at `key_end`, and its `{` is at `table`. Returns empty code
+/// if the dotted key does not begin with the table's key and a dot, or if the table's line does not end with `}`.
 #[tactic(auto, unfolding(crate::specs::found::Clashes::extended))]
 fn extended<'a>(text: &'a str, key_end: usize, table: usize, at: usize) -> Code<'a>
     ensures { code_content result ≡ spec.extended text.now key_end table at }
@@ -114,8 +114,8 @@ fn extended<'a>(text: &'a str, key_end: usize, table: usize, at: usize) -> Code<
 }
 
 /// Returns the content of an inline table that replaces the section whose header ends at `end`. A line that begins with
-/// `[` ends the section, and blank lines do not count. The content is empty if the section has no lines, its line if it
-/// has only one, with only one `=` or `#`, and otherwise `..`.
+/// `[` ends the section, and blank lines do not count. Without lines, the content is empty. If there is only one line,
+/// with only one `=` or `#`, the content is this line. Otherwise it is `..`.
 #[tactic(auto, unfolding(crate::specs::found::Clashes::body))]
 fn body<'a>(text: &'a str, end: usize) -> &'a str
     ensures { result.now ≡ spec.body text.now end }
@@ -192,8 +192,8 @@ pub(crate) fn through_value<'a>(text: &'a str, span: Span, first: Span) -> Optio
     }
 }
 
-/// Recognizes a duplicate key, at `span`, in a header or before a dot, if it goes through an earlier value. The key of
-/// the value is at `first`.
+/// Recognizes a duplicate key that is in a header or before a dot, and so goes through an earlier value. The duplicate
+/// key is at `span`, and the key of the value at `first`.
 #[tactic(auto, unfolding(crate::specs::found::Clashes::key_twice))]
 pub(crate) fn key_twice<'a>(text: &'a str, span: Span, first: Span) -> Option<Finding<'a>>
     ensures { option_map finding_content result ≡ spec.key_twice text.now span first }

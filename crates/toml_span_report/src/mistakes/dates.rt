@@ -64,8 +64,7 @@ fn zero_for(from: usize, to: usize) -> &'static str
     }
 }
 
-/// Returns whether the two digits at the offset `at` spell a higher number than the digits `tens` and `ones`, which are
-/// in ASCII.
+/// Returns whether the two digits at the offset `at` spell a higher number than the ASCII digits `tens` and `ones`.
 fn is_past(text: &str, at: usize, tens: u8, ones: u8) -> bool
     ensures { result ≡ spec.is_past text.now at tens ones }
 {
@@ -130,8 +129,9 @@ fn month_length<'a>(text: &'a str, year: usize, month: usize) -> Code<'a>
     }
 }
 
-/// Returns the finding for the invalid time that begins at `hour`, in the value that spans `start..end`. The mistake is
-/// a UTC offset without a colon, an hour that does not exist, or anything else.
+/// Returns the finding for the invalid time that begins at `hour`, in the value that spans `start..end`. The finding
+/// names a UTC offset without a colon or an hour that does not exist. For any other mistake, it marks the value and
+/// shows how dates and times are written.
 #[tactic(auto, unfolding(crate::specs::found::Dates::time))]
 fn time<'a>(text: &'a str, start: usize, hour: usize, end: usize) -> Finding<'a>
     ensures { finding_content result ≡ spec.time text.now start hour end }
@@ -152,7 +152,7 @@ fn time<'a>(text: &'a str, start: usize, hour: usize, end: usize) -> Finding<'a>
 }
 
 /// Returns the finding for a value that begins with a year of four digits, and has an invalid date or time. The value
-/// spans `start..end`, its month begins at `month`, its day at `day`.
+/// spans `start..end`, its month begins at `month`, and its day at `day`.
 #[tactic(auto, unfolding(crate::specs::found::Dates::date))]
 fn date<'a>(text: &'a str, start: usize, month: usize, day: usize, end: usize) -> Finding<'a>
     ensures { finding_content result ≡ spec.date text.now start month day end }

@@ -22,7 +22,8 @@ use crate::words::{
 };
 use toml_span_lex::span::Span;
 
-/// Returns the finding for a comment of another language. The comment begins at `at`, with a sign of `length` bytes.
+/// Returns the finding for a comment of another language. The comment begins at `at`, with a sign of `length` bytes
+/// such as `//`.
 #[tactic(auto, unfolding(crate::specs::found::Keys::comment))]
 pub(crate) fn comment<'a>(mistake: Mistake, text: &'a str, at: usize, length: usize) -> Finding<'a>
     ensures { finding_content result ≡ spec.comment (texts mistake.entry) text.now at length }
@@ -65,7 +66,7 @@ pub(crate) fn other_key<'a>(text: &'a str, at: usize) -> Option<Finding<'a>>
 }
 
 /// Returns the start of the key that ends at `end`. A key that ends with a quote is taken to begin at the nearest quote
-/// before that, any other key at its first byte of the class `Dotted`.
+/// before that. Any other key is the run of bytes of the class `Dotted` that ends at `end`.
 #[tactic(auto, unfolding(crate::specs::found::Keys::key_start))]
 fn key_start(text: &str, end: usize) -> usize
     ensures { result ≡ spec.key_start text.now end }
@@ -77,8 +78,8 @@ fn key_start(text: &str, end: usize) -> usize
     }
 }
 
-/// Returns the end of the value at `at`. A string is taken to end with the next quote of any kind, and an array or
-/// inline table at the end of the line, without trailing blanks. Any other value is a word.
+/// Returns the end of the value at `at`. A string is taken to end after the next quote, backtick or line end, and an
+/// array or inline table at the end of the line, without trailing blanks. Any other value is a word.
 #[tactic(auto, unfolding(crate::specs::found::Keys::value_end))]
 fn value_end(text: &str, at: usize) -> usize
     ensures { result ≡ spec.value_end text.now at }
@@ -126,7 +127,8 @@ fn is_named(word: &str) -> bool
     matches!(word, "true" | "false" | "inf" | "nan")
 }
 
-/// Returns a finding that marks `mark`, with a replacement of `edit` by `code`. The replacement is not safe.
+/// Returns a finding that marks the span `mark`, with a replacement of the span `edit` by `code`. A program must ask
+/// before it applies the replacement.
 fn doubtful<'a>(mistake: Mistake, mark: Span, edit: Span, code: Code<'a>) -> Finding<'a>
     ensures { finding_content result ≡ spec.doubtful (texts mistake.entry) mark edit (code_content code.entry) }
 {
@@ -139,8 +141,8 @@ fn doubtful<'a>(mistake: Mistake, mark: Span, edit: Span, code: Code<'a>) -> Fin
 }
 
 /// Returns the finding for `key`, a sign other than `=`, and the word of another language at `at`. `mark` is the span
-/// of the sign, `edit` the span of all three. If TOML has nothing for the word, the finding only marks the word.
-/// Otherwise it marks the sign, and replaces `edit`.
+/// of the sign, `edit` the span of all three, and `known` what TOML has for the word. If `known.code` is empty, the
+/// finding only marks the word. Otherwise it marks the sign, and replaces `edit`.
 fn known_pair<'a>(
     mistake: Mistake,
     key: &'a str,
@@ -205,8 +207,8 @@ pub(crate) fn other_sign<'a>(mistake: Mistake, text: &'a str, from: usize, to: u
     }
 }
 
-/// Returns the code that ends an array, after the text of its last element. `are_values` says that the elements need no
-/// quotes. `has_more` says that there are more elements, for which `, ..` is written.
+/// Returns the code that ends an array, after the text of its last element. `are_values` is set if the elements need no
+/// quotes. `has_more` is set if more elements follow, for which `, ..` is written.
 fn closing_of(are_values: bool, has_more: bool) -> &'static str
     ensures { result.now ≡ spec.closing_of are_values has_more }
 {
@@ -253,8 +255,8 @@ fn yaml_list<'a>(text: &'a str, start: usize, colon: usize, dash: usize) -> Find
     }
 }
 
-/// Returns the finding for the colon at `at`, after a key in the style of YAML. Only blanks and a comment follow the
-/// colon on its line.
+/// Returns the finding for the colon at `at`, after a key in the style of YAML. Only blanks, and possibly a comment,
+/// follow the colon on its line.
 #[tactic(auto, unfolding(crate::specs::found::Keys::yaml))]
 fn yaml<'a>(text: &'a str, at: usize) -> Finding<'a>
     ensures { finding_content result ≡ spec.yaml text.now at }

@@ -47,8 +47,8 @@ pub(crate) fn open_end<'a>(text: &'a str, at: usize) -> Option<Finding<'a>>
     }
 }
 
-/// Recognizes a key that ends with a dot, a header without a name, or a bracket that is not closed. A key is expected
-/// at `at`, where a line end, a comment or the end of the text is.
+/// Recognizes a key that ends with a dot, a header without a name, or a bracket that is not closed. At `at`, a key is
+/// expected, but a line ends, a comment begins or the text ends.
 #[tactic(auto, unfolding(crate::specs::found::Lists::unfinished_key))]
 pub(crate) fn unfinished_key<'a>(text: &'a str, at: usize) -> Option<Finding<'a>>
     ensures { option_map finding_content result ≡ spec.unfinished_key text.now at }
@@ -212,8 +212,8 @@ fn is_assignment(text: &str, at: usize) -> bool
     first_of_line(text, at) == at && at < end && byte_after(text, end) == b'='
 }
 
-/// Returns whether the line of the offset `at` looks like a header. Such a line begins with `[`. After the word at
-/// `at`, it has `]`, at most one more byte, and then only blanks.
+/// Returns whether the line that contains the offset `at` looks like a header. Such a line begins with `[`. After the
+/// word at `at`, it has `]`, at most one more byte, and then only blanks.
 #[tactic(auto, unfolding(crate::specs::found::Lists::is_heading))]
 fn is_heading(text: &str, at: usize) -> bool
     ensures { result ≡ spec.is_heading text.now at }

@@ -72,8 +72,9 @@ fn base_of(letter: u8) -> u64
     }
 }
 
-/// Returns the value of a number after one more byte, at most `u64::MAX`. A digit is appended, and `_` is ignored.
-/// Returns `None` if `value` is `None`, or if the byte is neither `_` nor a digit in this base.
+/// Returns the value of a number with the digit `byte` appended, at most `u64::MAX`. `value` is the value without this
+/// digit. If `byte` is `_`, returns `value`. Returns `None` if `value` is `None`, or if `byte` is neither `_` nor a
+/// digit in this base.
 fn next_value(value: Option<u64>, base: u64, byte: u8) -> Option<u64>
     ensures { result ≡ spec.next_value value base byte }
 {
@@ -114,8 +115,9 @@ fn decimal_code<'a>(text: &'a str, start: usize, value: u64) -> Code<'a>
     }
 }
 
-/// Returns the finding for a sign before a prefix. The `0` of the prefix is at `zero`. The replacement is the number in
-/// decimal. There is no replacement if a digit is not valid, or if the number without its sign is greater than 2^63.
+/// Returns the finding for a number with a sign before a prefix such as `0x`. The `0` of the prefix is at `zero`. The
+/// replacement is the number in decimal. The finding has no replacement if a digit is not valid, or if the number
+/// without its sign is higher than 2^63.
 #[tactic(auto, unfolding(crate::specs::found::Numbers::signed_prefix))]
 fn signed_prefix<'a>(text: &'a str, start: usize, zero: usize, end: usize) -> Finding<'a>
     ensures { finding_content result ≡ spec.signed_prefix text.now start zero end }
@@ -129,8 +131,8 @@ fn signed_prefix<'a>(text: &'a str, start: usize, zero: usize, end: usize) -> Fi
     }
 }
 
-/// Returns the finding for a number without a sign that has the prefix letter `x`, `o` or `b`: without digits, too
-/// large, with a misplaced `_`, or with an invalid digit.
+/// Returns the finding for a number without a sign, whose prefix has the letter `x`, `o` or `b`. The number has no
+/// digits, is too large, or has a misplaced `_` or an invalid digit.
 #[tactic(auto, unfolding(crate::specs::found::Numbers::unsigned_prefix))]
 fn unsigned_prefix<'a>(text: &'a str, start: usize, end: usize, letter: u8) -> Finding<'a>
     ensures { finding_content result ≡ spec.unsigned_prefix text.now start end letter }
@@ -168,7 +170,8 @@ fn prefixed<'a>(text: &'a str, start: usize, zero: usize, end: usize) -> Option<
     }
 }
 
-/// Returns the finding for a number with leading zeros. Its digits begin at `digits`, with the zeros.
+/// Returns the finding for a number with leading zeros. Its digits begin at `digits`, with the zeros. For a number such
+/// as `0755`, the replacement is octal (`0o755`). For any other number, it has no leading zeros.
 #[tactic(auto, unfolding(crate::specs::found::Numbers::zeros))]
 fn zeros<'a>(text: &'a str, start: usize, digits: usize, end: usize) -> Finding<'a>
     ensures { finding_content result ≡ spec.zeros text.now start digits end }
@@ -215,7 +218,8 @@ fn largest(text: &str, start: usize) -> u64
     }
 }
 
-/// Returns the mistake in an integer of digits and `_` that is not too large. Its digits begin at `digits`.
+/// Returns the mistake in an integer of digits and `_` that is not too large: a zero before `_` and a digit, as in
+/// `0_1`, or a misplaced `_`. The digits begin at `digits`.
 fn grouping_mistake(text: &str, digits: usize) -> Mistake
     ensures { texts result ≡ spec.grouping_mistake text.now digits }
 {
@@ -249,7 +253,7 @@ fn integer<'a>(text: &'a str, start: usize, digits: usize, end: usize) -> Findin
     }
 }
 
-/// Returns whether a digit is missing before or after the byte at `at`, and that byte is `_`.
+/// Returns whether the byte at `at` is a `_` that lacks a digit on at least one side.
 fn is_misplaced(number: &str, at: usize) -> bool
     ensures { result ≡ spec.is_misplaced number.now at }
 {
@@ -258,7 +262,7 @@ fn is_misplaced(number: &str, at: usize) -> bool
     byte_at(number, at) == b'_' && !(is_in(Class::Digit, before) && is_in(Class::Digit, after))
 }
 
-/// Returns whether a `_` in a number has no digit before or after it.
+/// Returns whether any `_` in `number` lacks a digit on at least one side.
 fn has_misplaced(number: &str) -> bool
     ensures { result ≡ spec.has_misplaced number.now (length number.now) }
 {

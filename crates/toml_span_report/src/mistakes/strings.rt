@@ -16,7 +16,7 @@ use crate::words::{
 };
 
 /// Returns the finding for a single-line string that is not closed. Its opening quote is at `quote`, and its line ends
-/// at `end`. A string at the start of a line, outside brackets, is a key (`open_key`).
+/// at `end`. A string at the start of a line, outside brackets, is treated as a key (`open_key`).
 #[tactic(auto, unfolding(crate::specs::found::Strings::open_string))]
 fn open_string<'a>(text: &'a str, quote: usize, end: usize) -> Finding<'a>
     ensures { finding_content result ≡ spec.open_string text.now quote end }
@@ -208,8 +208,8 @@ pub(crate) fn long_key<'a>(text: &'a str, at: usize) -> Finding<'a>
     marked(LONG_KEY, at, ahead(text, at, 3))
 }
 
-/// Recognizes a string that contains its own quote, as in `a = "b "c" d"`. The string ends too early, before the token
-/// at `at`.
+/// Recognizes a string that contains the quote that ends it, as in `a = "b "c" d"`. The string ends too early, before
+/// the token at `at`.
 #[tactic(auto, unfolding(crate::specs::found::Strings::quote_in_string))]
 pub(crate) fn quote_in_string<'a>(text: &'a str, at: usize) -> Option<Finding<'a>>
     ensures { option_map finding_content result ≡ spec.quote_in_string text.now at }

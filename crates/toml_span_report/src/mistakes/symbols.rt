@@ -1,4 +1,5 @@
-//! Mistakes in characters that do not begin a token. The module `mistakes` says what the functions take and return.
+//! Mistakes with characters that do not begin a token, such as curly quotes and `;`. The module `mistakes` says what
+//! the functions take and return.
 ghost use Rattle.std.specs.Prelude.{◌≡◌, option_map};
 ghost use Rattle.toml_span_report.specs.Finding.{finding_content, meant_content};
 ghost use Rattle.toml_span_report.specs.found.Symbols as spec;
@@ -56,9 +57,9 @@ fn curly_name(c: char) -> &'static str
     }
 }
 
-/// Returns the finding for the curly quote at `at`, whose Unicode name is `name`. The finding has a replacement if the
-/// next character from U+2000 to U+2FFF is on the same line and from U+2018 to U+201E, as curly quotes are, with no
-/// quotes, backticks or backslashes before it.
+/// Returns the finding for the curly quote at `at`, whose Unicode name is `name`. The finding has a replacement if a
+/// closing quote follows: the next character from U+2000 to U+2FFF on the line must be from U+2018 to U+201E, as curly
+/// quotes are. No quote, backtick or backslash may be before it.
 #[tactic(auto, unfolding(crate::specs::found::Symbols::curly))]
 fn curly<'a>(text: &'a str, at: usize, name: &'static str) -> Finding<'a>
     ensures { finding_content result ≡ spec.curly text.now at name.now }
@@ -149,8 +150,8 @@ fn parentheses<'a>(text: &'a str, at: usize) -> Finding<'a>
     replaced(PARENTHESES, at, ahead(text, close, 1), code)
 }
 
-/// Recognizes a marker of a merge conflict, or a tag of a markup language, that begins at `at`, which is the
-/// `first_of_line`.
+/// Recognizes a marker of a merge conflict, or a tag of a markup language, that begins at `at`. Only blanks are before
+/// `at` on its line.
 #[tactic(auto, unfolding(crate::specs::found::Symbols::at_line_start))]
 fn at_line_start<'a>(text: &'a str, at: usize) -> Option<Finding<'a>>
     ensures { option_map finding_content result ≡ spec.at_line_start text.now at }

@@ -1,4 +1,5 @@
-//! Mistakes in words that are written instead of values. The module `mistakes` says what the functions take and return.
+//! Recognizes words that are written instead of values, such as `True` or a string without quotes. The module
+//! `mistakes` says what the functions take and return.
 ghost use Rattle.std.specs.Prelude.{◌≡◌, option_map};
 ghost use Rattle.toml_span_report.specs.Finding.{finding_content, meant_content};
 ghost use Rattle.toml_span_report.specs.found.Values as spec;
@@ -77,8 +78,8 @@ pub(crate) fn known_word(word: &str) -> Option<Meant>
 }
 
 /// Returns the end of a string that needs quotes. The string begins at `at`, and its first word ends at `end`. The
-/// string includes all words up to a comment, a comma, `]`, `}` or the end of the line. If another byte comes first,
-/// returns `end`.
+/// string includes all words up to a comment, a comma, `]`, `}` or the end of the line. If a quote, `=` or a control
+/// character comes first, returns `end`.
 #[tactic(auto, unfolding(crate::specs::found::Values::phrase_end))]
 pub(crate) fn phrase_end(text: &str, at: usize, end: usize) -> usize
     ensures { result ≡ spec.phrase_end text.now at end }
@@ -129,8 +130,8 @@ fn prefixed<'a>(text: &'a str, at: usize, quote: usize) -> Finding<'a>
     }
 }
 
-/// Returns the finding for a word of another language, in `at..end`, that is written instead of a value. `known` says
-/// what the word means.
+/// Returns the finding for the word in `at..end`, which is written instead of a value. `known` is what TOML has for the
+/// word. The finding has a replacement unless `known.code` is empty.
 fn known_value<'a>(at: usize, end: usize, known: Meant) -> Finding<'a>
     ensures { finding_content result ≡ spec.known_value at end (meant_content known) }
 {

@@ -1,4 +1,4 @@
-//! Mistakes in tokens other than the expected ones, and in values of another kind than a typed read expects. The module
+//! Mistakes that cause the error `Wanted`: unexpected tokens and, in typed reads, values of the wrong kind. The module
 //! `mistakes` says what the functions take and return.
 ghost use Rattle.std.specs.Prelude.{◌≡◌, option_map};
 ghost use Rattle.toml_span_report.specs.Finding.{finding_content};
@@ -104,8 +104,8 @@ const AFTERNOON: [(&str, &str); 11] = [
     ("11", "23"),
 ];
 
-/// Converts an hour of two digits from a 12-hour clock to a 24-hour clock. `is_late` says that the time is `PM`.
-/// Returns any other text as it is.
+/// Converts an hour of two digits from a 12-hour clock to a 24-hour clock. `is_late` is set for `PM`. Returns any other
+/// text as it is.
 #[tactic(auto, unfolding(crate::specs::found::Wanted::full_hour))]
 fn full_hour<'a>(hour: &'a str, is_late: bool) -> &'a str
     ensures { result.now ≡ spec.full_hour hour.now is_late }
@@ -182,8 +182,7 @@ fn word_after<'a>(text: &'a str, at: usize) -> Finding<'a>
     marked(AFTER_VALUE, at, end)
 }
 
-/// Recognizes the mistake at `at`, after a value on the same line. `found` is that of the error `Wanted`, such as
-/// `a comma`.
+/// Recognizes the mistake in the token `found` at `at`, after a value on the same line.
 #[tactic(auto, unfolding(crate::specs::found::Wanted::after_value))]
 fn after_value<'a>(found: &str, text: &'a str, at: usize) -> Option<Finding<'a>>
     ensures { option_map finding_content result ≡ spec.after_value found.now text.now at }

@@ -27,11 +27,12 @@ abbrev pub read_or : {T : Type 0} → Result T Errors → (Node → Result T Err
 read_or otherwise read None = otherwise
 read_or otherwise read (Some x) = read (face x)
 
--- the error that the table with this span lacks this key
+-- the error for a table that has this span and lacks the key `name`
 abbrev pub lacks : List ℕ → Span → ErrorContent
 lacks name span = record { kind = missing_field name; span = span; line_info = None }
 
--- the value read at the key `name` of the root, whose span is `span`; `MissingField` if the key is absent
+-- the result of `read` for the value at the key `name` of the root, whose span is `span`; `MissingField` if the key is
+-- absent
 abbrev pub required_field : {T : Type 0} → (Node → Result T Errors) → List ℕ → Span → (Path → Option Place)
     → Result T Errors
 required_field read name span places = read_or (Err (one (lacks name span))) read (places (key name ∷ []))
@@ -43,7 +44,8 @@ whole text = record { start = 0; end = length text }
 abbrev pub number : Node → Result ℕ Errors
 number = read_integer (codes "u16") (unsigned (2 ^ 16))
 
--- The text is not valid, and this is its error. Or it is valid, and the error is the last of those of the port.
+-- The text is not valid, and this is its error. Or it is valid, and the error is the last of those that a read of the
+-- port returns.
 abbrev pub NoPort : List ℕ → Stop Error → Type 0
 NoPort text (stops.Memory e) = ⊤
 NoPort text (stops.Fault error) =

@@ -35,7 +35,7 @@ pub enum Either<'a> {
     List(Vec<i8>),
 }
 
-/// Values of several kinds.
+/// Fields whose types are the enums above, or contain one.
 #[derive(Debug, Drop, Deserialize)]
 pub struct Tagged<'a> {
     pub transport: Option<Transport<'a>>,
@@ -44,7 +44,7 @@ pub struct Tagged<'a> {
     pub either: Option<Either<'a>>,
 }
 
-/// Values of one kind each.
+/// Fields of other types, one of them with an alias.
 #[derive(Debug, Drop, Deserialize)]
 pub struct Device {
     pub flag: Option<bool>,

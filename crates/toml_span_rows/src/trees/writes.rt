@@ -9,7 +9,7 @@
 //! | `set=POINTER=INTEGER` | `set` on what `pointer_mut` returns |
 //! | `take=POINTER` | `take` on what `pointer_mut` returns |
 //! | `take_string=POINTER`, `take_string=POINTER=MESSAGE` | `take_string` on what `pointer_mut` returns |
-//! | `replace=POINTER=INTEGER` | `replace` by `Value::new` |
+//! | `replace=POINTER=INTEGER` | `replace` with a `Value::new` |
 //! | `taken=POINTER` | `is_taken` on what `pointer` returns |
 //! | `has_key=NAME`, `has_keys`, `whole` | `has_key`, `has_keys` and `is_whole` on the root |
 use crate::told::Out;

@@ -1,4 +1,4 @@
-//! Calls on a helper for the root of a document.
+//! Calls on a `TableHelper` for the root of a document.
 //!
 //! - `contains=NAME` and `take=NAME`.
 //! - `required=TYPE=NAME`, `required_s=TYPE=NAME`, `optional=TYPE=NAME`, `optional_s=TYPE=NAME`.

@@ -11,9 +11,9 @@ fn custom<'de>(message: &'de str, span: Span) -> DeserError<'de> {
     Error::from((kind, span)).into()
 }
 
-/// A type whose read succeeds only for a boolean, which is not taken. For a table, the read takes the entry `a` and, if
-/// this is a `u8`, puts the others back; it always fails. For any other value, it takes the value, and fails with two
-/// errors.
+/// A type whose read succeeds only for a boolean, which it does not take. For a table, the read takes the entry `a`,
+/// and always fails; if `a` is a `u8`, it puts the other entries back first. For any other value, it takes the value,
+/// and fails with two errors.
 #[derive(Debug, Drop)]
 pub struct Odd;
 
@@ -39,7 +39,7 @@ impl<'de> Deserialize<'de> for Odd {
     }
 }
 
-/// A type that no string can be parsed as.
+/// A type for which parsing a string always fails.
 #[derive(Debug, Drop)]
 pub struct Never;
 

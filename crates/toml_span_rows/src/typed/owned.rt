@@ -1,7 +1,7 @@
 //! Types that own their text, and errors that outlive the text.
 //!
-//! - `load_file NAME`: the value read from a file in `data`, whose text is dropped: the listener, or the text of the
-//!   errors, and the number of reports.
+//! - `load_file NAME`: reads a listener from this file in `data`, and drops the file's text. Prints the listener, or
+//!   the text of the errors and the number of reports.
 use crate::told::Out;
 use std::alloc::Global;
 use toml_span::de_helpers::parse_with;

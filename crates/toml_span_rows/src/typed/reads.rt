@@ -1,4 +1,4 @@
-//! Reads as the type that a row names.
+//! Reads values as the type that a row names.
 use crate::told::Out;
 use crate::trees::shown::push_owned;
 use crate::typed::odd::Odd;

@@ -1,4 +1,4 @@
-//! Types that warn.
+//! Types that are read with warnings.
 //!
 //! - `warned TYPE` reads the document with `from_str_with_warnings`, and prints the result and each warning, one per
 //!   line.
@@ -28,7 +28,7 @@ impl<'de> DeserializeWithWarnings<'de> for Limits {
     }
 }
 
-/// Fields whose types warn, and a field with a deprecated name.
+/// Fields whose types are read with warnings, and a field with a deprecated name.
 #[derive(Debug, Drop)]
 pub struct Service {
     pub level: u8,

@@ -1,9 +1,10 @@
-//! The first example in README.md: parses a text, looks up a value, and prints an error.
+//! The first example in README.md: parses a text, and describes a value or the error.
 use std::alloc::{AllocError, Global};
 use toml_span::parse;
 use toml_span_report::{Style, render_stop};
 
-/// Returns a sentence that says where the port of a server is, or what is wrong with the text.
+/// Returns a sentence with the span of the value at `/server/port`, or that there is no such value. If the text is not
+/// valid TOML, returns the report of the error.
 pub fn describe_port(alloc: Global, text: &str) -> Result<String, AllocError> {
     match parse(alloc, text) {
         Ok(root) => match root.pointer("/server/port") {

@@ -1,4 +1,5 @@
--- What the reference that is returned at each step of a pointer can change.
+-- Each step of a pointer returns a mutable reference. These definitions relate its final value to that of the value
+-- from which it was lent.
 use Rattle.std.specs.Prelude.{◌≡◌, ℕ, List, [], Some, Vec, ⊤}
 use Rattle.std.specs.Global.{Global}
 use Rattle.std.specs.BTreeMap.{BTreeMap}
@@ -39,7 +40,7 @@ table_row =
 abbrev pub lends_inner : MutBor Value → MutBor ValueInner → Fml
 lends_inner s r = Lends value_row inner_row s r (λ w. record { value = Some w; span = s.now.span })
 
--- When the borrows end, P holds for the final values of s and r.
+-- When the borrows end, P holds for the final values of s and r. R and T are their types.
 abbrev pub LendsBy : (R T : RattleType) → MutBor R.Denot → MutBor T.Denot → (R.Denot → T.Denot → Type 0) → Fml
 LendsBy R T s r P = follows_so R T s.ghost_name (some r.ghost_name) (λ w n. P n w) (λ _. ⊤)
 

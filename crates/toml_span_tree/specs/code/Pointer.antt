@@ -7,7 +7,7 @@ use Rattle.toml_span_tree.specs.Value.{view, inner_of}
 use Rattle.toml_span_tree.specs.Path.{Step, at_step, node_at, set_element, set_at_step}
 use Rattle.toml_span_tree.specs.Pointer.{step_named, if_not_taken, path_named, segments, put_where_named}
 
--- The first is the second, or None if the second is None or does not fit into 64 bits.
+-- The first position is the second one; or it is None, and the second is None or does not fit into 64 bits.
 abbrev pub PositionIs : Option ℕ → Option ℕ → Type 0
 PositionIs (Some i) o = o ≡ Some i
 PositionIs None None = ⊤
@@ -17,7 +17,7 @@ PositionIs None (Some i) = 2 ^ 64 ≤ i
 abbrev pub entry : List ℕ → Inner → Option Node
 entry segment i = option_and_then (λ s. option_map (λ e. e.1) (at_step s i)) (step_named segment i)
 
--- the same, unless its content has been taken
+-- the value that a segment selects in n, unless its content has been taken
 abbrev pub untaken_entry : List ℕ → Node → Option Node
 untaken_entry segment n = option_and_then if_not_taken (entry segment (inner_of n))
 
@@ -45,14 +45,14 @@ abbrev pub segments_after : Option (List ℕ) → List (List ℕ)
 segments_after None = []
 segments_after (Some rest) = segments rest
 
--- The text is split at its first slash.
+-- `path` is split at its first slash into a segment and the rest. Without a slash, the rest is None.
 pub record SplitAtSlash (path segment : List ℕ) (rest : Option (List ℕ)) : Type 0 where
   pub parts : segments path ≡ segment ∷ segments_after rest
   pub shorter : IfSome rest (λ more. length more < length path)
 
 -- Either the segments lead from o to a value, which was replaced: the result is the old value, and `changed` holds for
--- o with the new value in its place. Or they lead nowhere: the result is `Err` with the new value, and `same` holds,
--- which says that nothing changed.
+-- o with the new value in place of the old one. Or they lead nowhere, or o is None: the result is `Err` with the new
+-- value, and `same` holds, which states that nothing changed.
 abbrev pub Exchanged : Result Value Value → Value → List (List ℕ) → Option Node → (Node → Type 0) → Type 0 → Type 0
 Exchanged (Ok old) new names o changed same =
     (n : Node) × (o ≡ Some n) × (value_named names n ≡ Some (view old)) × changed (put_named names (view new) n)

@@ -1,4 +1,5 @@
-//! Pointers that are parsed once and looked up many times.
+//! Pointers that are parsed once and looked up many times. The segments of a pointer are the parts that its slashes
+//! separate.
 ghost use Rattle.std.specs.Prelude.{◌≡◌, [], ◌∷◌, ◌++◌, IfOk, OnOk, map, option_map};
 ghost use Rattle.toml_span_tree.specs.Names.{name_in, names_in};
 ghost use Rattle.toml_span_tree.specs.Node.{get_member};
@@ -13,10 +14,10 @@ use std::borrow::CowStr;
 use toml_span_lex::key::Key;
 use toml_span_lex::span::Span;
 
-// Toolchain: if a `Pointer` borrowed its text, which would be a second lifetime, the check would refuse `at` ("what is
-// returned holds or points to a reference at another lifetime"). So it owns its keys.
+// Toolchain: if a `Pointer` borrowed its text, it would have a second lifetime, and the check would refuse `at` ("what
+// is returned holds or points to a reference at another lifetime"). So it owns its keys.
 /// A pointer that is split into segments once, for many look-ups. It owns the segments, so it can be made before the
-/// document is parsed. It can be looked up in every tree that borrows its strings for the lifetime `'de`.
+/// document is parsed. It can be looked up in every tree whose borrowed strings have the lifetime `'de`.
 #[derive(Debug, Drop)]
 pub struct Pointer<'de> {
     names: Vec<Key<'de>>,
@@ -80,8 +81,8 @@ fn table_at<'v, 'de>(table: &'v Table<'de>, name: &Key<'de>) -> Option<&'v Value
 }
 
 impl<'de> ValueInner<'de> {
-    /// Returns the value that a name selects: an entry of a table, or the element of an array if the name is a decimal
-    /// position. Returns `None` if it selects nothing.
+    /// Returns the value that `name` selects: of a table, the value of the entry with this name; of an array, the
+    /// element at the position that the name spells in decimal digits. Returns `None` if no such value exists.
     fn entry_at(&self, name: &Key<'de>) -> Option<&Value<'de>>
         ensures { option_map (λ v. view v.now) result ≡ entry (name_in name.now) (inner_view self.now) }
     {
@@ -94,8 +95,8 @@ impl<'de> ValueInner<'de> {
 }
 
 impl<'de> Value<'de> {
-    /// Returns the value that a name selects in this value. Returns `None` if it selects nothing, or if the content of
-    /// this value or of the selected one has been taken.
+    /// Returns the value that `name` selects in this value. Returns `None` if no such value exists, or if the content
+    /// of this value or of the selected one has been taken.
     fn entry_at(&self, name: &Key<'de>) -> Option<&Self>
         ensures { option_map (λ v. view v.now) result ≡ untaken_entry (name_in name.now) (view self.now) }
     {
@@ -105,9 +106,9 @@ impl<'de> Value<'de> {
         }
     }
 
-    /// Follows the names from this value, one step for each name. Returns the value to which they lead, or `None` if
-    /// they lead to no value, or if a value on the way or at the end is taken. Without names, returns this value, taken
-    /// or not.
+    /// Follows `names` from this value, one step for each name. Returns the value to which they lead. Returns `None` if
+    /// no such value exists, or if it, this value or a value on the way is taken. If `names` is empty, returns this
+    /// value, even if it is taken.
     fn found_at(&self, names: &[Key<'de>]) -> Option<&Self>
         ensures { option_map (λ v. view v.now) result ≡ value_named (map name_in names.now) (view self.now) }
     {
@@ -117,7 +118,8 @@ impl<'de> Value<'de> {
         }
     }
 
-    /// Returns the value that the pointer names, or `None` if it names no value, as the method `pointer` does.
+    /// Returns the value that `pointer` names, or `None` if it names no value. The method `pointer` does the same for a
+    /// pointer that is a string.
     ///
     /// Takes logarithmic time in each table on the way. Allocates nothing.
     pub fn at(&self, pointer: &Pointer<'de>) -> Option<&Self>

@@ -8,7 +8,7 @@ use Rattle.toml_span_typed.specs.Errors.{Errors, all}
 use Rattle.toml_span_typed.specs.Reads.{EachReads, elements, errors}
 use Rattle.toml_span_typed.specs.Tuples.{IsReadAs}
 
--- If no allocation failed, P allows the result.
+-- P holds for the result, unless an allocation failed.
 abbrev pub Answered : {T : Type 0} → Result T (Stop Errors) → (Result T Errors → Type 0) → Type 0
 Answered (Ok x) P = P (Ok x)
 Answered (Err (stop.Fault faults)) P = P (Err faults)

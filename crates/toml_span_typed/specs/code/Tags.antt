@@ -1,4 +1,4 @@
--- A tag, or the error of one.
+-- The result of reading a tag.
 use Rattle.std.specs.Prelude.{ℕ, List, Result, Ok, Err}
 use Rattle.std.specs.Borrow.{Bor}
 use Rattle.toml_span_tree.specs.declared.error.Error.{Error}

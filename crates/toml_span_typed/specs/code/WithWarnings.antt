@@ -6,7 +6,7 @@ use Rattle.toml_span_typed.specs.Errors.{Errors, all}
 use Rattle.toml_span_typed.specs.Reads.{elements, errors}
 use Rattle.toml_span_typed.specs.WithWarnings.{EachWithWarnings}
 
--- A value was read: its element is returned, or its errors were added to the errors.
+-- A value was read: its element is returned, or its errors were added to the errors. Its warnings were appended.
 abbrev pub ReadsOrKeeps : {T : Type 0}
     → (Node → Result T Errors → List ErrorContent → List ErrorContent → Type 0) → Node → List ErrorContent
     → Option T → List ErrorContent → List ErrorContent → List ErrorContent → Type 0
@@ -22,7 +22,8 @@ AreReadWithWarnings reads values xs faults warnings more =
     (answers : List (Result _ Errors)) × EachWithWarnings reads values answers warnings more
     × (elements answers ≡ xs) × (errors answers ≡ faults)
 
--- One more value was read: its element was added to the elements, or its errors to the errors.
+-- One more value was read: its element was added to the elements, or its errors to the errors. Its warnings were
+-- appended.
 abbrev pub AddsWithWarnings : {T : Type 0}
     → (Node → Result T Errors → List ErrorContent → List ErrorContent → Type 0) → Node → List T → List ErrorContent
     → List T → List ErrorContent → List ErrorContent → List ErrorContent → Type 0

@@ -1,4 +1,4 @@
-//! Reads of strings with `FromStr` or with a function, as the body of a `deserialize`.
+//! Reads of strings with `FromStr` or with a function, for use as the body of `deserialize`.
 ghost use Rattle.std.specs.Fn.{FnOnceReturnsAt};
 ghost use Rattle.std.specs.Prelude.{◌≡◌, false};
 ghost use Rattle.toml_span_tree.specs.Value.{is_taken, view};

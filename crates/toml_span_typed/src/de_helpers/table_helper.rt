@@ -124,9 +124,9 @@ impl<'de> TableHelper<'de> {
 
     /// Records the name, moves its entry out of the table, and reads the value.
     ///
-    /// If there is no entry, keeps the error `MissingField` at the table's span, and returns a copy of the error. If
-    /// the read fails, keeps all its errors, and returns a copy of the last error. If an allocation fails, no error is
-    /// kept, but the name may be recorded and its entry gone.
+    /// If the table has no entry of this name, keeps the error `MissingField` at the table's span, and fails with a
+    /// copy of the error. If the read fails, keeps all its errors, and fails with a copy of the last error. If an
+    /// allocation fails, no error is kept, but the name may be recorded and its entry gone.
     pub fn required<T: Deserialize<'de>>(&mut self, name: &'de str) -> Result<T, Stop<Error<'de>>>
         requires { IfSome (found name.now (state_of self.old)) (λ value. IsTrue (is_whole value)) }
         ensures answer { Requires T.reads name.now (state_of self.old) result (state_of self.new) }
@@ -160,8 +160,8 @@ impl<'de> TableHelper<'de> {
 
     /// Records the name, moves its entry out of the table, if there is one, and reads the value.
     ///
-    /// Returns `None` if there is no entry. Also returns `None` if the read fails, and keeps all its errors. If an
-    /// allocation fails, no error is kept, but the name may be recorded and its entry gone.
+    /// Returns `None` if the table has no entry of this name. Also returns `None` if the read fails, after keeping all
+    /// its errors. If an allocation fails, no error is kept, but the name may be recorded and its entry gone.
     pub fn optional<T: Deserialize<'de>>(&mut self, name: &'de str) -> Result<Option<T>, AllocError>
         requires { IfSome (found name.now (state_of self.old)) (λ value. IsTrue (is_whole value)) }
         ensures answer { Tries T.reads name.now (state_of self.old) result (state_of self.new) }
@@ -192,8 +192,8 @@ impl<'de> TableHelper<'de> {
 
     /// Ends the read. Returns `Ok` if no error was kept, otherwise fails with all errors in order.
     ///
-    /// If `original` is a value, puts the entries that remain back into the value, even if there are errors. The value
-    /// keeps its span, and nothing is allocated.
+    /// If `original` is `Some(value)`, puts the entries that remain back into `value` as a table, even if errors were
+    /// kept. `value` keeps its span, and nothing is allocated.
     ///
     /// If `original` is `None`, also fails if entries remain: the last error is then `UnexpectedKeys` at the table's
     /// span. This error has the keys that remain, in the order of their names, and the recorded names, in the order in
@@ -208,7 +208,8 @@ impl<'de> TableHelper<'de> {
         }
     }
 
-    /// Ends the read, and puts the entries that remain back into the value. Fails with the errors that were kept.
+    /// Ends the read, and puts the entries that remain back into `value`. Fails if any errors were kept, with all of
+    /// them.
     fn put_back(self, value: &mut Value<'de>) -> Result<(), Unfinished<'de>>
         ensures answer { EndsWithErrors (state_of self.entry).errors result }
         ensures rest { HoldsRest self.entry.table value.old value.new }
@@ -224,8 +225,8 @@ impl<'de> TableHelper<'de> {
         finish(errors)
     }
 
-    /// Ends the read. If entries remain, keeps the error `UnexpectedKeys`. Fails with all errors that were kept or, if
-    /// an allocation fails, with the unchanged helper in `Unfinished::Memory`.
+    /// Ends the read. If entries remain, keeps the error `UnexpectedKeys`. Fails if any errors were kept, with all of
+    /// them. If an allocation fails, fails with the unchanged helper in `Unfinished::Memory`.
     fn refuse_rest(mut self) -> Result<(), Unfinished<'de>>
         ensures { Refuses (state_of self.entry) result }
     {
@@ -257,7 +258,7 @@ impl<'de> TableHelper<'de> {
         Ok(Error::from((ErrorKind::UnexpectedKeys { keys, expected }, self.span)))
     }
 
-    /// Reads a value. If the read fails, keeps all errors of the read, and returns a copy of the last error. If an
+    /// Reads a value. If the read fails, keeps all its errors, and fails with a copy of the last error. If an
     /// allocation fails, keeps no error.
     fn read_value<T: Deserialize<'de>>(
         &mut self,
@@ -324,7 +325,7 @@ fn missing_field<'s>(name: &'s str, span: Span) -> Error<'s>
     Error::from((ErrorKind::MissingField(name), span))
 }
 
-/// Returns `Ok` if there are no errors, otherwise fails with them.
+/// Returns `Ok` if `errors` is empty, otherwise fails with all of `errors`.
 fn finish<'de>(errors: Vec<Error<'de>>) -> Result<(), Unfinished<'de>>
     ensures { EndsWithErrors (map content_of errors.entry.items) result }
 {

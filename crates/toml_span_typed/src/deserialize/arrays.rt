@@ -25,7 +25,7 @@ impl<'de, T: Deserialize<'de>> Deserialize<'de> for Vec<T> {
     }
 }
 
-/// Reads each element. Fails with the errors of all elements.
+/// Reads each element. If any reads fail, fails with the errors of all of them.
 fn read_all<'de, T: Deserialize<'de>>(
     alloc: Global,
     items: Vec<Value<'de>>,
@@ -47,7 +47,7 @@ fn read_all<'de, T: Deserialize<'de>>(
     }
 }
 
-/// Reads one element, and appends it to `read`, or its errors to `faults`.
+/// Reads one element, and appends it to `read`. If the read fails, appends its errors to `faults` instead.
 fn read_next<'de, T: Deserialize<'de>>(
     alloc: Global,
     item: Value<'de>,

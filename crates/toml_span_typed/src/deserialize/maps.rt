@@ -49,7 +49,7 @@ impl<'de, T: Deserialize<'de>> Deserialize<'de> for HashMap<String, T> {
     }
 }
 
-/// Reads the value of each entry. Fails with the errors of all entries.
+/// Reads the value of each entry. If any reads fail, fails with the errors of all of them.
 fn read_entries<'de, T: Deserialize<'de>>(
     alloc: Global,
     table: Table<'de>,
@@ -71,7 +71,7 @@ fn read_entries<'de, T: Deserialize<'de>>(
     }
 }
 
-/// Reads the value of one entry, and adds it to `read`, or its errors to `faults`.
+/// Reads the value of one entry, and inserts it into `read`. If the read fails, appends its errors to `faults` instead.
 fn read_entry<'de, T: Deserialize<'de>>(
     alloc: Global,
     key: Key<'de>,

@@ -1,4 +1,4 @@
-//! Reads of arrays of two elements with different types.
+//! Reads of arrays of two elements, whose types may differ.
 ghost use Rattle.std.specs.Prelude.{◌≡◌, IfErr, IfOk, IsTrue};
 ghost use Rattle.toml_span_tree.specs.Value.{is_whole, view};
 ghost use Rattle.toml_span_typed.specs.Reads.{Taken};
@@ -13,8 +13,8 @@ use toml_span_lex::span::Span;
 use toml_span_lex::stop::Stop;
 use toml_span_tree::{Error, ErrorKind, Value, ValueInner};
 
-// Toolchain: there is no `impl` for `[T; N]` ("a struct that owns memory and names a lifetime has a field that holds a
-// `&mut`, or ..").
+// Toolchain: an `impl` for `[T; N]` is refused ("a struct that owns memory and names a lifetime has a field that holds
+// a `&mut`, or ..").
 /// Reads an array of two elements. For any other number of elements, reads no element, and fails with `Custom` at the
 /// array's span: `expected 2 elements, found` and the number.
 impl<'de, A: Deserialize<'de>, B: Deserialize<'de>> Deserialize<'de> for (A, B) {

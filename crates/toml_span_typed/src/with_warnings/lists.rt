@@ -1,4 +1,4 @@
-//! Lists of types that warn.
+//! Reads of arrays whose elements have a type that implements `DeserializeWithWarnings`.
 ghost use Rattle.std.specs.Prelude.{IsTrue, OnOk, map};
 ghost use Rattle.toml_span_tree.specs.Error.{content_of};
 ghost use Rattle.toml_span_tree.specs.Value.{all_whole, is_whole, items_view, view};
@@ -29,7 +29,7 @@ impl<'de, T: DeserializeWithWarnings<'de>> DeserializeWithWarnings<'de> for Vec<
     }
 }
 
-/// Reads each element, and appends all warnings to `warnings`. Fails with the errors of all elements.
+/// Reads each element, and appends all warnings to `warnings`. If any reads fail, fails with the errors of all of them.
 fn read_all<'de, T: DeserializeWithWarnings<'de>>(
     alloc: Global,
     items: Vec<Value<'de>>,
@@ -53,7 +53,8 @@ fn read_all<'de, T: DeserializeWithWarnings<'de>>(
     }
 }
 
-/// Reads one element, and appends it to `read`, or its errors to `faults`, and its warnings to `warnings`.
+/// Reads one element, and appends it to `read`. If the read fails, appends its errors to `faults` instead. In both
+/// cases, appends its warnings to `warnings`.
 fn read_next<'de, T: DeserializeWithWarnings<'de>>(
     alloc: Global,
     item: Value<'de>,

@@ -27,7 +27,7 @@ rows : (reader : Reader) (app : App) (words : List (List ℕ)) (m : ArgMatches) 
 unfolding options
 rows reader app words m is has = (has (ap is_simple is ∙ is-simple reader)).0 ∙ ap (λ a. matches_of a words) is
 
--- what clap refuses, it refuses by the words
+-- clap refuses only because of the words
 refused : (reader : Reader) (app : App) (words : List (List ℕ)) (e : Error) → app ≡ program reader →
     (is_simple_and_free app ≡ true → HasKind (fault_of app words) e) → HasKind (refusals reader words) e
 unfolding refusals

@@ -1,4 +1,4 @@
-//! Reads of fields that have an old name too, which may be deprecated.
+//! Reads of fields that also have an old name, which may be deprecated.
 ghost use Rattle.std.specs.Prelude.{◌≡◌, ◌⊎◌, ◌+◌, ◌≤◌, ◌++◌, IfOk, IfSome, IsTrue, OnErr, OnOk, Some, map, option_map};
 ghost use Rattle.toml_span_tree.specs.Error.{content_of};
 ghost use Rattle.toml_span_tree.specs.Value.{is_whole, view};
@@ -103,9 +103,9 @@ impl<'de> TableHelper<'de> {
         self.read_if_there(value)
     }
 
-    /// Reads a value that was moved out of the table. If the read fails, keeps its errors, and returns `None`. If there
-    /// is no value, keeps the error `MissingField` for `name`, and returns `None`. If an allocation fails, nothing is
-    /// kept.
+    /// Reads `value`, which was moved out of the table. If the read fails, keeps its errors, and returns `None`. If
+    /// `value` is `None`, keeps the error `MissingField` for `name`, and returns `None`. If an allocation fails, no
+    /// error is kept.
     fn read_or_miss<T: Deserialize<'de>>(
         &mut self,
         name: &'de str,
@@ -128,8 +128,8 @@ impl<'de> TableHelper<'de> {
         }
     }
 
-    /// Reads a value that was moved out of the table. Returns `None` if there is no value. If the read fails, keeps its
-    /// errors, and returns `None`. If an allocation fails, nothing is kept.
+    /// Reads `value`, which was moved out of the table. Returns `None` if `value` is `None`. If the read fails, keeps
+    /// its errors, and returns `None`. If an allocation fails, no error is kept.
     fn read_if_there<T: Deserialize<'de>>(
         &mut self,
         value: Option<Value<'de>>,
@@ -148,9 +148,9 @@ impl<'de> TableHelper<'de> {
         }
     }
 
-    /// Records both names, and moves their entries out. Returns the value of `name` or, if `name` is absent, of `old`,
-    /// and `None` if neither is present. If both are present, keeps the error `DuplicateKey`. If an allocation fails,
-    /// names may be recorded and entries gone.
+    /// Records both names, and moves their entries out of the table. Returns the value of `name` or, if `name` is
+    /// absent, of `old`. Returns `None` if neither is present. If both are present, keeps the error `DuplicateKey`. If
+    /// an allocation fails, no error is kept, but the names may be recorded and their entries gone.
     fn take_either(
         &mut self,
         name: &'de str,
@@ -171,7 +171,7 @@ impl<'de> TableHelper<'de> {
     }
 
     /// Does the same as `take_either`, but does not record `old`, and appends a warning to `warnings` if `old` is
-    /// present. If an allocation fails, `warnings` is unchanged.
+    /// present. If an allocation fails, `warnings` is unchanged, but the error `DuplicateKey` may have been kept.
     fn take_deprecated(
         &mut self,
         name: &'de str,
@@ -197,9 +197,9 @@ impl<'de> TableHelper<'de> {
         Ok(value)
     }
 
-    /// Returns the value of `newer`, the entry of `name`, or else of `older`, the entry of `old`; `None` if both are
-    /// `None`. An entry is the span of its key, and its value. If there are both, keeps the error `DuplicateKey` at the
-    /// later key. If an allocation fails, nothing is kept.
+    /// Returns the value of `newer`, the entry of `name`, or, if `newer` is `None`, the value of `older`, the entry of
+    /// `old`. Returns `None` if both are `None`. An entry is the span of its key, and its value. If both are `Some`,
+    /// keeps the error `DuplicateKey` at the later key. If an allocation fails, no error is kept.
     fn choose(
         &mut self,
         name: &str,
@@ -315,8 +315,8 @@ fn duplicate_key<'s>(
     Ok(Error::from((ErrorKind::DuplicateKey { key, first }, span)))
 }
 
-/// Appends the warning that `old` is deprecated in favor of `name`, at `place`, the span of the old key. If `place` is
-/// `None`, appends nothing. If an allocation fails, the list is unchanged.
+/// Appends the warning that `old` is deprecated in favor of `name` to `warnings`. `place`, the span of the old key, is
+/// the span of the warning. If `place` is `None`, appends nothing. If an allocation fails, `warnings` is unchanged.
 fn warn<'s>(
     warnings: &mut Vec<Error<'s>>,
     name: &'s str,

@@ -1,4 +1,4 @@
-//! Reads of fields that leave all errors to the helper.
+//! Methods that read fields and keep all errors in the helper.
 ghost use Rattle.std.specs.Prelude.{◌≡◌, ◌+◌, ◌≤◌, IfOk, IfSome, IsTrue, OnErr, OnOk};
 ghost use Rattle.toml_span_tree.specs.Value.{is_whole};
 ghost use Rattle.toml_span_typed.specs.Fields.{Asks, Finishes, FinishesInto, Keeps, RequiresAll, kept, lacking};
@@ -14,9 +14,9 @@ use toml_span_tree::Value;
 impl<'de> TableHelper<'de> {
     /// Reads the field of this name: records the name, moves its entry out of the table, and reads the value.
     ///
-    /// Returns `None` if there is no entry, after keeping the error `MissingField` at the table's span. Also returns
-    /// `None` if the read fails, after keeping all its errors. So if `finish` returns `Ok`, no call returned `None`. If
-    /// an allocation fails, no error is kept, but the name may be recorded and its entry gone.
+    /// If the table has no entry of this name, keeps the error `MissingField` at the table's span, and returns `None`.
+    /// Also returns `None` if the read fails, after keeping all its errors. So if `finish` returns `Ok`, no call
+    /// returned `None`. If an allocation fails, no error is kept, but the name may be recorded and its entry gone.
     #[tactic(auto, using(crate::proofs::Whole::found_whole))]
     pub fn read<T: Deserialize<'de>>(&mut self, name: &'de str) -> Result<Option<T>, AllocError>
         requires { AllWhole (state_of self.old) }
@@ -58,9 +58,9 @@ impl<'de> TableHelper<'de> {
         self.optional(name)
     }
 
-    /// Returns the value of a read that the caller made, for example of an entry from `take`. If the read failed, keeps
-    /// its errors, and returns `None`. If an allocation failed in the read, or fails now, returns `AllocError`, and
-    /// keeps no error.
+    /// Returns the value in `read`, the result of a read that the caller made, for example with an entry from `take`.
+    /// If the read failed, keeps its errors, and returns `None`. If an allocation failed in the read, or fails now,
+    /// returns `AllocError`, and keeps no error.
     pub fn kept<T: Drop>(
         &mut self,
         read: Result<T, Stop<DeserError<'de>>>,

@@ -54,8 +54,8 @@ fn repeated<'s>(alloc: Global, names: &[&Spanned<String>]) -> Result<Vec<Error<'
     Ok(errors)
 }
 
-/// Appends the error of a name that occurs at `before` and again at `span` to `errors`. Appends nothing if `before` is
-/// `None`.
+/// Appends the error for `name`, which occurs at `before` and again at `span`, to `errors`. Appends nothing if `before`
+/// is `None`.
 fn push_repeated<'s>(
     alloc: Global,
     name: &str,
@@ -72,7 +72,7 @@ fn push_repeated<'s>(
     Ok(())
 }
 
-/// Returns the error of a name that occurs at `before` and again at `span`.
+/// Returns the error for `name`, which occurs at `before` and again at `span`. The error is at `span`.
 fn repeated_name<'s>(
     alloc: Global,
     name: &str,

@@ -22,10 +22,10 @@ impl<'de> TableHelper<'de> {
     /// Reads the field of this name, which must be a string that equals one of `tags`. Returns this tag. Records the
     /// name, and moves its entry out of the table.
     ///
-    /// Returns `None`, and keeps an error, in three cases: `MissingField` at the table's span if there is no entry;
-    /// `Wanted` at the value's span if the value is not a string; and `UnexpectedValue` at the value's span if the
-    /// string is not one of the tags. If an allocation fails, no error is kept, but the name may be recorded and its
-    /// entry gone.
+    /// Returns `None`, and keeps an error, in three cases: `MissingField` at the table's span if the table has no entry
+    /// of this name; `Wanted` at the value's span if the value is not a string; and `UnexpectedValue` at the value's
+    /// span if the string is not one of the tags. If an allocation fails, no error is kept, but the name may be
+    /// recorded and its entry gone.
     pub fn read_tag(
         &mut self,
         name: &'de str,
@@ -65,8 +65,8 @@ impl<'de> TableHelper<'de> {
         }
     }
 
-    /// Ends the read of a table whose tag could not be read. Returns the errors that were kept or, if there are none,
-    /// `MissingField` for `name`. Does not report the entries that remain. Does not allocate.
+    /// Ends the read of a table whose tag could not be read. Returns the errors that were kept or, if no error was
+    /// kept, `MissingField` for `name`. Does not report the entries that remain. Does not allocate.
     pub fn untagged(self, name: &'de str) -> DeserError<'de>
         ensures { all result ≡ first_or (missing name.now (state_of self.entry)) (state_of self.entry).errors }
     {
@@ -89,7 +89,7 @@ impl<'de> TableHelper<'de> {
         read_or_keep(self.alloc, rest, &mut self.errors)
     }
 
-    /// Moves the entries that remain into a new table, with the span of the whole table.
+    /// Moves the entries that remain into a new table, and returns it with the span of the whole table.
     fn take_rest(&mut self) -> Value<'de>
         ensures rest { view result ≡ remaining (state_of self.old) }
         ensures state { state_of self.new ≡ emptied (state_of self.old) }

@@ -1,4 +1,4 @@
-//! Reads of fields whose types warn.
+//! Reads of fields whose types implement `DeserializeWithWarnings`.
 ghost use Rattle.std.specs.Prelude.{◌≡◌, ◌+◌, ◌≤◌, [], IfOk, map};
 ghost use Rattle.toml_span_tree.specs.Error.{content_of};
 ghost use Rattle.toml_span_typed.specs.Fields.{kept, lacking};
