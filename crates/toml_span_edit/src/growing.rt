@@ -5,7 +5,7 @@ use crate::given::{check_value, probe_text, probed};
 use crate::items::{Item, bare, count_of, put_item};
 use crate::lines::{comments_above, line_end, line_start, part, point};
 use crate::mentions::{Mention, opens_element};
-use crate::paths::{front_of, position, rest_of};
+use crate::paths::{front_of, rest_of};
 use crate::plan::Plan;
 use crate::reason::Reason;
 use toml_span::Stop;

@@ -7,31 +7,11 @@ ghost use Rattle.toml_span_edit.specs.Made as spec;
 ghost use Rattle.toml_span_edit.specs.Paths as paths;
 ghost use Rattle.toml_span_edit.specs.Same.{same, same_members};
 
-use crate::paths::position;
 use crate::same::{same_items, same_tree};
 use std::collections::btree_map::Iter;
 use toml_span::value::{Array, Key, Table, Value, ValueInner};
-
-/// Returns the value of the entry `name`, or `None` if the table lacks this entry.
-fn entry_named<'v, 'de>(table: &'v Table<'de>, name: &str) -> Option<&'v Value<'de>>
-    ensures { option_map (λ v. view v.now) result ≡ get_member name.now (members_view table.now.entries) }
-{
-    for (key, value) in table.iter() {
-        if name == key.name.as_str() {
-            return Some(value);
-        }
-    }
-    None
-}
-
-/// Returns the element at the position that `segment` spells. Returns `None` if `segment` spells no position, or if the
-/// array has no such element.
-fn element_named<'v, 'de>(array: &'v Array<'de>, segment: &str) -> Option<&'v Value<'de>>
-    ensures { option_map (λ v. view v.now) result
-        ≡ option_and_then (λ i. get_item i (items_view array.now.items)) (position_of segment.now) }
-{
-    array.get(position(segment)?)
-}
+use toml_span_tree::lookup::entry_named;
+use toml_span_tree::pointer::{array_entry, position};
 
 /// Returns the element, or the value of the entry, that `segment` names in `value`. Returns `None` if `segment` names
 /// nothing, or if `value` is taken.
@@ -42,7 +22,7 @@ pub(crate) fn child<'v, 'de>(value: &'v Value<'de>, segment: &str) -> Option<&'v
         return None;
     }
     match value.as_ref() {
-        ValueInner::Array(array) => element_named(array, segment),
+        ValueInner::Array(array) => array_entry(array, segment),
         ValueInner::Table(table) => entry_named(table, segment),
         _ => None,
     }

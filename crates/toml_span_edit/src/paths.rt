@@ -13,6 +13,7 @@ use std::borrow::CowStr;
 use toml_span::Stop;
 use toml_span::value::Step;
 use toml_span_places::{PathError, path_segments};
+use toml_span_tree::pointer::position;
 
 /// Returns the column and the message of `error`, with which reading `path` failed, such as `column 3: expected a key`.
 /// Columns count characters from 1. Fails if an allocation fails.
@@ -35,21 +36,6 @@ pub(crate) fn segments_of<'p>(alloc: Global, path: &'p str) -> Result<Vec<CowStr
             Err(Stop::Fault(Reason::WrongPath(words)))
         }
     }
-}
-
-/// Returns the position that `segment` spells, in digits without a sign and without leading zeros. Returns `None` for
-/// any other segment, and for a number that does not fit into a `usize`.
-pub(crate) fn position(segment: &str) -> Option<usize>
-    ensures { PositionIs result (position_of segment.now) }
-{
-    let bytes = segment.as_bytes();
-    if bytes.is_empty() || bytes[0] == b'+' {
-        return None;
-    }
-    if bytes[0] == b'0' && bytes.len() > 1 {
-        return None;
-    }
-    segment.parse::<usize>().ok()
 }
 
 /// Returns the segments of `path` after the first `count`. Returns an empty slice if `path` has fewer than `count`

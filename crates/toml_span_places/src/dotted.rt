@@ -24,7 +24,9 @@ use toml_span_lex::stop::Stop;
 use toml_span_lex::strings::string_at;
 use toml_span_lex::tokens::{self, Token};
 use toml_span_read::gaps::{byte_at, dot};
-use toml_span_tree::{Array, Table, Value, ValueInner};
+use toml_span_tree::Value;
+use toml_span_tree::lookup::child_of;
+use toml_span_tree::pointer::cut;
 
 /// What is wrong with a path that does not begin with a slash.
 #[derive(Clone, Copy, Debug, PartialEq, Eq, Error)]
@@ -231,17 +233,6 @@ fn dotted<'p>(alloc: Global, path: &'p str) -> Result<Vec<CowStr<'p>>, Stop<Path
     Ok(parts)
 }
 
-/// Returns the text before the first slash of `path`, and the text after that slash. Without a slash, returns `path`
-/// and `None`.
-fn cut<'p>(path: &'p str) -> (&'p str, Option<&'p str>)
-    ensures { SplitAtSlash path.now result.0.now (option_map (λ rest. rest.now) result.1) }
-{
-    match path.split_once('/') {
-        Some((segment, rest)) => (segment, Some(rest)),
-        None => (path, None),
-    }
-}
-
 /// Appends to `parts` the segments of `path`, which are separated by slashes.
 fn push_segments<'p>(path: &'p str, parts: &mut Vec<CowStr<'p>>) -> Result<(), AllocError>
     ensures { OnOk result (map cow_str_bytes parts.new.items
@@ -274,66 +265,6 @@ pub fn path_segments<'p>(alloc: Global, path: &'p str) -> Result<Vec<CowStr<'p>>
         }
         None => dotted(alloc, path),
     }
-}
-
-/// Returns the position that `segment` spells, in digits without a sign and without leading zeros. Returns `None` for
-/// any other segment, and for a number that does not fit into a `usize`.
-fn position(segment: &str) -> Option<usize>
-    ensures { PositionIs result (position_of segment.now) }
-{
-    let bytes = segment.as_bytes();
-    if bytes.is_empty() || bytes[0] == b'+' {
-        return None;
-    }
-    if bytes[0] == b'0' && bytes.len() > 1 {
-        return None;
-    }
-    segment.parse::<usize>().ok()
-}
-
-/// Returns the element at the position that `segment` spells. Returns `None` if `segment` spells no position, or if the
-/// array has no such element.
-fn array_entry<'v, 'de>(array: &'v Array<'de>, segment: &str) -> Option<&'v Value<'de>>
-    ensures { option_map (λ v. view v.now) result
-        ≡ option_and_then (λ i. get_item i (items_view array.now.items)) (position_of segment.now) }
-{
-    array.get(position(segment)?)
-}
-
-/// Returns the value of the entry `name`, or `None` if the table lacks this entry.
-fn entry_named<'v, 'de>(table: &'v Table<'de>, name: &str) -> Option<&'v Value<'de>>
-    ensures { option_map (λ v. view v.now) result ≡ get_member name.now (members_view table.now.entries) }
-{
-    for (key, value) in table.iter() {
-        if name == key.name.as_str() {
-            return Some(value);
-        }
-    }
-    None
-}
-
-/// Returns the element, or the value of the entry, that `segment` names in `inner`. Returns `None` if `segment` names
-/// nothing.
-fn entry_of<'v, 'de>(inner: &'v ValueInner<'de>, segment: &str) -> Option<&'v Value<'de>>
-    ensures { option_map (λ v. view v.now) result ≡ entry segment.now (inner_view inner.now) }
-{
-    match inner {
-        ValueInner::Table(table) => entry_named(table, segment),
-        ValueInner::Array(array) => array_entry(array, segment),
-        _ => None,
-    }
-}
-
-/// Returns the element, or the value of the entry, that `segment` names in `value`. Returns `None` if `segment` names
-/// nothing, or if `value` or the named value is taken.
-fn child_of<'v, 'de>(value: &'v Value<'de>, segment: &str) -> Option<&'v Value<'de>>
-    ensures { option_map (λ v. view v.now) result ≡ untaken_entry segment.now (view value.now) }
-{
-    if value.is_taken() {
-        return None;
-    }
-    let child = entry_of(value.as_ref(), segment)?;
-    if child.is_taken() { None } else { Some(child) }
 }
 
 /// Returns the value at `path`, which begins at `value`. Returns `None` if `path` names nothing, or if the value at

@@ -8,11 +8,11 @@ mod float;
 mod json;
 pub mod laws;
 mod listed;
-mod lookup;
+pub mod lookup;
 mod message;
 pub mod nodes;
 mod order;
-mod pointer;
+pub mod pointer;
 mod value;
 
 pub use date::DateText;

@@ -14,7 +14,7 @@ pub use compiled::Pointer;
 
 /// Returns the value of the entry with this name, or `None` if the table has no such entry. Compares the names one by
 /// one.
-fn entry_named<'v, 'de>(table: &'v Table<'de>, name: &str) -> Option<&'v Value<'de>>
+pub fn entry_named<'v, 'de>(table: &'v Table<'de>, name: &str) -> Option<&'v Value<'de>>
     ensures { option_map (λ v. view v.now) result ≡ get_member name.now (members_view table.now.entries) }
 {
     for (key, value) in table.iter() {
@@ -39,25 +39,25 @@ impl<'de> ValueInner<'de> {
     }
 }
 
-impl<'de> Value<'de> {
-    /// Returns the value that `segment` selects in this value. Returns `None` if no such value exists, or if the
-    /// content of this value or of the selected one has been taken.
-    fn entry_of(&self, segment: &str) -> Option<&Self>
-        ensures { option_map (λ v. view v.now) result ≡ untaken_entry segment.now (view self.now) }
-    {
-        match &self.value {
-            Some(inner) => inner.entry_of(segment)?.if_untaken(),
-            None => None,
-        }
+/// Returns the value that `segment` selects in `value`. Returns `None` if no such value exists, or if the content of
+/// `value` or of the selected value has been taken.
+pub fn child_of<'v, 'de>(value: &'v Value<'de>, segment: &str) -> Option<&'v Value<'de>>
+    ensures { option_map (λ v. view v.now) result ≡ untaken_entry segment.now (view value.now) }
+{
+    match &value.value {
+        Some(inner) => inner.entry_of(segment)?.if_untaken(),
+        None => None,
     }
+}
 
+impl<'de> Value<'de> {
     /// Follows the segments of `path`, a pointer without its first `/`, from this value. Returns the value to which
     /// they lead. Returns `None` if no such value exists, or if it, this value or a value on the way is taken.
     fn found_by(&self, path: &str) -> Option<&Self>
         ensures { option_map (λ v. view v.now) result ≡ value_named (segments path.now) (view self.now) }
     {
         let (segment, rest) = cut(path);
-        let child = self.entry_of(segment)?;
+        let child = child_of(self, segment)?;
         match rest {
             Some(rest) => child.found_by(rest),
             None => Some(child),

@@ -23,7 +23,7 @@ use toml_span_lex::key::Key;
 
 /// Returns the position that the segment spells in decimal digits, without a sign and without leading zeros. Returns
 /// `None` for any other segment, and for a number of 2^64 or more.
-fn position(segment: &str) -> Option<usize>
+pub fn position(segment: &str) -> Option<usize>
     ensures { PositionIs result (position_of segment.now) }
 {
     let bytes = segment.as_bytes();
@@ -38,7 +38,7 @@ fn position(segment: &str) -> Option<usize>
 
 /// Splits `path` at its first `/`. Returns the segment before the `/`, and the path after it. Without a `/`, returns
 /// `path` and `None`.
-pub(crate) fn cut<'p>(path: &'p str) -> (&'p str, Option<&'p str>)
+pub fn cut<'p>(path: &'p str) -> (&'p str, Option<&'p str>)
     ensures { SplitAtSlash path.now result.0.now (option_map (λ rest. rest.now) result.1) }
 {
     match path.split_once('/') {
@@ -56,7 +56,7 @@ fn table_entry<'v, 'de>(table: &'v Table<'de>, name: &'de str) -> Option<&'v Val
 
 /// Returns the element at the position that `segment` spells. Returns `None` if it spells no position, or if the array
 /// has no element there.
-pub(crate) fn array_entry<'v, 'de>(array: &'v Array<'de>, segment: &str) -> Option<&'v Value<'de>>
+pub fn array_entry<'v, 'de>(array: &'v Array<'de>, segment: &str) -> Option<&'v Value<'de>>
     ensures { option_map (λ v. view v.now) result
         ≡ option_and_then (λ i. get_item i (items_view array.now.items)) (position_of segment.now) }
 {
