@@ -19,7 +19,8 @@ use Rattle.toml_span.specs.Claims.{claimed, assigned, pair_info, value_claims}
 use Rattle.toml_span.specs.code.Machine.{Cell, CellMap, no_cells, change, with_claim, OkOrClash, earliest_clash, clash_found, show_all, put_all, graft}
 use Rattle.toml_span.specs.code.Placing.{Places, IsFinished, ValueGives}
 use Rattle.toml_span.specs.code.Relative.{pair_at}
-use Rattle.toml_span.specs.code.Tree.{is_named, child_in, infos, entries, child, closed, closed_in, closed_cell, child_infos, item, cells, cell_at, counts, value_cell, value_shows, IsScope}
+use Rattle.toml_span.specs.code.Tree.{child_in, infos, entries, child, closed, closed_in, closed_cell, child_infos, item, cells, cell_at, counts, value_cell, value_shows, IsScope}
+use Rattle.toml_span_lex.specs.Key.{is_named}
 use Rattle.toml_span.proofs.Grafts.{fun_ext, graft-itself, reported-under, put_all-under}
 use Rattle.toml_span.proofs.Nodes.{Sets, cells-at, cells-sets, counts-at, counts-named, scope-named, sets-roll, slot, slot_in}
 use Rattle.toml_span.proofs.Placed.{assigned_twice, cond-same, cond-slot, gives-err, held-child, infos-found, met-first, named-clashes, places-refused}

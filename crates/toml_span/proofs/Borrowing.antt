@@ -15,7 +15,8 @@ use Rattle.toml_span.specs.declared.claims.ClaimInfo.{ClaimInfo}
 use Rattle.toml_span.specs.Borrowed.{StringOrKey, IsBorrowedRight, AreBorrowedRight}
 use Rattle.toml_span.specs.code.Borrowed.{Contents, node_step, named_strings, name_span, own_held, branch_strings, value_strings, KeepsBorrows, KeepsName, IsWrittenAt}
 use Rattle.toml_span.specs.code.ClaimInfos.{PlaceError, remember}
-use Rattle.toml_span.specs.code.Tree.{is_named, entries, infos, IsFresh}
+use Rattle.toml_span.specs.code.Tree.{entries, infos, IsFresh}
+use Rattle.toml_span_lex.specs.Key.{is_named}
 use Rattle.toml_span.proofs.Claimed.{remember-cases}
 use Rattle.toml_span.proofs.KeyMaps.{insert_by}
 use Rattle.toml_span.proofs.Nodes.{out-roll, roll-out}

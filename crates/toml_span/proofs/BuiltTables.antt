@@ -31,7 +31,7 @@ use Rattle.toml_span.specs.code.ClaimInfos.{earliest_clash_info, with_name}
 use Rattle.toml_span.specs.code.Machine.{Cell, CellMap, Decided, change, clash_found, decide, earliest_clash, graft, key_spans, no_cell, no_cells, put_all, with_claim}
 use Rattle.toml_span.specs.code.Placing.{Array, NamesAscend, ShowsBelow, Table, place_shown}
 use Rattle.toml_span.specs.code.Relative.{adding, counts_after, counts_after_adding, counts_after_entered, counts_after_through, entered, opening, passing, section_at, through}
-use Rattle.toml_span.specs.code.Tree.{is_named}
+use Rattle.toml_span_lex.specs.Key.{is_named}
 use Rattle.toml_span.proofs.Absolute.{counts_after-through, section_at-through}
 use Rattle.toml_span.proofs.Claimed.{remember-cases}
 use Rattle.toml_span.proofs.Grafts.{fun_ext, put_all-under, reported-under}

@@ -21,7 +21,8 @@ use Rattle.toml_span.specs.Claims.{shape_claimed, key_span_of}
 use Rattle.toml_span.specs.code.ClaimInfos.{first_by_header, deciding}
 use Rattle.toml_span.specs.code.Placing.{Becomes, BecomesEntry, EachBecomes, Finishes, NamesAscend, ShowsBelow, Table, Array, place_shown}
 use Rattle.toml_span.specs.Ordered.{IsOrdered, HoldsOrdered, AreOrdered}
-use Rattle.toml_span.specs.code.Tree.{is_named, infos, entries, child, item, closed, cells, cell_at, closed_cell, or_closed, or_nothing, own_cell, plain, is_array_kind, is_entry_kind, IsNamed, IsEntry, IsArray, IsTableOrArray, Sound, place_claimed}
+use Rattle.toml_span.specs.code.Tree.{infos, entries, child, item, closed, cells, cell_at, closed_cell, or_closed, or_nothing, own_cell, plain, is_array_kind, is_entry_kind, IsNamed, IsEntry, IsArray, IsTableOrArray, Sound, place_claimed}
+use Rattle.toml_span_lex.specs.Key.{is_named}
 use Rattle.toml_span.proofs.Nodes.{good-child, good-entry, good-value, sound-good, sound-shape}
 use Rattle.toml_span.proofs.Borrowing.{box_strings, entry_right, of_node}
 use Rattle.toml_span.proofs.Grafts.{path_ext}

@@ -10,7 +10,7 @@ use Rattle.toml_span_tree.specs.declared.value.ValueInner.{ValueInner, the_lemma
 use Rattle.toml_span_tree.specs.declared.value.ValueInner.TheFolds.{fold-ValueInner}
 use Rattle.toml_span_tree.specs.declared.value.ValueInner.TheVariants as inners
 use Rattle.toml_span_read.proofs.BorrowLemmas.{all_append, all_front, all_after}
-use Rattle.toml_span.specs.Borrowed.{StringOrKey, KeySpans, StringsAndKeys, inner_step, value_step, strings_and_keys, elements_strings, entries_strings, IsBorrowedRight, AreBorrowedRight}
+use Rattle.toml_span.specs.Borrowed.{StringOrKey, KeySpans, StringsAndKeys, inner_strings_step, value_strings_step, strings_and_keys, elements_strings, entries_strings, IsBorrowedRight, AreBorrowedRight}
 use Rattle.toml_span.specs.code.Borrowed.{own_elements, own_held, own_spans, own_table, table_held}
 use Rattle.toml_span.specs.code.Tree.{item}
 use Rattle.toml_span_read.specs.Borrowed.{joined, string as string_written, written, kind_written, assignments_written, AreWrittenRight}
@@ -24,7 +24,7 @@ use Rattle.toml_span.proofs.Grafts.{fun_ext}
 -- ---- one level at a time
 
 abbrev pub inner_held : ValueInner → Span → StringsAndKeys
-inner_held = fold-ValueInner (Span → StringsAndKeys) StringsAndKeys inner_step value_step
+inner_held = fold-ValueInner (Span → StringsAndKeys) StringsAndKeys inner_strings_step value_strings_step
 
 abbrev pub array_held : List Value → StringsAndKeys
 array_held vs = elements_strings 0 (map strings_and_keys vs)

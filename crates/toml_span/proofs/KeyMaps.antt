@@ -2,7 +2,7 @@
 use Rattle.toml_span_lex.proofs.Common.{◌≡◌, ℕ, Bool, true, false, cond, List, [], ◌∷◌, Option, Some, None, option_map, Ordering, Less, Equal, Greater, match_ordering, is_eq, nat_cmp, refl, sym, ap, ◌∙◌, insert_entry, slice_cmp, cow_str_bytes, lookup, lookup_entry, lookup_key, bytes_eq, is_eq-slice_cmp, none-some, arith, nat_tests, common_steps}
 use Rattle.toml_span_lex.specs.declared.key.Key.{Key}
 use Rattle.toml_span_read.proofs.EarlierTree.{key_cmp, same_name, same-sym}
-use Rattle.toml_span.specs.code.Tree.{is_named}
+use Rattle.toml_span_lex.specs.Key.{is_named}
 
 -- an entry is inserted first, at an equal key, or after the first one
 pub insert_by : {X : Type 0} (P : List (Key × X) → Type 0) (k : Key) (v : X) (e : Key × X) (es : List (Key × X)) → (key_cmp k e.0 ≡ Less → P ((k, v) ∷ e ∷ es))

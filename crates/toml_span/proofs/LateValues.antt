@@ -20,7 +20,8 @@ use Rattle.toml_span.specs.code.Built.{IsLate}
 use Rattle.toml_span.specs.code.Machine.{CellMap, Decided, no_cells, change, with_inner, decide, decided, show_all}
 use Rattle.toml_span.specs.code.Placing.{ScopeGives, assignment_claims}
 use Rattle.toml_span.specs.code.Relative.{under}
-use Rattle.toml_span.specs.code.Tree.{is_named, plain, value_shows}
+use Rattle.toml_span.specs.code.Tree.{plain, value_shows}
+use Rattle.toml_span_lex.specs.Key.{is_named}
 use Rattle.toml_span.proofs.Absolute.{key_claims-under, value_claims-under}
 use Rattle.toml_span.proofs.EachClaim.{Each, each-followed, key-each, same_path-eq, value-each}
 

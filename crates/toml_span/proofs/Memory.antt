@@ -15,7 +15,7 @@ use Rattle.toml_span_read.specs.Keys.{SpellsKey}
 use Rattle.toml_span_read.specs.Grammar.{OpensHeader, SpellsSection, AssignmentsWith, SectionsWith, SpellsScalar}
 use Rattle.toml_span_read.specs.Read as read
 use Rattle.toml_span_read.proofs.ReadSound.{document_sound}
-use Rattle.toml_span_read.specs.Reading.{OnlyFormsTakeMemory}
+use Rattle.toml_span_read.specs.Reading.{AllocatesOnlyAfterGap}
 use Rattle.toml_span_read.proofs.MemoryLemmas.{HoldsForm}
 use Rattle.toml_span_read.proofs.InsideLemmas.{ascend_forward}
 use Rattle.toml_span_read.proofs.KeyOrder.{dotted_ascend}
@@ -44,7 +44,7 @@ no-sections (s ∷ ss) none = cc
 
 -- a tree for which nothing is allocated if there are no sections
 pub keeps-placed : (ss : List Section) (text : List ℕ) (limit : ℕ) (r : Result Value (Stop Error)) → read.document text limit (Ok (map parsed_section ss)) → (ss ≡ [] → IsOk r)
-    → (start : ℕ) × FirstPlace text start × OnlyFormsTakeMemory text start r
+    → (start : ℕ) × FirstPlace text start × AllocatesOnlyAfterGap text start r
 keeps-placed ss text limit (Ok root) given bare = let h = document_sound (map parsed_section ss) text limit given in (h.start, h.begins, tt)
 keeps-placed ss text limit (Err (stops.Fault error)) given bare = let h = document_sound (map parsed_section ss) text limit given in (h.start, h.begins, tt)
 keeps-placed ss text limit (Err (stops.Memory e)) given bare =
@@ -52,10 +52,10 @@ keeps-placed ss text limit (Err (stops.Memory e)) given bare =
     (h.start, h.begins, sections-hold h.first h.rest text limit h.start h.lines.0 h.end h.lines.1 h.lines.2 h.sections (λ none. false≢true (bare (no-sections ss (h.all ∙ none)))))
 
 -- where the reading of a document begins that has a tree
-pub begun-tree : (text : List ℕ) (limit : ℕ) (root : Value) → IsTree text limit root → (start : ℕ) × FirstPlace text start × OnlyFormsTakeMemory {A = Value} {E = Error} text start (Ok root)
+pub begun-tree : (text : List ℕ) (limit : ℕ) (root : Value) → IsTree text limit root → (start : ℕ) × FirstPlace text start × AllocatesOnlyAfterGap {A = Value} {E = Error} text start (Ok root)
 begun-tree text limit root (bs, (given, resolves), tree) = let h = document_sound bs text limit given in (h.start, h.begins, tt)
 
 -- a failed allocation is passed on
-pub keeps-on : (text : List ℕ) (stop : Stop Fault) (e : AllocError) → stop ≡ stops.Memory e → ((start : ℕ) × FirstPlace text start × OnlyFormsTakeMemory {A = Assembly} text start (Err stop))
-    → (start : ℕ) × FirstPlace text start × OnlyFormsTakeMemory {A = Value} {E = Error} text start (Err (stops.Memory e))
+pub keeps-on : (text : List ℕ) (stop : Stop Fault) (e : AllocError) → stop ≡ stops.Memory e → ((start : ℕ) × FirstPlace text start × AllocatesOnlyAfterGap {A = Assembly} text start (Err stop))
+    → (start : ℕ) × FirstPlace text start × AllocatesOnlyAfterGap {A = Value} {E = Error} text start (Err (stops.Memory e))
 keeps-on text stop e is h = rw is at h

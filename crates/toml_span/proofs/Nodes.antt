@@ -11,7 +11,8 @@ use Rattle.toml_span.specs.declared.branch.Branch.TheViews.{roll-Branch, out-Bra
 use Rattle.toml_span.specs.Ordered.{IsOrdered}
 use Rattle.toml_span.specs.Paths.{same_step}
 use Rattle.toml_span.specs.code.Machine.{Cell, CellMap, no_cell, no_cells, graft}
-use Rattle.toml_span.specs.code.Tree.{IsEntry, IsFresh, IsNamed, IsOpen, IsScope, IsTableOrArray, NoArray, Sound, sound, cell_at, cells, child, child_in, closed, closed_in, closed_cell, count_at, counts, entries, is_named, item, infos, or_closed, or_nothing, or_zero, own_cell}
+use Rattle.toml_span.specs.code.Tree.{IsEntry, IsFresh, IsNamed, IsOpen, IsScope, IsTableOrArray, NoArray, Sound, sound, cell_at, cells, child, child_in, closed, closed_in, closed_cell, count_at, counts, entries, item, infos, or_closed, or_nothing, or_zero, own_cell}
+use Rattle.toml_span_lex.specs.Key.{is_named}
 use Rattle.toml_span.proofs.Grafts.{fun_ext, graft-is, path_ext, same_step-eq, same_step-self}
 
 pub roll-out : (n : Branch) → roll-Branch (out-Branch n) ≡ n

@@ -19,7 +19,8 @@ use Rattle.toml_span.specs.code.Machine.{OkOrClash, earliest_clash, clash_found,
 use Rattle.toml_span.specs.code.Placing.{Reaches, Places, Passes}
 use Rattle.toml_span.specs.code.Relative.{under}
 use Rattle.toml_span.specs.Paths.{same_step}
-use Rattle.toml_span.specs.code.Tree.{is_named, infos, entries, child, child_in, closed, closed_infos, cells, counts, is_array_kind, is_entry_kind, IsChild, IsFresh, IsHeld, IsNamed, IsScope, Sound}
+use Rattle.toml_span.specs.code.Tree.{infos, entries, child, child_in, closed, closed_infos, cells, counts, is_array_kind, is_entry_kind, IsChild, IsFresh, IsHeld, IsNamed, IsScope, Sound}
+use Rattle.toml_span_lex.specs.Key.{is_named}
 use Rattle.toml_span.proofs.Grafts.{reported-followed, put_all-followed, reported-under, put_all-under}
 use Rattle.toml_span.proofs.KeyMaps.{puts-insert}
 use Rattle.toml_span.proofs.Nodes.{Slot, Sets, cells-at, cells-slot, cells-sets, counts-at, counts-named, cells-fresh, counts-fresh, good-child, scope-fresh, scope-named, sets-roll, slot, slot_in, sound-good, sound-shape}

@@ -20,7 +20,8 @@ use Rattle.toml_span.specs.code.Borrowed.{own_spans, own_table, table_held}
 use Rattle.toml_span.specs.code.Built.{EntryAt, EntryRight, built, IsEmptyBelow, IsLate, IsSection}
 use Rattle.toml_span.specs.code.Machine.{Cell, CellMap, Decided, change, clash_found, decide, decided, earliest_clash, key_spans, no_cell, no_cells, put_all, show_all, with_claim, with_inner}
 use Rattle.toml_span.specs.code.Placing.{ScopeGives, Table, place_shown}
-use Rattle.toml_span.specs.code.Tree.{is_named, plain, value_shows}
+use Rattle.toml_span.specs.code.Tree.{plain, value_shows}
+use Rattle.toml_span_lex.specs.Key.{is_named}
 use Rattle.toml_span.proofs.EachClaim.{Each, assignments-each}
 use Rattle.toml_span.proofs.Grafts.{fun_ext}
 use Rattle.toml_span.proofs.HeldValues.{table-spans}

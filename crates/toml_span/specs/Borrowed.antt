@@ -44,18 +44,18 @@ entries_strings (e ∷ es) spans =
 
 -- The strings and keys in the content of a value, given those in the values inside it. A string is written at the span
 -- of its value.
-abbrev pub inner_step : ValueInner-F (Span → StringsAndKeys) StringsAndKeys → Span → StringsAndKeys
-inner_step (ValueInner-F.String s) span spans = (s, Some span) ∷ []
-inner_step (ValueInner-F.Array v) span spans = elements_strings 0 v.items spans
-inner_step (ValueInner-F.Table m) span spans = entries_strings m.entries spans
-inner_step _ span spans = []
+abbrev pub inner_strings_step : ValueInner-F (Span → StringsAndKeys) StringsAndKeys → Span → StringsAndKeys
+inner_strings_step (ValueInner-F.String s) span spans = (s, Some span) ∷ []
+inner_strings_step (ValueInner-F.Array v) span spans = elements_strings 0 v.items spans
+inner_strings_step (ValueInner-F.Table m) span spans = entries_strings m.entries spans
+inner_strings_step _ span spans = []
 
-abbrev pub value_step : Value-F (Span → StringsAndKeys) StringsAndKeys → StringsAndKeys
-value_step v = option_map_or (λ held. held v.span) v.value (λ spans. [])
+abbrev pub value_strings_step : Value-F (Span → StringsAndKeys) StringsAndKeys → StringsAndKeys
+value_strings_step v = option_map_or (λ held. held v.span) v.value (λ spans. [])
 
 -- the strings and keys in a value
 abbrev pub strings_and_keys : Value → StringsAndKeys
-strings_and_keys = fold-Value (Span → StringsAndKeys) StringsAndKeys inner_step value_step
+strings_and_keys = fold-Value (Span → StringsAndKeys) StringsAndKeys inner_strings_step value_strings_step
 
 -- ---- what is borrowed
 

@@ -3,7 +3,7 @@ ghost use Rattle.std.specs.Prelude.{◌≡◌, ◌≤◌, ℕ, List, true, IfOk,
 ghost use Rattle.toml_span_lex.specs.Text.{FirstPlace};
 ghost use Rattle.toml_span_read.specs.code.Faults.{IsPlacedStop};
 ghost use Rattle.toml_span_read.specs.Data.{ParsedSection, depth_limit};
-ghost use Rattle.toml_span_read.specs.Reading.{OnlyFormsTakeMemory};
+ghost use Rattle.toml_span_read.specs.Reading.{AllocatesOnlyAfterGap};
 ghost use Rattle.toml_span_tree.specs.Value.{is_whole, view};
 ghost use Rattle.toml_span.specs.Borrowed.{AreBorrowedRight, first_key, strings_and_keys};
 ghost use Rattle.toml_span.specs.Claims.{claims};
@@ -31,7 +31,7 @@ fn assemble<'de>(alloc: Global, text: &'de str, limit: usize) -> Result<Assembly
     requires small { limit ≤ depth_limit }
     ensures placed { IfErr result (IsPlacedStop text.now) }
     ensures assembly { AssembleReturns text.now limit result }
-    ensures memory { (start : ℕ) × FirstPlace text.now start × OnlyFormsTakeMemory text.now start result }
+    ensures memory { (start : ℕ) × FirstPlace text.now start × AllocatesOnlyAfterGap text.now start result }
 {
     let (first, start) = read_first(alloc, text, limit)?;
     let mut assembly = match begin(alloc, first) {
@@ -84,7 +84,7 @@ pub fn parse<'de>(alloc: Global, s: &'de str) -> Result<Value<'de>, Stop<Error<'
     ensures whole { IfOk result (λ root. is_whole (view root) ≡ true) }
     ensures borrows { IfOk result (IsBorrowedTree s.now depth_limit) }
     // Nothing is allocated for a text of comments and blank lines.
-    ensures memory { (start : ℕ) × FirstPlace s.now start × OnlyFormsTakeMemory s.now start result }
+    ensures memory { (start : ℕ) × FirstPlace s.now start × AllocatesOnlyAfterGap s.now start result }
 {
     parse_with_limit(alloc, s, LIMIT)
 }
@@ -109,7 +109,7 @@ pub fn parse_with_limit<'de>(
     ensures whole { IfOk result (λ root. is_whole (view root) ≡ true) }
     ensures borrows { IfOk result (IsBorrowedTree s.now limit) }
     // Nothing is allocated for a text of comments and blank lines.
-    ensures memory { (start : ℕ) × FirstPlace s.now start × OnlyFormsTakeMemory s.now start result }
+    ensures memory { (start : ℕ) × FirstPlace s.now start × AllocatesOnlyAfterGap s.now start result }
 {
     if let Some(root) = plain_tree(alloc, s, limit) {
         return Ok(root);

@@ -3,7 +3,7 @@ use Rattle.toml_span_lex.proofs.Common.{◌≡◌, ◌≢◌, ℕ, ◌+◌, ◌<
 use Rattle.std.proofs.lemmas.List.{get_or-drop}
 use Rattle.toml_span_lex.specs.Bytes.{is_blank, MaximalRun}
 use Rattle.toml_span_lex.specs.Text.{LineEnd}
-use Rattle.toml_span_read.specs.Again.{parts_off}
+use Rattle.toml_span_read.specs.Again.{may_follow}
 use Rattle.toml_span_read.specs.Dates.{is_date_byte, continues_date}
 use Rattle.toml_span_read.specs.Gaps.{GapPiece, GapBy, MaximalGap, Separator, Closes, Tail, Skipped}
 use Rattle.toml_span_read.specs.Keys.{opens_string}
@@ -12,7 +12,7 @@ use Rattle.toml_span_read.specs.Keys.{opens_string}
 abbrev Breaks : ℕ → Type 0
 Breaks c = (is_date_byte c ≡ false) × (opens_string c ≡ false)
 
-off : (text : List ℕ) (i : ℕ) → Breaks (get_or text i 0) → (get_or text i 0 ≡ 32 → Breaks (get_or text (i + 1) 0)) → parts_off (drop i text) ≡ true
+off : (text : List ℕ) (i : ℕ) → Breaks (get_or text i 0) → (get_or text i 0 ≡ 32 → Breaks (get_or text (i + 1) 0)) → may_follow (drop i text) ≡ true
 off text i h next =
     let first : get_or (drop i text) 0 0 ≡ get_or text i 0 = grind (arith, nat_tests, common_steps, get_or-drop) in
     let second : get_or (drop i text) 1 0 ≡ get_or text (i + 1) 0 = grind (arith, nat_tests, common_steps, get_or-drop) in
@@ -41,13 +41,13 @@ gap_next text (n ∷ ns) i j (inl p, more) h other is = gap_breaks text ns (i + 
 gap_next text (n ∷ ns) i j (inr (inl p), more) h other is = grind (arith, nat_tests, common_steps)
 gap_next text (n ∷ ns) i j (inr (inr p), more) h other is = absurd (omega (arith, p.0, is))
 
-after_gap : (text : List ℕ) (i j : ℕ) → MaximalGap text i j → Breaks (get_or text j 0) → (get_or text j 0 ≡ 32 → ⊥) → parts_off (drop i text) ≡ true
+after_gap : (text : List ℕ) (i j : ℕ) → MaximalGap text i j → Breaks (get_or text j 0) → (get_or text j 0 ≡ 32 → ⊥) → may_follow (drop i text) ≡ true
 after_gap text i j g h other = off text i (gap_breaks text g.ends i j g.pieces h) (λ e. gap_next text g.ends i j g.pieces h other e)
 
-pub after_closes : (c : ℕ) (text : List ℕ) (i j : ℕ) → Breaks c → (c ≡ 32 → ⊥) → Closes c text i j → parts_off (drop i text) ≡ true
+pub after_closes : (c : ℕ) (text : List ℕ) (i j : ℕ) → Breaks c → (c ≡ 32 → ⊥) → Closes c text i j → may_follow (drop i text) ≡ true
 after_closes c text i j h other g = after_gap text i g.at g.before (rw (g.here) h) (λ e. other (sym g.here ∙ e))
 
-pub after_separator : (c : ℕ) (text : List ℕ) (i j : ℕ) → Breaks c → (c ≡ 32 → ⊥) → Separator c text i j → parts_off (drop i text) ≡ true
+pub after_separator : (c : ℕ) (text : List ℕ) (i j : ℕ) → Breaks c → (c ≡ 32 → ⊥) → Separator c text i j → may_follow (drop i text) ≡ true
 after_separator c text i j h other g = after_gap text i g.at g.before (rw (g.here) h) (λ e. other (sym g.here ∙ e))
 
 -- ---- the rest of a line
@@ -71,10 +71,10 @@ rest_next text i j r h other is = elim (cases_lt i j) [
   | inr none ↦ let e : i ≡ j = omega (arith, r.forward) in absurd (other (rw e at is))
 ]
 
-after_run : (text : List ℕ) (i j : ℕ) → MaximalRun is_blank text i j → Breaks (get_or text j 0) → (get_or text j 0 ≡ 32 → ⊥) → parts_off (drop i text) ≡ true
+after_run : (text : List ℕ) (i j : ℕ) → MaximalRun is_blank text i j → Breaks (get_or text j 0) → (get_or text j 0 ≡ 32 → ⊥) → may_follow (drop i text) ≡ true
 after_run text i j r h other = off text i (rest_breaks text i j r h) (λ e. rest_next text i j r h other e)
 
-pub after_tail : (text : List ℕ) (i j : ℕ) → Tail text i j → parts_off (drop i text) ≡ true
+pub after_tail : (text : List ℕ) (i j : ℕ) → Tail text i j → may_follow (drop i text) ≡ true
 after_tail text i j (k, s, end) = elim s.comment [
   | inl comment ↦ after_run text i s.at s.blank (rw (comment.0) (refl, refl)) (λ e. absurd (omega (arith, comment.0, e)))
   | inr none ↦ let z = tail_end text k j end in after_run text i s.at s.blank (rw (sym none.1) z.0) (λ e. z.1 (rw (sym none.1) at e))

@@ -15,7 +15,7 @@ use Rattle.toml_span_tree.specs.Value.{is_filled}
 use Rattle.toml_span_typed.specs.declared.de_helpers.table_helper.TableHelper.{TableHelper}
 use Rattle.toml_span_typed.specs.declared.de_helpers.table_helper.Unfinished.{Unfinished}
 use Rattle.toml_span_typed.specs.declared.de_helpers.table_helper.Unfinished.TheVariants as unfinished
-use Rattle.toml_span_typed.specs.TableHelper.{State, OpensTable, Requires, Tries, Refuses, Starved, found, fresh, noted, unexpected_entries, where_filled, without}
+use Rattle.toml_span_typed.specs.TableHelper.{State, OpensTable, Requires, Tries, Refuses, AfterAllocError, found, fresh, noted, unexpected_entries, where_filled, without}
 use Rattle.toml_span_laws.specs.Document.{subtree, IsValueOf}
 use Rattle.toml_span_laws.specs.Helpers.{hide, except, IsOver, table_of, RequiresAt, TriesAt, EndsWith, HasNoKeyBut}
 use Rattle.toml_span.proofs.Ordered.{same-name, first-entry, later-entry}
@@ -86,16 +86,16 @@ required-at reads places name before after (Err (stop.Fault error)) h answer =
     (λ n x is b. (b.0, (n, b.1, found-value places name before n h is, b.2), b.3, b.4))
 required-at reads places name before after (Err (stop.Memory error)) h answer = answer
 
-starved-over : (places : Path → Option Place) (name : List ℕ) (before after : State) → IsOver places before → Starved name before after → IsOver places after
-starved-over places name before after h (inl same) = subst (IsOver places) (sym same) h
-starved-over places name before after h (inr noted) = subst (IsOver places) (sym noted) (over-noted places name before h)
+after_alloc_error-over : (places : Path → Option Place) (name : List ℕ) (before after : State) → IsOver places before → AfterAllocError name before after → IsOver places after
+after_alloc_error-over places name before after h (inl same) = subst (IsOver places) (sym same) h
+after_alloc_error-over places name before after h (inr noted) = subst (IsOver places) (sym noted) (over-noted places name before h)
 
 pub required-over : {T : Type 0} (reads : Node → Result T Errors → Node → Type 0) (places : Path → Option Place) (name : List ℕ) (before after : State) (answer : Result T (Stop Error)) → IsOver places before
     → Requires reads name before answer after → IsOver places after
 required-over reads places name before after (Ok x) h (value, left, is, read, noted) = subst (IsOver places) (sym noted) (over-noted places name before h)
 required-over reads places name before after (Err (stop.Fault error)) h answer =
     grind (arith, nat_tests, common_steps, either (found name before), over-noted places name before h)
-required-over reads places name before after (Err (stop.Memory error)) h answer = starved-over places name before after h answer
+required-over reads places name before after (Err (stop.Memory error)) h answer = after_alloc_error-over places name before after h answer
 
 pub tried-at : {T : Type 0} (reads : Node → Result T Errors → Node → Type 0) (places : Path → Option Place) (name : List ℕ) (before after : State) (answer : Result (Option T) AllocError) → IsOver places before
     → Tries reads name before answer after → TriesAt reads name (except before.asked places) before answer after
@@ -109,7 +109,7 @@ pub tried-over : {T : Type 0} (reads : Node → Result T Errors → Node → Typ
     → Tries reads name before answer after → IsOver places after
 tried-over reads places name before after (Ok (Some x)) h (value, left, is, read, noted) = subst (IsOver places) (sym noted) (over-noted places name before h)
 tried-over reads places name before after (Ok None) h answer = grind (arith, nat_tests, common_steps, either (found name before), over-noted places name before h)
-tried-over reads places name before after (Err error) h answer = starved-over places name before after h answer
+tried-over reads places name before after (Err error) h answer = after_alloc_error-over places name before after h answer
 
 -- ---- the end
 

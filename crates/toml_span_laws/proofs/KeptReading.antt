@@ -25,7 +25,7 @@ use Rattle.toml_span_read.specs.Faults.{fault_at, token_fault, found_of, begins_
 use Rattle.toml_span_read.specs.Gaps.{MaximalGap, Tail, NoTail}
 use Rattle.toml_span_read.specs.Read.{Reading, after, skipping, choice, LoopStep, on, done, Loop, ends, stops, goes_on, NextToken, token, text_end, no_token, IsNextToken, wanted, missing, key_result, one_too_many, Parts, onward, string_of, ValueEnd, Elements, array_end, Pairs, table_end, HeaderEnd, ParsedSections}
 use Rattle.toml_span_read.specs.Read as read
-use Rattle.toml_span_laws.specs.Reported.{TokenTo, EndsReported, ahead, is_whole}
+use Rattle.toml_span_laws.specs.Reported.{TokenTo, EndsReported, ahead, is_byte_or_newline}
 use Rattle.toml_span_laws.proofs.KeptBytes.{Same, test, run, line, token_kept, fault_kept}
 use Rattle.toml_span_laws.proofs.KeptScalars.{ScalarTold, bare_found}
 use Rattle.toml_span_laws.proofs.KeptForms.{Past, past_less, past_two, Reach, line_char, string_span, single_span, past_blanks, gap, dot, no_dot, tail, no_tail, tail_forward}
@@ -204,7 +204,7 @@ module _ (a : List ℕ) where
       → Stays P i (λ b r. (t : NextToken) × IsNextToken b i t × (r ≡ f t))
   stays_standing {P = P} i f told = record { found = λ r (t, h, is). (let (j, e) = token_end i t h in standing_found P i f told r t h is j e) }
 
-  whole_solid : (l : Lexeme) (j i : ℕ) → IsToken a i j l → is_whole (found_of l) ≡ true → (get_or a i 0 ≡ 32) ⊎ (get_or a i 0 ≡ 13) → i + 1 < j
+  whole_solid : (l : Lexeme) (j i : ℕ) → IsToken a i j l → is_byte_or_newline (found_of l) ≡ true → (get_or a i 0 ≡ 32) ⊎ (get_or a i 0 ≡ 13) → i + 1 < j
   whole_solid newline j i (inl h) t o = absurd (space_return (get_or a i 0) h.0 o)
     where
       space_return : (c : ℕ) → c ≡ 10 → (c ≡ 32) ⊎ (c ≡ 13) → ⊥
@@ -222,7 +222,7 @@ module _ (a : List ℕ) where
   whole_solid (string src v multi) j i h t o = absurd h
 
   -- a punctuator or a line end, up to its last byte
-  whole_kept : (b : List ℕ) (n i : ℕ) (l : Lexeme) → Same a b n → IsToken a i n l → is_whole (found_of l) ≡ true → IsToken b i n l
+  whole_kept : (b : List ℕ) (n i : ℕ) (l : Lexeme) → Same a b n → IsToken a i n l → is_byte_or_newline (found_of l) ≡ true → IsToken b i n l
   whole_kept b n i newline w h t = line w i n (omega arith) h
   whole_kept b n i (punctuator c) w h t = (h.0, test w (λ x. x) c i (omega (arith, h.2)) h.1, h.2)
   whole_kept b n i (whitespace x) w h t = absurd cc
@@ -230,7 +230,7 @@ module _ (a : List ℕ) where
   whole_kept b n i (keylike x) w h t = absurd cc
   whole_kept b n i (string src v multi) w h t = absurd h
 
-  whole_token : (i j : ℕ) (s : Span) (l : Lexeme) → IsLexeme a i j s l → is_whole (found_of l) ≡ true → IsToken a i j l × (s ≡ from_to i j)
+  whole_token : (i j : ℕ) (s : Span) (l : Lexeme) → IsLexeme a i j s l → is_byte_or_newline (found_of l) ≡ true → IsToken a i j l × (s ≡ from_to i j)
   whole_token i j s newline h t = h
   whole_token i j s (punctuator c) h t = h
   whole_token i j s (whitespace x) h t = h
@@ -247,7 +247,7 @@ module _ (a : List ℕ) where
   token_lexeme b i j s newline h e = (h, e)
   token_lexeme b i j s (punctuator c) h e = (h, e)
 
-  whole_takes : {A : Type 0} (i : ℕ) (f : NextToken → Result A Fault) (s : Span) (l : Lexeme) (m n : ℕ) → IsLexeme a i m s l → is_whole (found_of l) ≡ true → n ≡ m
+  whole_takes : {A : Type 0} (i : ℕ) (f : NextToken → Result A Fault) (s : Span) (l : Lexeme) (m n : ℕ) → IsLexeme a i m s l → is_byte_or_newline (found_of l) ≡ true → n ≡ m
       → Holds i (λ b. (u : NextToken) × IsNextToken b i u × (f (token s l m) ≡ f u)) n
   whole_takes i f s l m n h t e =
       let o = token_within a i m s l h in
@@ -260,12 +260,12 @@ module _ (a : List ℕ) where
 
   -- A token is known with the byte after it, and if it is whole in itself, up to its end.
   abbrev Known : Lexeme → ℕ → ℕ → Type 0
-  Known l j n = (j < n) ⊎ ((is_whole (found_of l) ≡ true) × (n ≡ j))
+  Known l j n = (j < n) ⊎ ((is_byte_or_newline (found_of l) ≡ true) × (n ≡ j))
 
-  wanted_known : (l : Lexeme) (j n : ℕ) → n ≡ j + (if is_whole (found_of l) then 0 else 1) → Known l j n
-  wanted_known l j n q = by (is_whole (found_of l)) refl
+  wanted_known : (l : Lexeme) (j n : ℕ) → n ≡ j + (if is_byte_or_newline (found_of l) then 0 else 1) → Known l j n
+  wanted_known l j n q = by (is_byte_or_newline (found_of l)) refl
     where
-      by : (x : Bool) → is_whole (found_of l) ≡ x → Known l j n
+      by : (x : Bool) → is_byte_or_newline (found_of l) ≡ x → Known l j n
       by true x = let r : n ≡ j + 0 = rw x at q in inr (x, omega arith)
       by false x = let r : n ≡ j + 1 = rw x at q in inl (omega arith)
 

@@ -7,7 +7,7 @@ use Rattle.toml_span_read.specs.declared.numbers.Numeral.TheVariants as numerals
 use Rattle.toml_span_read.specs.Numbers.{Digits}
 use Rattle.toml_span_read.specs.Numerals as spec
 use Rattle.toml_span_read.specs.Numerals.{◌>>=◌, invalid_number, run_end, figures_end, are_digits, digits_end, after_sign, is_negative, radix_at, magnitude, integer_part, signed, radix_integer, is_exponent, exponent_digits, decimal, special, special_end, unsigned, numeral, number}
-use Rattle.toml_span_read.specs.code.Numbers.{Passes}
+use Rattle.toml_span_read.specs.code.Numbers.{IsRun}
 use Rattle.toml_span_read.proofs.NumberLemmas.{byte_is, here, run_found, digits_sound, digits_complete, digits_on, sign_on}
 use Rattle.toml_span_read.proofs.NumberReads.{digits_to, prefix_some, Starts}
 use Rattle.toml_span_laws.specs.NumberFaults.{FirstRun, AfterDot, Letter, ExponentPart, in_its_run, after_its_plus, DigitPart, in_first_run, after_prefix, after_dot, of_exponent, NumberFault, lone_plus, plus_before, no_digits, underscore_first, leading_zero, other_character, other_in_exponent, lone_letter, other_after_prefix, fraction_of_word, nothing_after_dot, out_of_range, IsNumberFault}
@@ -144,7 +144,7 @@ module _ (text : List ℕ) (i : ℕ) where
   unfolding spec.integer
   integer_rows radix negative start from end p d = or_rows (signed negative (magnitude radix text from end)) start end (λ n. out_of_range radix start from end negative p d n)
 
-  passes : (a b : ℕ) → FirstRun text i a b → Passes text a b
+  passes : (a b : ℕ) → FirstRun text i a b → IsRun text a b
   passes a b g = record { forward = g.run.forward; within = g.run.within; passes = g.run.passes; last = stops_with is_keylike text a b refl g.run }
 
   radix_rows : (radix a b : ℕ) → FirstRun text i a b → radix_at text a ≡ Some radix → Rows (radix_integer radix text (a + 2) b)

@@ -10,7 +10,7 @@ use Rattle.toml_span_lex.specs.Strings.{Cut, content_end, ContentFrom, IsContent
 use Rattle.toml_span_lex.proofs.Copies.{content_fits}
 use Rattle.toml_span_lex.proofs.PieceLemmas.{piece_forward, Cut-forward, closing}
 use Rattle.toml_span_tree.specs.Node.{Scalar, text as text_scalar, integer, float, boolean, datetime}
-use Rattle.toml_span_read.specs.Again.{parts_off}
+use Rattle.toml_span_read.specs.Again.{may_follow}
 use Rattle.toml_span_read.specs.Dates.{continues_date, is_date_byte}
 use Rattle.toml_span_read.specs.Grammar.{SpellsScalar, truth_text}
 use Rattle.toml_span_read.specs.Keys.{opens_string}
@@ -25,7 +25,7 @@ use Rattle.toml_span_laws.proofs.KeptBytes.{Same, test, run as run_kept, line, r
 
 -- ---- what follows
 
-off_parts : (rest : List ℕ) → parts_off rest ≡ true → (is_date_byte (get_or rest 0 0) ≡ false) × (opens_string (get_or rest 0 0) ≡ false) × (continues_date rest 0 ≡ false)
+off_parts : (rest : List ℕ) → may_follow rest ≡ true → (is_date_byte (get_or rest 0 0) ≡ false) × (opens_string (get_or rest 0 0) ≡ false) × (continues_date rest 0 ≡ false)
 off_parts rest h = grind (arith, nat_tests, common_steps)
 
 no_quote : (q c : ℕ) → IsQuote q → opens_string c ≡ false → (c == q) ≡ false
@@ -140,7 +140,7 @@ word_some b = grind (arith, nat_tests, common_steps)
 here : {n i : ℕ} → i ≤ n → At 0 0 n 0 i i
 here l = record { after = omega arith; moved = omega arith; inside = omega arith }
 
-scalar_on : (s : Scalar) (span : Span) (a after : List ℕ) (i : ℕ) → i ≤ length a → parts_off after ≡ true → SpellsScalar s span a i (length a) → SpellsScalar s span (a ++ after) i (length a)
+scalar_on : (s : Scalar) (span : Span) (a after : List ℕ) (i : ℕ) → i ≤ length a → may_follow after ≡ true → SpellsScalar s span a i (length a) → SpellsScalar s span (a ++ after) i (length a)
 scalar_on (text_scalar v) span a after i l off (source, multi, h) = (source, multi, string_on (extended a after) (rw (next_is a after) (off_parts after off).1) i span source v multi h)
 scalar_on (integer n) span a after i l off (none, h, e) =
     let o = (off_parts after off).0 in

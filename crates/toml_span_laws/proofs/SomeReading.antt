@@ -1,7 +1,7 @@
 -- At each offset in a text each form is read, or there is a fault.
 use Rattle.toml_span_lex.proofs.Common.{◌≡◌, ℕ, zero, suc, ◌+◌, ◌<◌, ◌≤◌, Bool, true, false, List, length, arith, inl, inr, refl, Result, Ok, Err, nat_tests, common_steps, [], ◌∷◌, ◌++◌, get_or, Some, None, Option, option_map_or, ◌==◌, ◌||◌, is_some, if◌then◌else◌, codes, IsUtf8, IsCharBoundary, bytes_eq, or_parts}
 use Rattle.toml_span_lex.specs.declared.span.Span.{Span}
-use Rattle.toml_span_lex.specs.Laws.{SomethingStands}
+use Rattle.toml_span_lex.specs.Laws.{HasTokenOrFault}
 use Rattle.toml_span_lex.specs.Tokens.{keylike, string}
 pub use Rattle.toml_span_lex.proofs.One.{One, one_is, one_where, one_given, one_either}
 use Rattle.toml_span_lex.proofs.Within.{token_within}
@@ -52,12 +52,12 @@ sure_after (Err e, h, p) each = (Err e, inr (e, h, refl), tt)
 pub sure_choice : {A : Type 0} {P : A → Type 0} (test : Bool) {this that : Reading A} → (test ≡ true → Sure P this) → (test ≡ false → Sure P that) → Sure P (choice test this that)
 sure_choice test this that = grind (arith, nat_tests, common_steps)
 
-something : (text : List ℕ) (i : ℕ) → SomethingStands text i → (t : NextToken) × IsNextToken text i t
+something : (text : List ℕ) (i : ℕ) → HasTokenOrFault text i → (t : NextToken) × IsNextToken text i t
 something text i (inl e) = (text_end, e)
 something text i (inr (inl (j, s, l, h))) = (token s l j, h)
 something text i (inr (inr (j, e, h))) = (no_token e, (j, h))
 
-pub sure_standing : {A : Type 0} {P : A → Type 0} (text : List ℕ) (i : ℕ) {f : NextToken → Result A Fault} → SomethingStands text i → ((t : NextToken) → IsNextToken text i t → Holds P (f t)) → Sure P (λ r. (t : NextToken) × IsNextToken text i t × (r ≡ f t))
+pub sure_standing : {A : Type 0} {P : A → Type 0} (text : List ℕ) (i : ℕ) {f : NextToken → Result A Fault} → HasTokenOrFault text i → ((t : NextToken) → IsNextToken text i t → Holds P (f t)) → Sure P (λ r. (t : NextToken) × IsNextToken text i t × (r ≡ f t))
 sure_standing text i {f = f} s p = let (t, h) = something text i s in (f t, (t, h, refl), p t h)
 
 -- a step of a loop moves to a later offset

@@ -1,7 +1,7 @@
 -- What is assigned in a document is spelled, and the claims after each assignment are those of its value.
 use Rattle.toml_span_lex.proofs.Common.{◌≡◌, ℕ, zero, suc, true, false, subst, List, [], ◌∷◌, refl, inl, inr, ⊤, cases_Bool, ◌+◌, ◌≤◌, ◌⊎◌, ◌++◌, length, drop, arith, sym, ap, ◌∙◌, nat_tests, common_steps}
 use Rattle.toml_span_tree.specs.Path.{Path, shape_scalar}
-use Rattle.toml_span_read.specs.Again.{parts_off}
+use Rattle.toml_span_read.specs.Again.{may_follow}
 use Rattle.toml_span_read.specs.Keys.{SpellsKey}
 use Rattle.toml_span_read.specs.Data.{SimpleKey, ParsedValue, parsed, scalar, array, inline, ParsedItems, no_items, item, ParsedPairs, no_pairs, pair, ParsedAssignment, parsed_span, ParsedSection, from_to, last_end, headerless_section}
 use Rattle.toml_span.specs.declared.claims.ClaimKind.{ClaimKind}
@@ -55,7 +55,7 @@ pub record Spelled (text : List ℕ) (limit : ℕ) (bs : List ParsedSection) (v 
   pub deep : 1 ≤ depth
   pub spells : Spells v text limit depth from to
   pub clear : NoQuoteBefore text from
-  pub off : parts_off (drop to text) ≡ true
+  pub off : may_follow (drop to text) ≡ true
   pub puts : PutsValue text limit bs depth v from to
 
 -- the claim assigns a value that is spelled

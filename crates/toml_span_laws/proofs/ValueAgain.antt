@@ -25,7 +25,7 @@ use Rattle.toml_span_laws.proofs.Order.{all_claims-followed}
 use Rattle.toml_span_laws.proofs.Scoped.{IsUnder, under-from, longer}
 use Rattle.toml_span_laws.specs.Again.{moved, moved_items, moved_pairs, moved_parts, moved_span, ReadsAgain, assignment_again}
 use Rattle.toml_span.proofs.Grafts.{same_step-self}
-use Rattle.toml_span_laws.specs.Moved.{moved_place, StandsMoved, AssignsBrackets, text_again, at_x}
+use Rattle.toml_span_laws.specs.Moved.{moved_place, HasMovedPlaces, AssignsBrackets, text_again, at_x}
 use Rattle.toml_span_laws.proofs.FirstPair.{clash-blames, free-clash, free-of}
 use Rattle.toml_span_lex.specs.declared.span.Span.{Span}
 use Rattle.toml_span_tree.specs.Value.{view}
@@ -352,7 +352,7 @@ alone-place text limit c cs s p n a value path =
     ∙ ap (option_map (λ c. c.place)) (value-decides c (all_claims (value_claims a.value c.path)) value a.below)
 
 stands-moved : (text : List ℕ) (limit : ℕ) (c : Claim) (cs : Claims) (s : Step) (p : Path) (m n : ℕ) (a : Alone text limit c cs) → c.info.kind ≡ Assigned → c.path ≡ s ∷ p
-    → StandsMoved (parsed_span a.value).start 4 (flat m cs) c.path (flat n (claims (again_section a.value))) at_x
+    → HasMovedPlaces (parsed_span a.value).start 4 (flat m cs) c.path (flat n (claims (again_section a.value))) at_x
 stands-moved text limit c cs s p m n a value path [] =
     let v = a.value in
     let first = alone-place text limit c cs s p m a value path in
@@ -381,12 +381,12 @@ flat-place text limit n bs c h ok (here, value, brackets) =
 -- the value of the claim is a document of its own, with the same places as in the claim's document
 pub flat-again : (text : List ℕ) (limit : ℕ) (bs : List ParsedSection) (c : Claim) → SpellsDocument bs text limit → Resolves (claims bs) → AssignsBrackets bs c
     → (again : List ParsedSection) × HasOutcome (text_again text c.place.span) limit (resolved again)
-    × StandsMoved c.place.span.start 4 (flat (length text) (claims bs)) c.path (flat (length (text_again text c.place.span)) (claims again)) at_x
+    × HasMovedPlaces c.place.span.start 4 (flat (length text) (claims bs)) c.path (flat (length (text_again text c.place.span)) (claims again)) at_x
 flat-again text limit bs c h ok (here, value, brackets) =
     let (a, (s, p, path)) = document-alone text limit bs c h ok here value brackets in
     let v = a.value in
     let n = length (text_again text (parsed_span v)) in
-    subst (λ (x : Span). (again : List ParsedSection) × HasOutcome (text_again text x) limit (resolved again) × StandsMoved x.start 4 (flat (length text) (claims bs)) c.path (flat (length (text_again text x)) (claims again)) at_x) (sym a.span)
+    subst (λ (x : Span). (again : List ParsedSection) × HasOutcome (text_again text x) limit (resolved again) × HasMovedPlaces x.start 4 (flat (length text) (claims bs)) c.path (flat (length (text_again text x)) (claims again)) at_x) (sym a.span)
     (again_section v, (document_complete (again_section v) (text_again text (parsed_span v)) limit (bracket-reads text limit v a.brackets a.again), x_resolves c v a.resolves), stands-moved text limit c (claims bs) s p (length text) n a value path)
 
 part-same : (f g : Path → Option Place) (path p : Path) → ((q : Path) → f q ≡ g q) → subtree f path p ≡ subtree g path p
@@ -400,7 +400,7 @@ tree-resolves text limit root bs tree h =
     let (cs, has, shows) = tree in subst (λ l. Resolves (claims l)) (document_unique text limit cs bs (document_sound cs text limit has.0) h) has.1
 
 pub tree-again : (text : List ℕ) (limit : ℕ) (root other : Value) (bs : List ParsedSection) (c : Claim) → SpellsDocument bs text limit → IsTree text limit root → AssignsBrackets bs c
-    → IsTree (text_again text c.place.span) limit other → StandsMoved c.place.span.start 4 (λ p. place_at p (view root)) c.path (λ p. place_at p (view other)) at_x
+    → IsTree (text_again text c.place.span) limit other → HasMovedPlaces c.place.span.start 4 (λ p. place_at p (view root)) c.path (λ p. place_at p (view other)) at_x
 tree-again text limit root other bs c h tree is twin p =
     let b = text_again text c.place.span in
     let (again, outcome, stands) = flat-again text limit bs c h (tree-resolves text limit root bs tree h) is in

@@ -5,16 +5,16 @@ use Rattle.toml_span_tree.specs.Node.{Node, node, Scalar, scalar as scalar_node}
 use Rattle.toml_span_tree.specs.Path.{Path, Place, shape_scalar, place_at}
 use Rattle.toml_span_tree.specs.Value.{view, is_whole}
 use Rattle.toml_span_tree.specs.declared.value.Value.{Value}
-use Rattle.toml_span_read.specs.Again.{HasFloatTexts, HasValue, IsWithin, ReadsAsValue, parts_off}
+use Rattle.toml_span_read.specs.Again.{HasFloatTexts, HasValue, IsWithin, ReadsAsValue, may_follow}
 use Rattle.toml_span_read.specs.Data.{ParsedValue, parsed, scalar, ParsedSection}
 use Rattle.toml_span_read.specs.Grammar.{Spells, SpellsScalar}
 use Rattle.toml_span_read.proofs.NumberLemmas.{same_byte}
 use Rattle.toml_span_read.proofs.SpanLaws.{value_lies}
 use Rattle.toml_span.specs.Parsing.{IsTree, IsTreeOf}
 use Rattle.toml_span_laws.specs.Outcomes.{HasOutcome, resolved}
-use Rattle.toml_span_laws.specs.Again.{moved, with_part, ReadsAsScalar, TakesAnother}
+use Rattle.toml_span_laws.specs.Again.{moved, with_part, ReadsAsScalar, CanBeReplaced}
 use Rattle.toml_span_places.specs.Literals.{literal_span}
-use Rattle.toml_span_laws.specs.Replaced.{IsDocumentWith, TakesScalar}
+use Rattle.toml_span_laws.specs.Replaced.{IsDocumentWith, CanBeSet}
 use Rattle.toml_span_laws.proofs.AgainValues.{value_copied}
 use Rattle.toml_span_laws.proofs.Answered.{sections-one}
 use Rattle.toml_span_laws.proofs.Complete.{document_complete}
@@ -30,7 +30,7 @@ use Rattle.toml_span_laws.proofs.Replacing.{Hole, to, part_length, part_copied}
 
 -- ---- the new value
 
-placed : (text part : List ℕ) (i j limit depth : ℕ) (n : Node) → i ≤ length text → parts_off (drop j text) ≡ true → ReadsAsValue n part → is_whole n ≡ true → IsWithin limit depth n → HasFloatTexts n
+placed : (text part : List ℕ) (i j limit depth : ℕ) (n : Node) → i ≤ length text → may_follow (drop j text) ≡ true → ReadsAsValue n part → is_whole n ≡ true → IsWithin limit depth n → HasFloatTexts n
     → (v : ParsedValue) × Spells v (with_part text i j part) limit depth i (i + length part) × HasValue v n
 placed text part i j limit depth n within off reads whole few texts =
     let (v, h, is) = reads limit depth whole few texts (take i text) (drop j text) off in
@@ -49,7 +49,7 @@ later text part v i j limit depth k l on within after h =
     (record { after = omega (arith, lies.1); moved = omega (arith, lies.1); inside = omega (arith, lies.1, lies.2) })
     h
 
-abbrev takes : (text : List ℕ) (limit : ℕ) (bs : List ParsedSection) (s : Scalar) (span : Span) → HasScalar text limit bs s span → TakesAnother text s span
+abbrev takes : (text : List ℕ) (limit : ℕ) (bs : List ParsedSection) (s : Scalar) (span : Span) → HasScalar text limit bs s span → CanBeReplaced text s span
 takes text limit bs s span h =
     let lies = value_lies (parsed (scalar s) span) text limit h.depth h.from h.to h.spells in
     record {
@@ -61,7 +61,7 @@ takes text limit bs s span h =
     }
 
 pub tree-takes : (text : List ℕ) (limit : ℕ) (root : Value) (path : Path) (place : Place) (s : Scalar) → IsTree text limit root → place_at path (view root) ≡ Some place → place.shape ≡ shape_scalar s
-    → TakesAnother text s place.span
+    → CanBeReplaced text s place.span
 tree-takes text limit root path place s tree at is = let (bs, has, of, h) = tree-scalar text limit root path place s tree at is in takes text limit bs s place.span h
 
 -- ---- the new document
@@ -70,7 +70,7 @@ alike : (from : ℕ) (x s : Scalar) (span at : Span) → from ≡ span.start →
 alike from x s span at e = rw (same_byte span.start from (sym e)) refl
 
 pub tree-takes-scalar : (text : List ℕ) (limit : ℕ) (root : Value) (path : Path) (place : Place) (s : Scalar) → IsTree text limit root → place_at path (view root) ≡ Some place → place.shape ≡ shape_scalar s
-    → TakesScalar text limit root path s place.span
+    → CanBeSet text limit root path s place.span
 tree-takes-scalar text limit root path place s tree at is =
     let (bs, has, of, h) = tree-scalar text limit root path place s tree at is in
     record {

@@ -9,7 +9,7 @@ use Rattle.toml_span_read.specs.Data.{parsed_span, ParsedSection}
 use Rattle.toml_span_read.specs.Earlier.{part_names}
 use Rattle.toml_span_tree.specs.Value.{is_whole}
 use Rattle.toml_span_read.specs.Grammar.{Spells, SpellsScalar, SpellsDocument}
-use Rattle.toml_span_read.specs.Again.{HasFloatTexts, HasValue, IsWithin, ReadsAsValue, parts_off}
+use Rattle.toml_span_read.specs.Again.{HasFloatTexts, HasValue, IsWithin, ReadsAsValue, may_follow}
 
 -- a span, moved by the distance between `from` and `to`
 abbrev pub moved_span : ℕ → ℕ → Span → Span
@@ -104,7 +104,7 @@ with_part t i j part = take i t ++ (part ++ drop j t)
 -- The text from i to j is this scalar, with this span. Suppose that a part that is read as some value wherever it
 -- occurs replaces the scalar. Then the part is read there as that value, from its first byte to its last. Each value
 -- that is spelled after the scalar is spelled in the new text too, with its spans moved.
-pub record TakesAnother (t : List ℕ) (s : Scalar) (span : Span) : Type 0 where
+pub record CanBeReplaced (t : List ℕ) (s : Scalar) (span : Span) : Type 0 where
   pub i : ℕ
   pub j : ℕ
   pub spelled : SpellsScalar s span t i j
@@ -115,11 +115,11 @@ pub record TakesAnother (t : List ℕ) (s : Scalar) (span : Span) : Type 0 where
       → Spells (moved j (i + length part) v) (with_part t i j part) limit depth ((k + (i + length part)) - j)
       ((l + (i + length part)) - j)
 
--- Wherever this part occurs in a text before bytes that do not continue it (`parts_off`), it is this scalar, from its
+-- Wherever this part occurs in a text before bytes that do not continue it (`may_follow`), it is this scalar, from its
 -- first byte to its last.
 abbrev pub ReadsAsScalar : Scalar → List ℕ → Type 0
 ReadsAsScalar s part =
-    (before after : List ℕ) → parts_off after ≡ true
+    (before after : List ℕ) → may_follow after ≡ true
     → (span : Span)
     × SpellsScalar s span (before ++ (part ++ after)) (length before) (length before + length part)
 

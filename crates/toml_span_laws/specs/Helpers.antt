@@ -10,7 +10,7 @@ use Rattle.toml_span_tree.specs.Path.{Path, Place, key, position}
 use Rattle.toml_span_tree.specs.Node.{Node, node, table, Members}
 use Rattle.toml_span_tree.specs.declared.error.Error.{Error}
 use Rattle.toml_span_tree.specs.Error.{content_of, ErrorContent, unexpected_keys}
-use Rattle.toml_span_typed.specs.TableHelper.{State, Starved, keeping, missing, noted, remaining_keys, where_filled}
+use Rattle.toml_span_typed.specs.TableHelper.{State, AfterAllocError, keeping, missing, noted, remaining_keys, where_filled}
 use Rattle.toml_span_typed.specs.Errors.{Errors, all}
 use Rattle.toml_span_laws.specs.Document.{IsValueOf, subtree}
 
@@ -53,7 +53,7 @@ RequiresAt reads name places before (Err (stop.Fault error)) after = MatchOption
     ((content_of error ≡ missing name before) × (after ≡ keeping (missing name before ∷ []) (noted name before)))
     (λ place. (faults : Errors) × ReadsPart reads (subtree places (key name ∷ [])) (Err faults)
     × (content_of error ≡ faults.last) × (after ≡ keeping (all faults) (noted name before)))
-RequiresAt reads name places before (Err (stop.Memory error)) after = Starved name before after
+RequiresAt reads name places before (Err (stop.Memory error)) after = AfterAllocError name before after
 
 -- `optional`: the element that is read from the value at the key; or None if the key is missing, and then no error is
 -- kept; or None after keeping all errors of the read
@@ -65,7 +65,7 @@ TriesAt reads name places before (Ok None) after = MatchOption (places (key name
     (after ≡ noted name before)
     (λ place. (faults : Errors) × ReadsPart reads (subtree places (key name ∷ [])) (Err faults)
     × (after ≡ keeping (all faults) (noted name before)))
-TriesAt reads name places before (Err error) after = Starved name before after
+TriesAt reads name places before (Err error) after = AfterAllocError name before after
 
 -- the error for the remaining keys, if there are any
 abbrev pub left_over : List (List ℕ) → Span → Members → List ErrorContent

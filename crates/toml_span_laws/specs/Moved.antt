@@ -19,8 +19,8 @@ moved_place from to x =
 
 -- The places at the path and below are also at the other path of the other document, with their spans moved, also those
 -- of keys.
-abbrev pub StandsMoved : ℕ → ℕ → (Path → Option Place) → Path → (Path → Option Place) → Path → Type 0
-StandsMoved from to places path others other =
+abbrev pub HasMovedPlaces : ℕ → ℕ → (Path → Option Place) → Path → (Path → Option Place) → Path → Type 0
+HasMovedPlaces from to places path others other =
     (p : Path) → subtree others other p ≡ option_map (moved_place from to) (subtree places path p)
 
 -- The claim is made in these sections, and assigns an array in brackets or an inline table.

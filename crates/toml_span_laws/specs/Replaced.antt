@@ -11,7 +11,7 @@ use Rattle.toml_span_read.specs.Grammar.{SpellsScalar}
 use Rattle.toml_span.specs.Parsing.{IsTree}
 use Rattle.toml_span_laws.specs.Outcomes.{HasOutcome, resolved}
 use Rattle.toml_span_places.specs.Literals.{literal_span}
-use Rattle.toml_span_laws.specs.Again.{with_part, ReadsAsScalar, TakesAnother}
+use Rattle.toml_span_laws.specs.Again.{with_part, ReadsAsScalar, CanBeReplaced}
 
 -- the span 0..0
 abbrev pub no_span : Span
@@ -51,8 +51,8 @@ IsDocumentWith path s root t limit =
 -- The text has this scalar, with this span. If a part that spells another scalar replaces the literal of this one,
 -- quotes included, the result is a document too: its tree is `root` with the other scalar at the path, except for
 -- spans.
-pub record TakesScalar (t : List ℕ) (limit : ℕ) (root : Value) (path : Path) (s : Scalar) (span : Span) : Type 0 where
-  pub takes : TakesAnother t s span
+pub record CanBeSet (t : List ℕ) (limit : ℕ) (root : Value) (path : Path) (s : Scalar) (span : Span) : Type 0 where
+  pub takes : CanBeReplaced t s span
   pub literal : literal_span t (node (scalar s) span) ≡ record { start = takes.i; end = takes.j }
   pub document : (part : List ℕ) (x : Scalar) (at : Span)
       → SpellsScalar x at (with_part t takes.i takes.j part) takes.i (takes.i + length part)

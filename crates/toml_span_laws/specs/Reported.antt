@@ -49,20 +49,20 @@ abbrev pub EndsReported : List ℕ → Fault → ℕ → Type 0
 EndsReported text fault j = ReportsTo fault.kind text fault.span j
 
 -- whether the token that was found is a single byte or a line end
-abbrev pub is_whole : FoundToken → Bool
-is_whole found_tokens.EndOfText = false
-is_whole found_tokens.Whitespace = false
-is_whole found_tokens.Comment = false
-is_whole found_tokens.Keylike = false
-is_whole found_tokens.OneLineString = false
-is_whole found_tokens.MultilineString = false
-is_whole found = true
+abbrev pub is_byte_or_newline : FoundToken → Bool
+is_byte_or_newline found_tokens.EndOfText = false
+is_byte_or_newline found_tokens.Whitespace = false
+is_byte_or_newline found_tokens.Comment = false
+is_byte_or_newline found_tokens.Keylike = false
+is_byte_or_newline found_tokens.OneLineString = false
+is_byte_or_newline found_tokens.MultilineString = false
+is_byte_or_newline found = true
 
 -- How many bytes after the reported ones can decide whether there is a fault of this kind: none after a token of one
 -- byte or a line end; two after a number, a date, an invalid escape, a key through a value, and a value or key beyond
 -- the limit; otherwise one.
 abbrev pub ahead : FaultKind → ℕ
-ahead (kinds.Wanted expected found) = if is_whole found then 0 else 1
+ahead (kinds.Wanted expected found) = if is_byte_or_newline found then 0 else 1
 ahead kinds.InvalidNumber = 2
 ahead kinds.InvalidDatetime = 2
 ahead (kinds.InvalidEscape c) = 2

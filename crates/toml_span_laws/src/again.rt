@@ -10,9 +10,9 @@ ghost use Rattle.toml_span_read.specs.Data.{ParsedValue, ParsedSection};
 ghost use Rattle.toml_span_read.specs.Grammar.{Spells, SpellsDocument, SpellsScalar};
 ghost use Rattle.toml_span.specs.Parsing.{IsTree};
 ghost use Rattle.toml_span_read.specs.Again.{HasFloatTexts, IsWithin, ReadsAsKey, ReadsAsValue};
-ghost use Rattle.toml_span_laws.specs.Replaced.{TakesScalar, literal_text};
+ghost use Rattle.toml_span_laws.specs.Replaced.{CanBeSet, literal_text};
 ghost use Rattle.toml_span_laws.specs.Again.{ReadsAsScalar, SpellsAgain, SpellsAssignment, SectionsReadAgain};
-ghost use Rattle.toml_span_laws.specs.Again.{TakesAnother};
+ghost use Rattle.toml_span_laws.specs.Again.{CanBeReplaced};
 
 /// If the bytes of a text from `i` to `j` spell a value, then `x = ` followed by these bytes is a document with one
 /// assignment. Its key is `x`, and its value is the same, with all spans moved. In this sense, the bytes spell the
@@ -42,7 +42,7 @@ pub fn float_texts()
 pub fn written_over()
     ensures { (text : List ℕ) (limit : ℕ) (root : Value) (path : Path) (place : Place) (s : Scalar)
         → IsTree text limit root → place_at path (view root) ≡ Some place → place.shape ≡ shape_scalar s
-        → TakesAnother text s place.span }
+        → CanBeReplaced text s place.span }
 {}
 
 /// Wherever the text of a scalar occurs, it is read as that scalar, unless the bytes after the text continue it. If a
@@ -61,7 +61,7 @@ pub fn scalar_texts()
 pub fn scalar_replaced()
     ensures { (text : List ℕ) (limit : ℕ) (root : Value) (path : Path) (place : Place) (s : Scalar)
         → IsTree text limit root → place_at path (view root) ≡ Some place → place.shape ≡ shape_scalar s
-        → TakesScalar text limit root path s place.span }
+        → CanBeSet text limit root path s place.span }
 {}
 
 /// The result of `quote_key` for a name, ` = `, and the result of `to_toml` for a value are together a document with

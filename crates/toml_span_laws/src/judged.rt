@@ -9,7 +9,7 @@ ghost use Rattle.toml_span_read.specs.Read as read;
 ghost use Rattle.toml_span_laws.specs.code.Judged.{EndsPast, Judged};
 
 use toml_span_lex::bytes::{blanks_end, keylike_end};
-use toml_span_lex::laws::something_stands;
+use toml_span_lex::laws::token_fault_or_end;
 use toml_span_read::dates::{begins_date, date};
 use toml_span_read::gaps::{dot, gap_end, line_rest};
 
@@ -31,7 +31,7 @@ pub fn place_is_judged(text: &str, at: usize)
     requires { IsCharBoundary text.now at }
     ensures { Judged text.now at }
 {
-    something_stands(text, at);
+    token_fault_or_end(text, at);
     let _ = gap_end(text, at);
     let _ = blanks_end(text, at);
     let _ = keylike_end(text, at);

@@ -11,7 +11,7 @@ ghost use Rattle.toml_span_typed.specs.TableHelper.{OpensTable, Refuses, Require
 ghost use Rattle.toml_span_typed.specs.declared.de_helpers.table_helper.TableHelper.{TableHelper};
 ghost use Rattle.toml_span_typed.specs.declared.de_helpers.table_helper.Unfinished.{Unfinished};
 ghost use Rattle.toml_span_typed.specs.declared.de_helpers.table_helper.Unfinished.TheVariants.{Faults as unfinished};
-ghost use Rattle.toml_span_typed.specs.declared.de_helpers.table_helper.Unfinished.TheVariants.{Memory as starved};
+ghost use Rattle.toml_span_typed.specs.declared.de_helpers.table_helper.Unfinished.TheVariants.{Memory as after_alloc_error};
 ghost use Rattle.std.specs.declared.alloc.AllocError.{AllocError};
 ghost use Rattle.toml_span_laws.specs.Again.{ScalarReadsAgain};
 ghost use Rattle.toml_span_read.specs.Data.{ParsedSection};
@@ -26,7 +26,7 @@ ghost use Rattle.toml_span.specs.Claims.{Claim, claims};
 ghost use Rattle.toml_span.specs.Clashes.{NamedClash, Resolves};
 ghost use Rattle.toml_span.specs.Flat.{ShowsExactly, all_claims, flat};
 ghost use Rattle.toml_span.specs.Ordered.{HasOneEach, IsOrdered};
-ghost use Rattle.toml_span_laws.specs.Moved.{AssignsBrackets, StandsMoved, at_x, text_again};
+ghost use Rattle.toml_span_laws.specs.Moved.{AssignsBrackets, HasMovedPlaces, at_x, text_again};
 ghost use Rattle.toml_span_laws.specs.Document.{HasPlaceAt, IsValueOf, PointsAt};
 ghost use Rattle.toml_span_laws.specs.Helpers.{EndsWith, HasNoKeyBut, IsOver, RequiresAt, TriesAt, except};
 ghost use Rattle.toml_span_laws.specs.Laws.{AssignsAgain, keys_in, ShowsString};
@@ -109,7 +109,7 @@ pub fn claims_ascend()
 
 /// No two keys of the flat document, or of the tree, start at the same offset. So the keys of two names in the same
 /// table start at different offsets.
-pub fn keys_stand_apart()
+pub fn key_starts_differ()
     ensures flat { (text : List ℕ) (limit n : ℕ) (sections : List ParsedSection) → SpellsDocument sections text limit
         → KeysApart (flat n (claims sections)) }
     ensures names { (text : List ℕ) (limit n : ℕ) (sections : List ParsedSection) (path : Path) (a b : List ℕ)
@@ -161,7 +161,7 @@ pub fn brackets_read_again()
 /// `x = ` followed by the text at its span is a document without clashes. In that document, the places at `/x` and
 /// below are those at the old path and below: they have the same kinds, keys and values, and their spans, also those of
 /// keys, are moved with the text. The same holds for the trees of the two texts.
-pub fn bracketed_values_stand_alone()
+pub fn bracketed_values_read_again()
     ensures place { (text : List ℕ) (limit n : ℕ) (sections : List ParsedSection) (c : Claim)
         → SpellsDocument sections text limit
         → Resolves (claims sections) → AssignsBrackets sections c → flat n (claims sections) c.path ≡ Some c.place }
@@ -169,12 +169,12 @@ pub fn bracketed_values_stand_alone()
         → SpellsDocument sections text limit
         → Resolves (claims sections) → AssignsBrackets sections c
         → (again : List ParsedSection) × HasOutcome (text_again text c.place.span) limit (resolved again)
-        × StandsMoved c.place.span.start 4 (flat (length text) (claims sections)) c.path
+        × HasMovedPlaces c.place.span.start 4 (flat (length text) (claims sections)) c.path
         (flat (length (text_again text c.place.span)) (claims again)) at_x }
     ensures tree { (text : List ℕ) (limit : ℕ) (root other : Value) (sections : List ParsedSection) (c : Claim)
         → SpellsDocument sections text limit → IsTree text limit root → AssignsBrackets sections c
         → IsTree (text_again text c.place.span) limit other
-        → StandsMoved c.place.span.start 4 (λ path. place_at path (view root)) c.path
+        → HasMovedPlaces c.place.span.start 4 (λ path. place_at path (view root)) c.path
         (λ path. place_at path (view other)) at_x }
 {}
 
@@ -243,5 +243,5 @@ pub fn finalize_ends_the_table()
     ensures faults { (places : Path → Option Place) (s : State) (faults : Errors) → IsOver places s
         → Refuses s (Err (unfinished faults)) → EndsWith places s faults }
     ensures memory { (places : Path → Option Place) (s : State) (helper : TableHelper) → IsOver places s
-        → Refuses s (Err (starved helper)) → HasNoKeyBut s.asked places → ⊥ }
+        → Refuses s (Err (after_alloc_error helper)) → HasNoKeyBut s.asked places → ⊥ }
 {}

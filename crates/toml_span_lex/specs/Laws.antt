@@ -39,8 +39,8 @@ abbrev pub FaultsWithin : Type 0
 FaultsWithin = (text : List ℕ) (i j : ℕ) (e : Error) → IsNoToken text i j e → (i < j) × (j ≤ length text)
 
 -- At i there is a token, a fault, or the end of the text.
-abbrev pub SomethingStands : List ℕ → ℕ → Type 0
-SomethingStands text i =
+abbrev pub HasTokenOrFault : List ℕ → ℕ → Type 0
+HasTokenOrFault text i =
     (i ≡ length text)
     ⊎ (((j : ℕ) × (s : Span) × (l : Lexeme) × IsLexeme text i j s l) ⊎ ((j : ℕ) × (e : Error) × IsNoToken text i j e))
 

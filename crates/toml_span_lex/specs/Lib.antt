@@ -1,4 +1,5 @@
 pub mod Bytes
+pub mod Key
 pub mod Text
 pub mod Lines
 pub mod Escapes

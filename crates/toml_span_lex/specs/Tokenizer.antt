@@ -29,20 +29,23 @@ abbrev pub Fails : List ℕ → ℕ → Stop Error → ℕ → Type 0
 Fails text i (stops.Memory e) j = (j ≡ i) × NeedsMemory text i
 Fails text i (stops.Fault e) j = IsNoToken text i j e
 
--- The error reports that at i, where a token with the name `due` was expected, one with the name `there` was found.
+-- The error reports that at i, where a token with the name `expected_name` was expected, one with the name
+-- `found_name` was found.
 abbrev pub ReportsExpected : Error → ℕ → List ℕ → List ℕ → Type 0
-ReportsExpected (errors.Wanted at expected found) i due there = (at ≡ i) × (expected.now ≡ due) × (found.now ≡ there)
-ReportsExpected _ i due there = ⊥
+ReportsExpected (errors.Wanted at expected found) i expected_name found_name =
+    (at ≡ i) × (expected.now ≡ expected_name) × (found.now ≡ found_name)
+ReportsExpected _ i expected_name found_name = ⊥
 
--- The token at i, which ends at j, does not satisfy `MayStand`, and the error reports it. `due` is the name of the
--- expected token.
+-- The token at i, which ends at j, does not satisfy `Allows`, and the error reports it. `expected_name` is the name of
+-- the expected token.
 abbrev pub IsOther : (Lexeme → Type 0) → List ℕ → List ℕ → ℕ → ℕ → Error → Type 0
-IsOther MayStand due text i j e = (span : Span) × (found : Lexeme) × IsLexeme text i j span found × (MayStand found → ⊥)
-    × ReportsExpected e i due (words found)
+IsOther Allows expected_name text i j e =
+    (span : Span) × (found : Lexeme) × IsLexeme text i j span found × (Allows found → ⊥)
+    × ReportsExpected e i expected_name (words found)
 
--- The text ends at i, and the error reports that a token with the name `due` was expected there.
+-- The text ends at i, and the error reports that a token with the name `expected_name` was expected there.
 abbrev pub IsEndOf : List ℕ → List ℕ → ℕ → ℕ → Error → Type 0
-IsEndOf due text i j e = (i ≡ length text) × (j ≡ i) × ReportsExpected e i due (codes "eof")
+IsEndOf expected_name text i j e = (i ≡ length text) × (j ≡ i) × ReportsExpected e i expected_name (codes "eof")
 
 -- ---- the next token
 
@@ -76,11 +79,11 @@ Eats old (Ok false) expected new = (new ≡ old) × Lacks old.text old.at expect
 Eats old (Err stop) expected new = (new ≡ old) × ((j : ℕ) × Fails old.text old.at stop j)
 
 -- The call fails with this error, and the tokenizer is then at j: an allocation failed, no token can be read at i, the
--- token at i does not satisfy `MayStand`, or the text ends at i.
+-- token at i does not satisfy `Allows`, or the text ends at i.
 abbrev pub RefusesOther : (Lexeme → Type 0) → List ℕ → List ℕ → ℕ → Stop Error → ℕ → Type 0
-RefusesOther MayStand due text i (stops.Memory e) j = Fails text i (stops.Memory e) j
-RefusesOther MayStand due text i (stops.Fault e) j =
-    IsNoToken text i j e ⊎ (IsOther MayStand due text i j e ⊎ IsEndOf due text i j e)
+RefusesOther Allows expected_name text i (stops.Memory e) j = Fails text i (stops.Memory e) j
+RefusesOther Allows expected_name text i (stops.Fault e) j =
+    IsNoToken text i j e ⊎ (IsOther Allows expected_name text i j e ⊎ IsEndOf expected_name text i j e)
 
 abbrev pub ExpectsSpanned : List ℕ → ℕ → Result Span (Stop Error) → Lexeme → ℕ → Type 0
 ExpectsSpanned text i (Ok span) expected j = IsLexeme text i j span expected

@@ -88,9 +88,9 @@ pub fn bare_keys()
 {}
 
 /// At each character boundary there is a token, a fault, or the end of the text.
-pub fn something_stands(text: &str, at: usize)
+pub fn token_fault_or_end(text: &str, at: usize)
     requires { IsCharBoundary text.now at }
-    ensures { law.SomethingStands text.now at }
+    ensures { law.HasTokenOrFault text.now at }
 {
     if at == text.len() {
         return;

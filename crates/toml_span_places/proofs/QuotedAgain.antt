@@ -14,7 +14,7 @@ use Rattle.toml_span_lex.proofs.PieceLemmas.{slice_join}
 use Rattle.toml_span_lex.proofs.Runs.{read_within}
 use Rattle.toml_span_read.specs.Dates.{is_date_byte, continues_date}
 use Rattle.toml_span_read.specs.Keys.{SpellsSimpleKey}
-use Rattle.toml_span_read.specs.Again.{parts_off, ReadsAsString, ReadsAsKey}
+use Rattle.toml_span_read.specs.Again.{may_follow, ReadsAsString, ReadsAsKey}
 use Rattle.toml_span_places.specs.Keys.{is_quote}
 use Rattle.toml_span_places.specs.Quoted.{letter_of, letter_or, is_control, number_escape, letter_escape, basic_char, basic, is_escaped, is_unliteral, is_literal, quoted, is_bare, key_text}
 use Rattle.toml_span_read.proofs.Parts.{Part, between, same_part, front, back, tail, here, next, range, within, each, empty_range}
@@ -144,7 +144,7 @@ chars_cut (c ∷ cs) text rest i j p =
 
 -- ---- what may follow
 
-pub off_parts : (rest : List ℕ) → parts_off rest ≡ true → (is_date_byte (get_or rest 0 0) ≡ false) × (is_quote (get_or rest 0 0) ≡ false) × (continues_date rest 0 ≡ false)
+pub off_parts : (rest : List ℕ) → may_follow rest ≡ true → (is_date_byte (get_or rest 0 0) ≡ false) × (is_quote (get_or rest 0 0) ≡ false) × (continues_date rest 0 ≡ false)
 off_parts rest h = grind (arith, nat_tests, common_steps)
 
 -- ---- strings

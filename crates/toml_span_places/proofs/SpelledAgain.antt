@@ -14,7 +14,7 @@ use Rattle.toml_span_read.specs.Keys.{SpellsSimpleKey, SpellsKey}
 use Rattle.toml_span_read.specs.Numbers.{SpecialFloat, FloatLiteral}
 use Rattle.toml_span_read.specs.Numerals.{after_sign, is_negative, cleaned}
 use Rattle.toml_span_read.proofs.NumberLemmas.{stands_alone}
-use Rattle.toml_span_read.specs.Again.{parts_off, HasValue, HoldsValue, HaveValues, HaveEntries, IsFloatText, IsScalarText, HasFloatTexts, InnerHasFloatTexts, ItemsHaveFloatTexts, MembersHaveFloatTexts, IsWithin, InnerIsWithin, ItemsAreWithin, MembersAreWithin, ReadsAsValue}
+use Rattle.toml_span_read.specs.Again.{may_follow, HasValue, HoldsValue, HaveValues, HaveEntries, IsFloatText, IsScalarText, HasFloatTexts, InnerHasFloatTexts, ItemsHaveFloatTexts, MembersHaveFloatTexts, IsWithin, InnerIsWithin, ItemsAreWithin, MembersAreWithin, ReadsAsValue}
 use Rattle.toml_span_places.specs.Quoted.{key_text}
 use Rattle.toml_span_places.specs.Spelled.{scalar_text, value_text, inner_text, items_text, members_text}
 use Rattle.toml_span_places.specs.code.Spelled.{IsHeldScalar, IsHeld, IsHeldInner, AreHeld, MembersHeld}
@@ -82,7 +82,7 @@ float_again {i = i} {j} (not_a_number false) is off p = let first = here 110 (97
 word : (b : Bool) → (0 < length (truth_text b)) × (list_all is_keylike (truth_text b) ≡ true)
 word b = grind (arith, nat_tests, common_steps)
 
-scalar_again : {text rest : List ℕ} {i j : ℕ} (s : Scalar) → IsHeldScalar s → IsScalarText s → parts_off rest ≡ true → Part text (scalar_text s) rest i j → ScalarAt text s i j
+scalar_again : {text rest : List ℕ} {i j : ℕ} (s : Scalar) → IsHeldScalar s → IsScalarText s → may_follow rest ≡ true → Part text (scalar_text s) rest i j → ScalarAt text s i j
 scalar_again {text} {rest} {i} {j} (text_scalar v) held is off p =
     let (span, h) = string_again v text rest i j held (off_parts rest off).1 p in (span, (slice_range text i j, false, h))
 scalar_again {text} {rest} {i} {j} (integer z) held is off p = (from_to i j, integer_again z held.sfits (off_parts rest off).0 p)
@@ -122,7 +122,7 @@ after_items (item n ns) inside text rest limit d i j held can p =
     let (vs, h, e, starts) = inside text rest limit d ((i + 1) + 1) j held can q in
     (vs, e, inr ((i + 1) + 1, comma more p starts, h))
 
-items_off : (ns : Items) (rest : List ℕ) → parts_off ((items_text false ns ++ (93 ∷ [])) ++ rest) ≡ true
+items_off : (ns : Items) (rest : List ℕ) → may_follow ((items_text false ns ++ (93 ∷ [])) ++ rest) ≡ true
 items_off no_items rest = refl
 items_off (item n ns) rest = refl
 
@@ -144,7 +144,7 @@ after_pairs (member name key n ms) inside text rest es limit d i j held can p =
     let (ps, h, e, starts) = inside text rest es limit d ((i + 1) + 1) j held can q in
     (ps, e, inr ((i + 1) + 1, comma more p starts, h))
 
-members_off : (ms : Members) (rest : List ℕ) → parts_off ((members_text false ms ++ (125 ∷ [])) ++ rest) ≡ true
+members_off : (ms : Members) (rest : List ℕ) → may_follow ((members_text false ms ++ (125 ∷ [])) ++ rest) ≡ true
 members_off no_members rest = refl
 members_off (member name key n ms) rest = refl
 
@@ -233,11 +233,11 @@ joined_pairs name key n ms text rest es limit d i j utf8 few first others held c
     )
 
 mutual
-  pub value_again : (n : Node) (text rest : List ℕ) (limit d i j : ℕ) → IsHeld n → CanBeSpelled limit d n → parts_off rest ≡ true → Part text (value_text n) rest i j → ValueAt text n limit d i j
+  pub value_again : (n : Node) (text rest : List ℕ) (limit d i j : ℕ) → IsHeld n → CanBeSpelled limit d n → may_follow rest ≡ true → Part text (value_text n) rest i j → ValueAt text n limit d i j
   value_again (node k at) text rest limit d i j held (w, (few, below), floats) off p =
       let (x, span, h, e) = inner_again k text rest limit d i j held (w, below, floats) off p in (parsed x span, (few, h), e)
 
-  inner_again : (k : Inner) (text rest : List ℕ) (limit d i j : ℕ) → IsHeldInner k → InnerCanBeSpelled limit d k → parts_off rest ≡ true → Part text (inner_text k) rest i j → InnerAt text k limit d i j
+  inner_again : (k : Inner) (text rest : List ℕ) (limit d i j : ℕ) → IsHeldInner k → InnerCanBeSpelled limit d k → may_follow rest ≡ true → Part text (inner_text k) rest i j → InnerAt text k limit d i j
   inner_again taken text rest limit d i j held (w, below, floats) off p = absurd (false≢true w)
   inner_again (scalar_node s) text rest limit d i j held (w, below, floats) off p = let (span, h) = scalar_again s held floats off p in (scalar s, span, h, refl)
   inner_again (array_node ns) text rest limit d i j held can off p =

@@ -136,7 +136,7 @@ fn spelled_string(alloc: Global, text: &str) -> Result<String, AllocError>
 /// and shorter, a literal string.
 ///
 /// Where a string may begin in a document, the result is read as a string with the value `text`, unless the bytes after
-/// the result continue it (see `parts_off` in `toml_span_read`). Fails if an allocation fails.
+/// the result continue it (see `may_follow` in `toml_span_read`). Fails if an allocation fails.
 ///
 /// `basic-string = quotation-mark *basic-char quotation-mark`, `literal-string = apostrophe *literal-char apostrophe`
 /// (TOML 1.1, String)
@@ -176,7 +176,7 @@ fn spelled_key(alloc: Global, name: &str) -> Result<String, AllocError>
 /// digits, `-` and `_`, otherwise a string.
 ///
 /// Where a key may begin in a document, the result is read as one simple key with the name `name`, unless the bytes
-/// after the result continue it (see `parts_off` in `toml_span_read`). Fails if an allocation fails.
+/// after the result continue it (see `may_follow` in `toml_span_read`). Fails if an allocation fails.
 ///
 /// `simple-key = quoted-key / unquoted-key` (TOML 1.1, Keys)
 pub fn quote_key(alloc: Global, name: &str) -> Result<String, AllocError>

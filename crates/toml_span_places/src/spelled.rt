@@ -124,7 +124,7 @@ fn spelled_value(alloc: Global, value: &Value<'_>) -> Result<String, AllocError>
 /// order of the names.
 ///
 /// Where a value may begin in a document, the result is read as this value, unless the bytes after the result continue
-/// it (see `parts_off` in `toml_span_read`). That holds if `value` is whole (`is_whole`), if the texts of its floats
+/// it (see `may_follow` in `toml_span_read`). That holds if `value` is whole (`is_whole`), if the texts of its floats
 /// are valid, as in every tree that `parse` returns, and if it is not nested deeper than the reader's limit. Otherwise
 /// the result may be read as another value, or not at all. Fails if an allocation fails.
 pub fn to_toml(alloc: Global, value: &Value<'_>) -> Result<String, AllocError>

@@ -13,7 +13,8 @@ use Rattle.toml_span_read.specs.declared.earlier.Node.{Node as Tree, the_lemmas}
 use Rattle.toml_span_read.specs.declared.earlier.Node.TheViews.{roll-Node, out-Node}
 use Rattle.toml_span_read.specs.declared.earlier.Node.TheFolds.{fold-roll-Node}
 use Rattle.toml_span_read.specs.declared.earlier.Node.TheOpen.{Node-F}
-use Rattle.toml_span_read.specs.code.Earlier.{is_named, child, no_spans, below, Holds, holds_step, holds, Puts, PutsBelow}
+use Rattle.toml_span_read.specs.code.Earlier.{child, no_spans, below, Holds, holds_step, holds, Puts, PutsBelow}
+use Rattle.toml_span_lex.specs.Key.{is_named}
 use Rattle.toml_span_read.specs.Earlier.{part_names, crossed}
 
 -- the order of keys

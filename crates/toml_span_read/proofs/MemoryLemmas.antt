@@ -8,7 +8,7 @@ use Rattle.toml_span_read.specs.Gaps.{MaximalGap}
 use Rattle.toml_span_read.specs.Keys.{SpellsKey}
 use Rattle.toml_span_read.specs.Grammar.{SpellsLines, AssignmentWith, AssignmentsWith, SpellsScalar}
 use Rattle.toml_span_read.specs.code.Sections.{first_sections}
-use Rattle.toml_span_read.specs.Reading.{OnlyFormsTakeMemory}
+use Rattle.toml_span_read.specs.Reading.{AllocatesOnlyAfterGap}
 use Rattle.toml_span_read.proofs.InsideLemmas.{ascend_forward, tail_inside}
 use Rattle.toml_span_read.proofs.KeyOrder.{dotted_ascend}
 use Rattle.toml_span_read.proofs.SpanLaws.{value_lies}
@@ -40,15 +40,15 @@ pub begun_on : (text : List ℕ) (at next : ℕ) → Begun text at → at ≤ ne
 begun_on text at next (start, k, first, g, l) on = (start, k, first, g, omega (arith, l, on))
 
 pub keeps : (A E : Type 0) → (stop : Stop E) (text : List ℕ) (at : ℕ) → Begun text at → at < length text
-    → (start : ℕ) × FirstPlace text start × OnlyFormsTakeMemory {A = A} {E = E} text start (Err stop)
+    → (start : ℕ) × FirstPlace text start × AllocatesOnlyAfterGap {A = A} {E = E} text start (Err stop)
 keeps A E stop text at h under = grind (arith)
 
 -- whatever is not read since an allocation failed
-pub forms_keep : {E : Type 0} (A : Type 0) (stop : Stop E) (text : List ℕ) (i : ℕ) → HoldsForm text i → OnlyFormsTakeMemory {A = A} {E = E} text i (Err stop)
+pub forms_keep : {E : Type 0} (A : Type 0) (stop : Stop E) (text : List ℕ) (i : ℕ) → HoldsForm text i → AllocatesOnlyAfterGap {A = A} {E = E} text i (Err stop)
 forms_keep A stop text i h = grind (arith, nat_tests, common_steps)
 
-pub keeps_same : {E : Type 0} (A B : Type 0) (stop : Stop E) (text : List ℕ) → (start : ℕ) × FirstPlace text start × OnlyFormsTakeMemory {A = A} {E = E} text start (Err stop)
-    → (start : ℕ) × FirstPlace text start × OnlyFormsTakeMemory {A = B} {E = E} text start (Err stop)
+pub keeps_same : {E : Type 0} (A B : Type 0) (stop : Stop E) (text : List ℕ) → (start : ℕ) × FirstPlace text start × AllocatesOnlyAfterGap {A = A} {E = E} text start (Err stop)
+    → (start : ℕ) × FirstPlace text start × AllocatesOnlyAfterGap {A = B} {E = E} text start (Err stop)
 keeps_same A B stop text start = grind (arith)
 
 -- assignments before the first header are something to store

@@ -10,7 +10,7 @@ use Rattle.toml_span_read.specs.Numbers.{Fraction, FloatLiteral, SpecialFloat, I
 use Rattle.toml_span_read.specs.Numerals.{is_digit_in, magnitude, after_sign, is_negative, radix_at, is_exponent}
 use Rattle.toml_span_read.specs.Numerals as spec
 use Rattle.toml_span_read.specs.Numerals.{run_end, scalar_of, integer_part, exponent_digits, exponent, fraction, signed, decimal, special, special_end, unsigned, numeral, number, radix_integer}
-use Rattle.toml_span_read.specs.code.Numbers.{Passes}
+use Rattle.toml_span_read.specs.code.Numbers.{IsRun}
 use Rattle.toml_span_read.proofs.NumberLemmas.{is_false, bool_cases, byte_is, clash, digit_keylike, figure_keylike, digits_complete, digits_on, run_is, run_passes, passes_on, sign_on, no_sign, after_plus_sign}
 use Rattle.toml_span_read.proofs.NumberReads.{First, digits_to, first_plain, first_after, zero_first, NoLetter, no_prefix, keylike_letter, prefix_some, word_keylike, word_first}
 
@@ -19,7 +19,7 @@ use Rattle.toml_span_read.proofs.NumberReads.{First, digits_to, first_plain, fir
 digits_keylike : (radix : ℕ) (text : List ℕ) (i j : ℕ) → Digits radix text i j → (l : ℕ) → i ≤ l → l < j → is_keylike (get_or text l 0) ≡ true
 digits_keylike radix text i j d l a b = figure_keylike radix (get_or text l 0) (d.run.passes l a b)
 
-digits_with_run : (radix : ℕ) (text : List ℕ) (i k j b : ℕ) → Passes text i b → i ≤ k → k ≤ b → Digits radix text k j → is_keylike (get_or text j 0) ≡ false → j ≡ b
+digits_with_run : (radix : ℕ) (text : List ℕ) (i k j b : ℕ) → IsRun text i b → i ≤ k → k ≤ b → Digits radix text k j → is_keylike (get_or text j 0) ≡ false → j ≡ b
 digits_with_run radix text i k j b r a g d n = grind (arith, nat_tests, figure_keylike)
 
 run_of : (radix : ℕ) (text : List ℕ) (i j : ℕ) → Digits radix text i j → is_keylike (get_or text j 0) ≡ false → run_end text i ≡ j
@@ -41,7 +41,7 @@ exponent_digits_complete : (text : List ℕ) (a b start from end : ℕ) → Digi
 unfolding exponent_digits
 exponent_digits_complete text a b start from end d = rw (digits_complete 10 text start from end end d, le-ltb end end (omega arith)) refl
 
-exponent_complete : (text : List ℕ) (a b letter end j : ℕ) → letter < end → Passes text letter end → Exponent text letter j → is_keylike (get_or text j 0) ≡ false → exponent text a b letter end ≡ Ok j
+exponent_complete : (text : List ℕ) (a b letter end j : ℕ) → letter < end → IsRun text letter end → Exponent text letter j → is_keylike (get_or text j 0) ≡ false → exponent text a b letter end ≡ Ok j
 unfolding exponent
 exponent_complete text a b letter end j l r x n = elim (cases_lt (letter + 1) end) [
   | inl k ↦ grind (arith, nat_tests, sign_on text (letter + 1), digits_with_run 10 text letter (after_sign text (letter + 1)) j end r, exponent_digits_complete text a b (letter + 1) (after_sign text (letter + 1)) end)

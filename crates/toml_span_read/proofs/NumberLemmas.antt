@@ -8,7 +8,7 @@ use Rattle.toml_span_lex.proofs.Unique.{run_unique}
 use Rattle.toml_span_read.specs.Numbers.{Digits, FloatLiteral, Exponent, Fraction, goes_on}
 use Rattle.toml_span_read.specs.Numerals.{is_digit_in, is_figure, after_sign, is_exponent}
 use Rattle.toml_span_read.specs.Numerals.{invalid_number, run_end, figures_end, are_digits, digits_end, signed}
-use Rattle.toml_span_read.specs.code.Numbers.{DigitGives, Passes}
+use Rattle.toml_span_read.specs.code.Numbers.{DigitGives, IsRun}
 
 -- ---- bytes
 
@@ -86,11 +86,11 @@ pub run_is : (text : List ℕ) (i j : ℕ) → MaximalRun is_keylike text i j �
 unfolding run_end
 run_is text i j r = grind (arith, run_found)
 
-pub run_passes : (text : List ℕ) (i : ℕ) → i ≤ length text → Passes text i (run_end text i)
+pub run_passes : (text : List ℕ) (i : ℕ) → i ≤ length text → IsRun text i (run_end text i)
 unfolding run_end
 run_passes text i w = grind (arith, nat_tests, common_steps, stops_with, run_found)
 
-pub passes_on : (text : List ℕ) (i k j : ℕ) → Passes text i j → i ≤ k → k ≤ j → Passes text k j
+pub passes_on : (text : List ℕ) (i k j : ℕ) → IsRun text i j → i ≤ k → k ≤ j → IsRun text k j
 passes_on text i k j r a b = record { forward = b; within = r.within; passes = λ l x y. r.passes l (omega arith) y; last = r.last }
 
 -- ---- digits

@@ -14,7 +14,7 @@ use Rattle.toml_span_read.specs.Numerals as spec
 use Rattle.toml_span_read.specs.Numerals.{◌>>=◌, invalid_number, run_end, scalar_of, digits_end, integer_part, exponent_digits, exponent, fraction, signed, decimal, special, special_end, unsigned, numeral, number, radix_integer}
 use Rattle.toml_span_read.specs.Faults.{StartsInside}
 use Rattle.toml_span_read.specs.code.Gaps.{Further}
-use Rattle.toml_span_read.specs.code.Numbers.{Passes, NumeralStands}
+use Rattle.toml_span_read.specs.code.Numbers.{IsRun, IsNumeral}
 use Rattle.toml_span_read.proofs.NumberLemmas.{bool_cases, byte_is, here, figure_keylike, digits_sound, digits_on, run_passes, passes_on, sign_on, after_plus_sign, stands_alone, slice_some, range_length, range_at}
 
 -- ---- steps that may fail
@@ -100,7 +100,7 @@ exponent_digits_reads text a b start from end q p =
     (λ m d. choice text (nat_lt m end) _ _ _ (λ c. fails text a b _ q)
     (λ c. done text end _ (let e : m ≡ end = omega (arith, d.2, ltb-false m end c) in (rw e at d.0, p.last))))
 
-exponent_reads : (text : List ℕ) (a b letter end : ℕ) → Placed text a b → is_exponent (get_or text letter 0) ≡ true → letter < end → Passes text letter end
+exponent_reads : (text : List ℕ) (a b letter end : ℕ) → Placed text a b → is_exponent (get_or text letter 0) ≡ true → letter < end → IsRun text letter end
     → Reads text (exponent text a b letter end) (Whole text (Exponent text letter))
 unfolding exponent
 exponent_reads text a b letter end q x l r =
@@ -175,14 +175,14 @@ radix_reads radix text start end p =
 pub record First (text : List ℕ) (i a b : ℕ) : Type 0 where
   pub forward : i ≤ a
   pub some : a < b
-  pub run : Passes text a b
+  pub run : IsRun text a b
   pub sign : after_sign text i ≡ after_sign text a
   pub negative : is_negative text i ≡ is_negative text a
   pub prefixed : (radix : ℕ) → radix_at text a ≡ Some radix → a ≡ i
 
 -- what is read at i
 abbrev pub Spelled : List ℕ → ℕ → Numeral × ℕ → Type 0
-Spelled text i p = NumeralStands text i p.1 p.0
+Spelled text i p = IsNumeral text i p.1 p.0
 
 decimal_reads : (text : List ℕ) (i a b : ℕ) → First text i a b → Reads text (decimal text i a b) (Spelled text i)
 unfolding decimal
@@ -245,7 +245,7 @@ no_prefix text i h = elim (bool_cases (get_or text i 0 == 48)) [ inl z ↦ let n
 pub keylike_letter : (c : ℕ) → is_keylike c ≡ false → NoLetter c
 keylike_letter c k = grind arith
 
-pub prefix_some : (text : List ℕ) (a b radix : ℕ) → Passes text a b → a < b → radix_at text a ≡ Some radix → a + 2 ≤ b
+pub prefix_some : (text : List ℕ) (a b radix : ℕ) → IsRun text a b → a < b → radix_at text a ≡ Some radix → a + 2 ≤ b
 prefix_some text a b radix r l h = grind (arith, nat_tests, r.last)
 
 -- ---- numbers

@@ -15,23 +15,23 @@ use Rattle.toml_span_read.specs.Keys.{SpellsSimpleKey, opens_string}
 
 -- Whether these bytes may follow a key or value without continuing it: they do not begin with a letter, a digit, a
 -- quote or one of `-_:.+`, nor with a space and a digit. They may be empty.
-abbrev pub parts_off : List ℕ → Bool
-parts_off after =
+abbrev pub may_follow : List ℕ → Bool
+may_follow after =
     not (is_date_byte (slice_index after 0) || (opens_string (slice_index after 0) || continues_date after 0))
 
--- Wherever this part occurs in a text before bytes that do not continue it (`parts_off`), it is a single-line string
+-- Wherever this part occurs in a text before bytes that do not continue it (`may_follow`), it is a single-line string
 -- with this content, from its first byte to its last.
 abbrev pub ReadsAsString : List ℕ → List ℕ → Type 0
 ReadsAsString content part =
-    (before after : List ℕ) → parts_off after ≡ true
+    (before after : List ℕ) → may_follow after ≡ true
     → (span : Span)
     × IsString (before ++ (part ++ after)) (length before) (length before + length part) span part content false
 
--- Wherever this part occurs in a text before bytes that do not continue it (`parts_off`), it is a simple key with this
+-- Wherever this part occurs in a text before bytes that do not continue it (`may_follow`), it is a simple key with this
 -- name, from its first byte to its last.
 abbrev pub ReadsAsKey : List ℕ → List ℕ → Type 0
 ReadsAsKey name part =
-    (before after : List ℕ) → parts_off after ≡ true
+    (before after : List ℕ) → may_follow after ≡ true
     → (span : Span)
     × SpellsSimpleKey (record { name = name; span = span }) (before ++ (part ++ after)) (length before)
     (length before + length part)
@@ -110,12 +110,12 @@ abbrev mutual
   MembersAreWithin limit d no_members = Unit {0}
   MembersAreWithin limit d (member name key n ms) = IsWithin limit (d + 1) n × MembersAreWithin limit d ms
 
--- Wherever this part occurs in a text before bytes that do not continue it (`parts_off`), it is a value that equals
+-- Wherever this part occurs in a text before bytes that do not continue it (`may_follow`), it is a value that equals
 -- this value of the tree, from its first byte to its last. The value of the tree must be whole and within the limit,
 -- and its floats must be literals.
 abbrev pub ReadsAsValue : Node → List ℕ → Type 0
 ReadsAsValue n part =
     (limit depth : ℕ) → is_whole n ≡ true → IsWithin limit depth n → HasFloatTexts n
-    → (before after : List ℕ) → parts_off after ≡ true
+    → (before after : List ℕ) → may_follow after ≡ true
     → (v : ParsedValue)
     × Spells v (before ++ (part ++ after)) limit depth (length before) (length before + length part) × HasValue v n

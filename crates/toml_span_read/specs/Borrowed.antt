@@ -43,28 +43,28 @@ dotted_written key = keys_written key.inner.items ++ (key_written key.last ∷ [
 
 -- The strings and keys in the content of a value, in a value and in an assignment, given those in the values inside it.
 -- A string has the span of its value.
-abbrev pub kind_step : ValKind-F (Span → List Written) (List Written) (List Written) → Span → List Written
-kind_step (ValKind-F.String s) span = string s span ∷ []
-kind_step (ValKind-F.Array v) span = joined v.items
-kind_step (ValKind-F.Inline v) span = joined v.items
-kind_step _ span = []
+abbrev pub kind_written_step : ValKind-F (Span → List Written) (List Written) (List Written) → Span → List Written
+kind_written_step (ValKind-F.String s) span = string s span ∷ []
+kind_written_step (ValKind-F.Array v) span = joined v.items
+kind_written_step (ValKind-F.Inline v) span = joined v.items
+kind_written_step _ span = []
 
-abbrev pub val_step : Val-F (Span → List Written) (List Written) (List Written) → List Written
-val_step v = v.kind v.span
+abbrev pub val_written_step : Val-F (Span → List Written) (List Written) (List Written) → List Written
+val_written_step v = v.kind v.span
 
-abbrev pub assignment_step : Assignment-F (Span → List Written) (List Written) (List Written) → List Written
-assignment_step a = dotted_written a.parts ++ a.value
+abbrev pub assignment_written_step : Assignment-F (Span → List Written) (List Written) (List Written) → List Written
+assignment_written_step a = dotted_written a.parts ++ a.value
 
 -- the strings and keys in a value and in an assignment, in the order of the text
 abbrev pub written : Val → List Written
-written = fold-Val (Span → List Written) (List Written) (List Written) kind_step assignment_step val_step
+written = fold-Val (Span → List Written) (List Written) (List Written) kind_written_step assignment_written_step val_written_step
 
 abbrev pub kind_written : ValKind → Span → List Written
-kind_written = fold-ValKind (Span → List Written) (List Written) (List Written) kind_step assignment_step val_step
+kind_written = fold-ValKind (Span → List Written) (List Written) (List Written) kind_written_step assignment_written_step val_written_step
 
 abbrev pub assignment_written : Assignment → List Written
 assignment_written =
-    fold-Assignment (Span → List Written) (List Written) (List Written) kind_step assignment_step val_step
+    fold-Assignment (Span → List Written) (List Written) (List Written) kind_written_step assignment_written_step val_written_step
 
 abbrev pub assignments_written : List Assignment → List Written
 assignments_written found = joined (map assignment_written found)

@@ -34,7 +34,7 @@ AreRead bs (Err (stops.Memory e)) = Unit {0}
 AreRead bs (Err (stops.Fault error)) = ⊥
 
 -- An allocation can fail only if something other than comments and blank lines follows from i on.
-abbrev pub OnlyFormsTakeMemory : {A E : Type 0} → List ℕ → ℕ → Result A (Stop E) → Type 0
-OnlyFormsTakeMemory text i (Err (stops.Memory e)) = (k : ℕ) × MaximalGap text i k × (k < length text)
-OnlyFormsTakeMemory text i (Err (stops.Fault fault)) = Unit {0}
-OnlyFormsTakeMemory text i (Ok found) = Unit {0}
+abbrev pub AllocatesOnlyAfterGap : {A E : Type 0} → List ℕ → ℕ → Result A (Stop E) → Type 0
+AllocatesOnlyAfterGap text i (Err (stops.Memory e)) = (k : ℕ) × MaximalGap text i k × (k < length text)
+AllocatesOnlyAfterGap text i (Err (stops.Fault fault)) = Unit {0}
+AllocatesOnlyAfterGap text i (Ok found) = Unit {0}

@@ -13,7 +13,7 @@ ghost use Rattle.toml_span_read.specs.Numerals.{is_digit_in, after_sign};
 ghost use Rattle.toml_span_read.specs.Numerals as numerals;
 ghost use Rattle.toml_span_read.specs.code.Faults.{Advances};
 ghost use Rattle.toml_span_read.specs.code.Gaps.{Further};
-ghost use Rattle.toml_span_read.specs.code.Numbers.{DigitGives, WithinGives, NumeralStands, Passes};
+ghost use Rattle.toml_span_read.specs.code.Numbers.{DigitGives, WithinGives, IsNumeral, IsRun};
 ghost use Rattle.toml_span_read.specs.code.Values.{ScalarGives, IsScalarKind};
 ghost use Rattle.toml_span_read.specs.Read as read;
 
@@ -41,7 +41,7 @@ pub enum Numeral {
 fn run_end(text: &str, from: usize) -> usize
     requires { IsCharBoundary text.now from }
     ensures end { result ≡ numerals.run_end text.now from }
-    ensures run { Passes text.now from result }
+    ensures run { IsRun text.now from result }
 {
     keylike_end(text, from)
 }
@@ -237,7 +237,7 @@ fn is_exponent(byte: u8) -> bool
 #[tactic(auto, unfolding(crate::specs::Numerals::exponent))]
 fn exponent_end(text: &str, first: Span, letter: usize, end: usize) -> Result<usize, Fault>
     requires letter { letter < end }
-    requires run { Passes text.now letter end }
+    requires run { IsRun text.now letter end }
     ensures { result ≡ numerals.exponent text.now first.start first.end letter end }
 {
     if letter + 1 < end {
@@ -328,7 +328,7 @@ fn after_minus(text: &str, at: usize) -> usize
 #[tactic(auto, unfolding(crate::specs::Numerals::decimal))]
 fn decimal_number(text: &str, start: usize, first: Span) -> Result<(Numeral, usize), Fault>
     requires some { first.start < first.end }
-    requires run { Passes text.now first.start first.end }
+    requires run { IsRun text.now first.start first.end }
     ensures { result ≡ numerals.decimal text.now start first.start first.end }
 {
     let negative = byte_at(text, first.start) == b'-';
@@ -391,7 +391,7 @@ fn special_end(
 #[tactic(auto, unfolding(crate::specs::Numerals::unsigned))]
 fn unsigned(text: &str, start: usize, first: Span) -> Result<(Numeral, usize), Fault>
     requires some { first.start < first.end }
-    requires run { Passes text.now first.start first.end }
+    requires run { IsRun text.now first.start first.end }
     ensures { result ≡ numerals.unsigned text.now start first.start first.end }
 {
     if let Some(radix) = radix_of(text, first.start) {
@@ -563,7 +563,7 @@ fn number_kind<'de>(
 ) -> Result<ValKind<'de>, AllocError>
     requires start { IsCharBoundary text.now at }
     requires end { IsCharBoundary text.now end }
-    requires here { NumeralStands text.now at end numeral }
+    requires here { IsNumeral text.now at end numeral }
     ensures { IfOk result
         (λ kind. parsed_kind kind ≡ scalar (numerals.scalar_of numeral (slice_range text.now at end))) }
 {

@@ -11,7 +11,7 @@ ghost use Rattle.toml_span_read.specs.code.Sections.{EndsAtHeader, HeaderReads, 
 ghost use Rattle.toml_span_read.specs.code.Sections.{first_sections, EndsAfter, LineReads, first_found, head_found};
 ghost use Rattle.toml_span_read.specs.code.Sections.{lines_found, section_found, sections_found};
 ghost use Rattle.toml_span_read.specs.code.Values.{assignment_found};
-ghost use Rattle.toml_span_read.specs.Reading.{OnlyFormsTakeMemory, ReadsDocument, RefusedInside};
+ghost use Rattle.toml_span_read.specs.Reading.{AllocatesOnlyAfterGap, ReadsDocument, RefusedInside};
 ghost use Rattle.toml_span_read.specs.code.Faults.{Advances, MatchesReading, IsPlacedEnd};
 ghost use Rattle.toml_span_read.specs.code.Gaps.{Further};
 ghost use Rattle.toml_span_lex.specs.Bytes.{is_blank, left_bracket, MaximalRun};
@@ -95,7 +95,7 @@ fn assignments<'de>(
     ensures header { EndsAtHeader text.now result }
     ensures lines { MatchesReading lines_found (spec.assignment_lines text.now limit from) result }
     ensures borrows { IfOk result (λ found. AreWrittenRight text.now (assignments_written found.0.items)) }
-    ensures memory { OnlyFormsTakeMemory text.now from result }
+    ensures memory { AllocatesOnlyAfterGap text.now from result }
 {
     let mut found = Vec::new(alloc);
     let mut earlier = Earlier::new(alloc);
@@ -265,7 +265,7 @@ pub fn read_first<'de>(
     requires small { limit ≤ depth_limit }
     ensures reads { FirstReads text.now result }
     ensures first { MatchesReading first_found (spec.before_headers text.now limit) result }
-    ensures memory { (start : ℕ) × FirstPlace text.now start × OnlyFormsTakeMemory text.now start result }
+    ensures memory { (start : ℕ) × FirstPlace text.now start × AllocatesOnlyAfterGap text.now start result }
 {
     let (before, end) = assignments(alloc, text, first_place(text), limit)?;
     Ok((first_section(alloc, before), end))
@@ -304,7 +304,7 @@ fn sections<'de>(
     ensures placed { IsPlacedEnd text.now result }
     ensures document { MatchesReading sections_found (spec.document text.now limit) result }
     ensures borrows { IfOk result (λ found. AreWrittenRight text.now (sections_written found.items)) }
-    ensures memory { (start : ℕ) × FirstPlace text.now start × OnlyFormsTakeMemory text.now start result }
+    ensures memory { (start : ℕ) × FirstPlace text.now start × AllocatesOnlyAfterGap text.now start result }
 {
     let mut found = Vec::new(alloc);
     let (first, mut at) = read_first(alloc, text, limit)?;
@@ -343,7 +343,7 @@ pub fn read_sections<'de>(
     ensures document { ReadsDocument text.now limit result }
     ensures placed { RefusedInside text.now result }
     // Nothing is allocated for a text of comments and blank lines.
-    ensures memory { (start : ℕ) × FirstPlace text.now start × OnlyFormsTakeMemory text.now start result }
+    ensures memory { (start : ℕ) × FirstPlace text.now start × AllocatesOnlyAfterGap text.now start result }
     // A string or key is borrowed if and only if it equals the text at its span, or is an empty single-line string.
     ensures borrows { IfOk result (λ found. AreWrittenRight text.now (sections_written found.items)) }
 {

@@ -3,7 +3,7 @@ use Rattle.toml_span_lex.proofs.Common.{arith, common_steps, nat_tests, ◌≡�
 use Rattle.toml_span_tree.specs.Node.{Node, Inner}
 use Rattle.toml_span_tree.specs.Value.{inner_of, is_taken}
 use Rattle.toml_span_tree.specs.Path.{child, Step, Path, at_step, node_at, set_at_step}
-use Rattle.toml_span_tree.specs.Pointer.{step_named, pointed, put_pointed, pointer_segments, segments_apart, paths_part, pointers_part, NamesPath, IsPointed}
+use Rattle.toml_span_tree.specs.Pointer.{step_named, pointed, put_pointed, pointer_segments, segments_apart, paths_diverge, pointers_diverge, NamesPath, IsPointed}
 use Rattle.toml_span_tree.specs.code.Pointer.{entry, untaken_entry, value_named, put_named, set_named}
 use Rattle.toml_span_tree.proofs.Paths.{below-set, below-other, StepsApart, bytes_same}
 use Rattle.toml_span_tree.proofs.Pointers.{found-more, node_at-more, pointed-found}
@@ -54,17 +54,17 @@ steps_apart i segment other s t apart is it = grind (arith, nat_tests, common_st
 entry-apart : (segment other : List ℕ) (i : Inner) (w : Node) → segments_apart segment other ≡ true → entry other (set_named segment w i) ≡ entry other i
 entry-apart segment other i w apart = grind (arith, nat_tests, common_steps, below-other, bytes_apart segment other)
 
-found_apart_at : (b : Bool) (segment other : List ℕ) (names others : List (List ℕ)) (n c m w : Node) → bytes_eq segment other ≡ b → cond b (paths_part names others) (segments_apart segment other) ≡ true
-    → untaken_entry segment n ≡ Some c → value_named names c ≡ Some m → (paths_part names others ≡ true → value_named others (put_named names w c) ≡ value_named others c)
+found_apart_at : (b : Bool) (segment other : List ℕ) (names others : List (List ℕ)) (n c m w : Node) → bytes_eq segment other ≡ b → cond b (paths_diverge names others) (segments_apart segment other) ≡ true
+    → untaken_entry segment n ≡ Some c → value_named names c ≡ Some m → (paths_diverge names others ≡ true → value_named others (put_named names w c) ≡ value_named others c)
     → option_and_then (value_named others) (untaken_entry other (put_named (segment ∷ names) w n)) ≡ option_and_then (value_named others) (untaken_entry other n)
 found_apart_at true segment other names others n c m w is apart leads there ih =
-    let whole = whole-put names c m w (λ none. absurd (true≢false (sym apart ∙ ap (λ names. paths_part names others) none))) there (untaken_entry-of segment n c leads).1 in
+    let whole = whole-put names c m w (λ none. absurd (true≢false (sym apart ∙ ap (λ names. paths_diverge names others) none))) there (untaken_entry-of segment n c leads).1 in
     grind (arith, nat_tests, common_steps, bytes_same segment other is, untaken_entry-put segment names n c m w leads there whole, ih apart)
 found_apart_at false segment other names others n c m w is apart leads there ih =
     grind (arith, nat_tests, common_steps, put_found-more segment names n c w m leads there, entry-apart segment other (inner_of n) (put_named names w c) apart)
 
 -- a change leaves what is named by segments that diverge from its own
-pub found-apart : (names others : List (List ℕ)) (n m w : Node) → value_named names n ≡ Some m → paths_part names others ≡ true → value_named others (put_named names w n) ≡ value_named others n
+pub found-apart : (names others : List (List ℕ)) (n m w : Node) → value_named names n ≡ Some m → paths_diverge names others ≡ true → value_named others (put_named names w n) ≡ value_named others n
 found-apart [] others n m w there apart = cc
 found-apart (segment ∷ names) [] n m w there apart = cc
 found-apart (segment ∷ names) (other ∷ others) n m w there apart =
@@ -79,7 +79,7 @@ pointed-names p n m h = grind (arith, nat_tests, common_steps)
 pub pointed-put : (p : List ℕ) (n m w : Node) → is_taken w ≡ false → pointed p n ≡ Some m → pointed p (put_pointed p w n) ≡ Some w
 pointed-put p n m w h there = grind (arith, nat_tests, common_steps, pointed-names p n m there, pointed-found p, put_pointed-found p, found-put)
 
-pub pointed-apart : (p q : List ℕ) (n m w : Node) → pointed p n ≡ Some m → pointers_part p q ≡ true → pointed q (put_pointed p w n) ≡ pointed q n
+pub pointed-apart : (p q : List ℕ) (n m w : Node) → pointed p n ≡ Some m → pointers_diverge p q ≡ true → pointed q (put_pointed p w n) ≡ pointed q n
 pointed-apart p q n m w there apart = grind (arith, nat_tests, common_steps, pointed-names p n m there, pointed-found q, put_pointed-found p, found-apart)
 
 -- a pointer names what its segments name step by step

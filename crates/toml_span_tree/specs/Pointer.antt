@@ -82,20 +82,20 @@ abbrev pub segments_apart : List ℕ → List ℕ → Bool
 segments_apart segment other = not (bytes_eq segment other) && positions_apart (position_of segment) (position_of other)
 
 -- Both lists have a segment at some position, and these two segments differ. Those after them may be anything.
-abbrev pub paths_part : List (List ℕ) → List (List ℕ) → Bool
-paths_part [] others = false
-paths_part (segment ∷ more) [] = false
-paths_part (segment ∷ more) (other ∷ others) =
-    if bytes_eq segment other then paths_part more others else segments_apart segment other
+abbrev pub paths_diverge : List (List ℕ) → List (List ℕ) → Bool
+paths_diverge [] others = false
+paths_diverge (segment ∷ more) [] = false
+paths_diverge (segment ∷ more) (other ∷ others) =
+    if bytes_eq segment other then paths_diverge more others else segments_apart segment other
 
-abbrev pub part_where : Option (List (List ℕ)) → Option (List (List ℕ)) → Bool
-part_where None o = false
-part_where (Some names) None = false
-part_where (Some names) (Some others) = paths_part names others
+abbrev pub paths_diverge_if_any : Option (List (List ℕ)) → Option (List (List ℕ)) → Bool
+paths_diverge_if_any None o = false
+paths_diverge_if_any (Some names) None = false
+paths_diverge_if_any (Some names) (Some others) = paths_diverge names others
 
 -- The two pointers diverge: neither names the value of the other, nor one inside it.
-abbrev pub pointers_part : List ℕ → List ℕ → Bool
-pointers_part pointer other = part_where (pointer_segments pointer) (pointer_segments other)
+abbrev pub pointers_diverge : List ℕ → List ℕ → Bool
+pointers_diverge pointer other = paths_diverge_if_any (pointer_segments pointer) (pointer_segments other)
 
 -- The segments name the steps of the path, one by one: a key by its name, a position by its decimal form.
 abbrev pub NamesPath : List (List ℕ) → Path → Type 0

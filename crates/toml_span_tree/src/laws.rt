@@ -3,7 +3,7 @@
 ghost use Rattle.std.specs.Prelude.{◌≡◌, ◌↔◌, ◌<◌, ◌^◌, ℕ, List, [], Some, IsTrue, true, false, decimal};
 ghost use Rattle.toml_span_tree.specs.Node.{Node};
 ghost use Rattle.toml_span_tree.specs.Path.{Path, Place, shape_of, place_at, node_at, put, BeginsWith};
-ghost use Rattle.toml_span_tree.specs.Pointer.{position_of, IsPointed, pointed, put_pointed, pointers_part};
+ghost use Rattle.toml_span_tree.specs.Pointer.{position_of, IsPointed, pointed, put_pointed, pointers_diverge};
 ghost use Rattle.toml_span_tree.specs.Date.{IsDateText, IsDateOrTime};
 ghost use Rattle.toml_span_tree.specs.declared.date.DateText.{DateText};
 ghost use Rattle.toml_span_tree.specs.declared.float.FloatText.{FloatText};
@@ -32,7 +32,7 @@ pub fn equal_floats()
 {}
 
 /// If there is a value at a path, and another value is put there, then the new value is at that path.
-pub fn put_stands()
+pub fn put_is_found()
     ensures { (path : Path) (n m w : Node) → node_at path n ≡ Some m → node_at path (put path w n) ≡ Some w }
 {}
 
@@ -77,6 +77,6 @@ pub fn pointer_names_what_was_put()
 /// Replacing the value that one pointer finds changes nothing for another pointer, if the two differ in a segment that
 /// both have: the other pointer finds the same value as before, or again none.
 pub fn other_pointers_keep()
-    ensures { (pointer other : List ℕ) (n m w : Node) → pointed pointer n ≡ Some m → pointers_part pointer other ≡ true
+    ensures { (pointer other : List ℕ) (n m w : Node) → pointed pointer n ≡ Some m → pointers_diverge pointer other ≡ true
         → pointed other (put_pointed pointer w n) ≡ pointed other n }
 {}

@@ -8,15 +8,15 @@ use Rattle.toml_span_tree.specs.declared.value.Value.{Value}
 use Rattle.toml_span_tree.specs.Node.{Node, entry_at}
 use Rattle.toml_span_tree.specs.Value.{view}
 use Rattle.toml_span_typed.specs.Errors.{Errors, all}
-use Rattle.toml_span_typed.specs.TableHelper.{Starved, State, keeping, missing, noted, without}
+use Rattle.toml_span_typed.specs.TableHelper.{AfterAllocError, State, keeping, missing, noted, without}
 
 -- the error `DuplicateKey` for the key with this name, at its span; `first` is the span of the earlier key
-abbrev pub again : List ℕ → Span → Span → ErrorContent
-again name span first = record { kind = duplicate_key name first; span = span; line_info = None }
+abbrev pub duplicate_key_error : List ℕ → Span → Span → ErrorContent
+duplicate_key_error name span first = record { kind = duplicate_key name first; span = span; line_info = None }
 
 -- the error for a field that is present under both names, at the later key
 abbrev pub twice : List ℕ → Span → List ℕ → Span → ErrorContent
-twice name span old other = if nat_lt span.start other.start then again old other span else again name span other
+twice name span old other = if nat_lt span.start other.start then duplicate_key_error old other span else duplicate_key_error name span other
 
 -- an entry: the span of its key, and its value
 abbrev pub Entry : Type 0
@@ -88,12 +88,12 @@ ReadsMoved reads none moved before None after = MatchOption moved
 
 -- An allocation failed: nothing has changed, or one or both names have been recorded and their entries removed. A new
 -- error can only be that for a field under both names.
-abbrev pub StarvedEither : List ℕ → List ℕ → State → State → Type 0
-StarvedEither name old before after =
-    Starved name before after ⊎ (after ≡ noted old (noted name before)) ⊎ (after ≡ asked_both name old before)
+abbrev pub AfterAllocErrorEither : List ℕ → List ℕ → State → State → Type 0
+AfterAllocErrorEither name old before after =
+    AfterAllocError name before after ⊎ (after ≡ noted old (noted name before)) ⊎ (after ≡ asked_both name old before)
 
-abbrev pub StarvedDeprecated : List ℕ → List ℕ → State → State → Type 0
-StarvedDeprecated name old before after =
+abbrev pub AfterAllocErrorDeprecated : List ℕ → List ℕ → State → State → Type 0
+AfterAllocErrorDeprecated name old before after =
     (after ≡ before) ⊎ (after ≡ passed old (noted name before)) ⊎ (after ≡ asked_deprecated name old before)
 
 -- `read_either`: the element; or None, after keeping the error of the missing name, or all errors of the read
@@ -101,27 +101,27 @@ abbrev pub AsksEither : {T : Type 0} → (Node → Result T Errors → Node → 
     → Result (Option T) AllocError → State → Type 0
 AsksEither reads name old before (Ok field) after =
     ReadsMoved reads (lacks name) (either name old before) (asked_both name old before) field after
-AsksEither reads name old before (Err error) after = StarvedEither name old before after
+AsksEither reads name old before (Err error) after = AfterAllocErrorEither name old before after
 
 -- `read_optional_either`: the element; or None if both names are missing, or after keeping the errors of the read
 abbrev pub TriesEither : {T : Type 0} → (Node → Result T Errors → Node → Type 0) → List ℕ → List ℕ → State
     → Result (Option T) AllocError → State → Type 0
 TriesEither reads name old before (Ok field) after =
     ReadsMoved reads (λ s. s) (either name old before) (asked_both name old before) field after
-TriesEither reads name old before (Err error) after = StarvedEither name old before after
+TriesEither reads name old before (Err error) after = AfterAllocErrorEither name old before after
 
 -- `read_deprecated` and `read_optional_deprecated`: the same, but the old name is not recorded
 abbrev pub AsksDeprecated : {T : Type 0} → (Node → Result T Errors → Node → Type 0) → List ℕ → List ℕ → State
     → Result (Option T) AllocError → State → Type 0
 AsksDeprecated reads name old before (Ok field) after =
     ReadsMoved reads (lacks name) (either name old before) (asked_deprecated name old before) field after
-AsksDeprecated reads name old before (Err error) after = StarvedDeprecated name old before after
+AsksDeprecated reads name old before (Err error) after = AfterAllocErrorDeprecated name old before after
 
 abbrev pub TriesDeprecated : {T : Type 0} → (Node → Result T Errors → Node → Type 0) → List ℕ → List ℕ → State
     → Result (Option T) AllocError → State → Type 0
 TriesDeprecated reads name old before (Ok field) after =
     ReadsMoved reads (λ s. s) (either name old before) (asked_deprecated name old before) field after
-TriesDeprecated reads name old before (Err error) after = StarvedDeprecated name old before after
+TriesDeprecated reads name old before (Err error) after = AfterAllocErrorDeprecated name old before after
 
 -- The warning about the old name is appended to the earlier ones. If an allocation failed, it may be missing.
 abbrev pub Warns : {T : Type 0} → List ErrorContent → List ErrorContent → Result T AllocError → List ErrorContent

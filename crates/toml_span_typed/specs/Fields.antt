@@ -10,7 +10,7 @@ use Rattle.toml_span_tree.specs.Node.{Node}
 use Rattle.toml_span_tree.specs.Value.{inner_of, is_filled, text_in}
 use Rattle.toml_span_typed.specs.Errors.{Errors, all, one}
 use Rattle.toml_span_typed.specs.Parse.{Parses}
-use Rattle.toml_span_typed.specs.TableHelper.{Requires, Starved, State, found, keeping, missing, noted, with_unasked}
+use Rattle.toml_span_typed.specs.TableHelper.{Requires, AfterAllocError, State, found, keeping, missing, noted, with_unasked}
 use Rattle.toml_span_typed.specs.declared.de_helpers.table_helper.Unfinished.{Unfinished}
 use Rattle.toml_span_typed.specs.declared.de_helpers.table_helper.Unfinished.TheVariants as unfinished
 
@@ -29,7 +29,7 @@ Asks reads name before (Ok None) after = MatchOption (found name before)
     (after ≡ keeping (missing name before ∷ []) (noted name before))
     (λ value. (faults : Errors) × (left : Node) × reads value (Err faults) left
     × (after ≡ keeping (all faults) (noted name before)))
-Asks reads name before (Err error) after = Starved name before after
+Asks reads name before (Err error) after = AfterAllocError name before after
 
 -- `kept`: the element that was read; or None, after keeping the errors of the read
 abbrev pub Keeps : {T : Type 0} → Result T (Stop Errors) → State → Option T → State → Type 0

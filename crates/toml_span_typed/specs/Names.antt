@@ -16,8 +16,8 @@ abbrev pub named : Spanned (String Global) → Name
 named s = (string_bytes s.value, s.span)
 
 -- the error for the name n, which also occurs at `before`; the error is at the span of n and marks `before` too
-abbrev pub again : Name → Span → ErrorContent
-again n before = record {
+abbrev pub duplicate_name_error : Name → Span → ErrorContent
+duplicate_name_error n before = record {
   kind = marked (codes "duplicate-name") (codes "duplicate name: `" ++ n.0 ++ codes "`")
       ((codes "also here", before) ∷ []);
   span = n.1;
@@ -25,7 +25,7 @@ again n before = record {
 }
 
 abbrev pub duplicate_errors : Name → Option Span → List ErrorContent
-duplicate_errors n before = option_to_list (option_map (again n) before)
+duplicate_errors n before = option_to_list (option_map (duplicate_name_error n) before)
 
 -- the errors of the names in the second list that occur earlier; the first list has the names before the second list,
 -- in reverse order

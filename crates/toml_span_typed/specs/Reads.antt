@@ -15,12 +15,12 @@ result_map f (Ok x) = Ok (f x)
 result_map f (Err e) = Err e
 
 -- The result is one that the type's `reads` allows for the value before the call and the value after it. If an
--- allocation failed, the value after it is one that `starved` allows.
+-- allocation failed, the value after it is one that `after_alloc_error` allows.
 abbrev pub Answers : {T : Type 0} → (Node → Result T Errors → Node → Type 0) → (Node → Node → Type 0) → Node
     → Result T (Stop Errors) → Node → Type 0
-Answers reads starved before (Ok x) after = reads before (Ok x) after
-Answers reads starved before (Err (stop.Fault faults)) after = reads before (Err faults) after
-Answers reads starved before (Err (stop.Memory error)) after = starved before after
+Answers reads after_alloc_error before (Ok x) after = reads before (Ok x) after
+Answers reads after_alloc_error before (Err (stop.Fault faults)) after = reads before (Err faults) after
+Answers reads after_alloc_error before (Err (stop.Memory error)) after = after_alloc_error before after
 
 -- The content of the value has been taken, and its span is the same.
 abbrev pub Taken : Node → Node → Type 0

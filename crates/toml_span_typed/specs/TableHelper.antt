@@ -86,8 +86,8 @@ Takes name before (Err error) after = after ≡ before
 
 -- An allocation failed in a read: nothing has changed, or the name has been recorded and its entry removed, and no
 -- error was kept.
-abbrev pub Starved : List ℕ → State → State → Type 0
-Starved name before after = (after ≡ before) ⊎ (after ≡ noted name before)
+abbrev pub AfterAllocError : List ℕ → State → State → Type 0
+AfterAllocError name before after = (after ≡ before) ⊎ (after ≡ noted name before)
 
 -- `required`: the element; or, after keeping all errors, the error of the missing name or the last error of the read
 abbrev pub Requires : {T : Type 0} → (Node → Result T Errors → Node → Type 0) → List ℕ → State → Result T (Stop Error)
@@ -99,7 +99,7 @@ Requires reads name before (Err (stop.Fault error)) after = MatchOption (found n
     ((content_of error ≡ missing name before) × (after ≡ keeping (missing name before ∷ []) (noted name before)))
     (λ value. (faults : Errors) × (left : Node) × reads value (Err faults) left
     × (content_of error ≡ faults.last) × (after ≡ keeping (all faults) (noted name before)))
-Requires reads name before (Err (stop.Memory error)) after = Starved name before after
+Requires reads name before (Err (stop.Memory error)) after = AfterAllocError name before after
 
 -- `optional`: the element; or None if the name is missing, or after keeping the errors of the read
 abbrev pub Tries : {T : Type 0} → (Node → Result T Errors → Node → Type 0) → List ℕ → State
@@ -111,7 +111,7 @@ Tries reads name before (Ok None) after = MatchOption (found name before)
     (after ≡ noted name before)
     (λ value. (faults : Errors) × (left : Node) × reads value (Err faults) left
     × (after ≡ keeping (all faults) (noted name before)))
-Tries reads name before (Err error) after = Starved name before after
+Tries reads name before (Err error) after = AfterAllocError name before after
 
 -- the remaining keys with their spans, in the order of their names
 abbrev pub remaining_keys : Members → List (List ℕ × Span)

@@ -9,7 +9,7 @@ use Rattle.toml_span_tree.specs.Node.{Node, node, array}
 use Rattle.toml_span_typed.specs.Aliases.{lacks}
 use Rattle.toml_span_typed.specs.Errors.{Errors, all}
 use Rattle.toml_span_typed.specs.Reads.{Joins, nodes_of, refused}
-use Rattle.toml_span_typed.specs.TableHelper.{Starved, State, found, keeping, noted}
+use Rattle.toml_span_typed.specs.TableHelper.{AfterAllocError, State, found, keeping, noted}
 
 -- The list begins with the earlier warnings.
 abbrev pub Extends : List ErrorContent → List ErrorContent → Type 0
@@ -25,12 +25,12 @@ AnswersWithWarnings reads value (Err (stop.Memory error)) warnings more = ⊤
 
 -- The value `moved`, which was moved out of the table, is read: the result is the element, or None after all errors of
 -- the read were kept. If `moved` is None, the result is None, and the state afterwards is `none` of the state before.
-abbrev pub ReadsMoved : {T : Type 0}
+abbrev pub ReadsMovedWithWarnings : {T : Type 0}
     → (Node → Result T Errors → List ErrorContent → List ErrorContent → Type 0) → (State → State) → Option Node
     → State → Option T → State → List ErrorContent → List ErrorContent → Type 0
-ReadsMoved reads none moved before (Some x) after warnings more =
+ReadsMovedWithWarnings reads none moved before (Some x) after warnings more =
     (value : Node) × (moved ≡ Some value) × reads value (Ok x) warnings more × (after ≡ before)
-ReadsMoved reads none moved before None after warnings more = MatchOption moved
+ReadsMovedWithWarnings reads none moved before None after warnings more = MatchOption moved
     ((after ≡ none before) × (more ≡ warnings))
     (λ value. (faults : Errors) × reads value (Err faults) warnings more × (after ≡ keeping (all faults) before))
 
@@ -39,16 +39,16 @@ abbrev pub AsksWithWarnings : {T : Type 0}
     → (Node → Result T Errors → List ErrorContent → List ErrorContent → Type 0) → List ℕ → State
     → Result (Option T) AllocError → State → List ErrorContent → List ErrorContent → Type 0
 AsksWithWarnings reads name before (Ok field) after warnings more =
-    ReadsMoved reads (lacks name) (found name before) (noted name before) field after warnings more
-AsksWithWarnings reads name before (Err error) after warnings more = Starved name before after
+    ReadsMovedWithWarnings reads (lacks name) (found name before) (noted name before) field after warnings more
+AsksWithWarnings reads name before (Err error) after warnings more = AfterAllocError name before after
 
 -- `read_optional_with_warnings`: the element; or None if the name is missing, or after keeping the errors of the read
 abbrev pub TriesWithWarnings : {T : Type 0}
     → (Node → Result T Errors → List ErrorContent → List ErrorContent → Type 0) → List ℕ → State
     → Result (Option T) AllocError → State → List ErrorContent → List ErrorContent → Type 0
 TriesWithWarnings reads name before (Ok field) after warnings more =
-    ReadsMoved reads (λ s. s) (found name before) (noted name before) field after warnings more
-TriesWithWarnings reads name before (Err error) after warnings more = Starved name before after
+    ReadsMovedWithWarnings reads (λ s. s) (found name before) (noted name before) field after warnings more
+TriesWithWarnings reads name before (Err error) after warnings more = AfterAllocError name before after
 
 -- For each value there is one result, which the read allows for the value. The warnings are appended value by value.
 abbrev pub EachWithWarnings : {T : Type 0}

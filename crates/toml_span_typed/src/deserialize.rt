@@ -28,20 +28,20 @@ use toml_span_tree::{Error, Value};
 /// A type that can be read from a value.
 ///
 /// An implementation can state facts about its reads, for proofs about callers. `reads` relates the value before, the
-/// result (the read value or all errors) and the value after. `starved` says what is left of the value if an allocation
+/// result (the read value or all errors) and the value after. `after_alloc_error` says what is left of the value if an allocation
 /// fails. By default, both say nothing.
 pub trait Deserialize<'de>: Sized + Drop {
     ghost reads: { Node → Result Self Errors → Node → Type 0 } = { λ _ _ _. Unit {0} };
 
-    ghost starved: { Node → Node → Type 0 } = { λ _ _. Unit {0} };
+    ghost after_alloc_error: { Node → Node → Type 0 } = { λ _ _. Unit {0} };
 
     /// Reads the value. Callers must prove that nothing has been taken from it (`is_whole`). After the read, `value`
-    /// may have been taken: see `reads` and `starved`.
+    /// may have been taken: see `reads` and `after_alloc_error`.
     ///
     /// Fails with all errors, in the order in which they were found, or with `Stop::Memory` if an allocation fails.
     fn deserialize(alloc: Global, value: &mut Value<'de>) -> Result<Self, Stop<DeserError<'de>>>
         requires { IsTrue (is_whole (view value.old)) }
-        ensures { Answers reads starved (view value.old) result (view value.new) };
+        ensures { Answers reads after_alloc_error (view value.old) result (view value.new) };
 }
 
 /// Reads a value. If the read fails, appends its errors to `faults`, and returns `None`. If an allocation fails,

@@ -65,6 +65,9 @@ macro_rules! read_table {
             $($done)* $field [spanned] [$ty] [$($key)?] [$($how $(($($word)*))?,)*];
         ] $($rest)*)
     };
+    (@fields $read:tt [$($done:tt)*] $field:ident: $ty:ty = $key:literal, flatten; $($rest:tt)*) => {
+        compile_error!(concat!("`read_table!`: `", stringify!($field), "` has `flatten`, so it can't have a key"))
+    };
     (@fields $read:tt [$($done:tt)*] $field:ident: $ty:ty, flatten; $next:ident $($rest:tt)*) => {
         compile_error!(concat!("`read_table!`: `", stringify!($field), "` has `flatten`, so it must be the last field"))
     };
@@ -76,7 +79,7 @@ macro_rules! read_table {
         ] $($rest)*)
     };
     (@fields $read:tt [$($done:tt)*] $field:ident: $ty:ty $(= $key:literal)? $(, $($rest:tt)*)?) => {
-        compile_error!(concat!("`read_table!`: `", stringify!($field), "` must end with `;`, as each field"))
+        compile_error!(concat!("`read_table!`: `", stringify!($field), "` must end with `;`"))
     };
     (@fields $read:tt $fields:tt) => { $crate::read_table!(@table $read finish() $fields) };
     (@fields [$helper:ident, $value:expr, $warnings:tt, $table:tt] $fields:tt ..) => {
@@ -217,8 +220,8 @@ macro_rules! read_table {
         }
     };
     (@held [$helper:ident, $warnings:tt, $field:ident] $form:tt $ty:ty, $keys:tt $($words:tt)+) => {
-        compile_error!(concat!("`read_table!`: `", stringify!($field), "`: after `parsed` and `range(..)` may only be ",
-            "`or(value)`, and neither after a `Spanned` nor an `Option`"))
+        compile_error!(concat!("`read_table!`: `", stringify!($field), "`: only `or(value)` can follow `parsed` or ",
+            "`range(..)`, and only if the type is neither a `Spanned` nor an `Option`"))
     };
 
     // options that are not allowed here
@@ -235,22 +238,22 @@ macro_rules! read_table {
         $crate::read_table!(@badly $read "range(1..=9)`, with two literals, before `or(..)")
     };
     (@words $read:tt $form:tt [$ty:ty] $keys:tt or $($words:tt)*) => {
-        $crate::read_table!(@badly $read "or(value)`, as the last word; the field's type cannot be `Spanned")
+        $crate::read_table!(@badly $read "or(value)`, as the last option; the field's type can't be `Spanned")
     };
     (@words $read:tt $form:tt [$ty:ty] $keys:tt unique $($words:tt)*) => {
-        $crate::read_table!(@badly $read "unique(field)`, as the last word")
+        $crate::read_table!(@badly $read "unique(field)`, as the last option")
     };
     (@words $read:tt $form:tt [$ty:ty] $keys:tt optional $($words:tt)*) => {
-        $crate::read_table!(@badly $read "optional`, as the last word")
+        $crate::read_table!(@badly $read "optional`, as the last option")
     };
     (@words $read:tt $form:tt [$ty:ty] $keys:tt flatten $($words:tt)*) => {
-        $crate::read_table!(@badly $read "flatten`, as the only word")
+        $crate::read_table!(@badly $read "flatten`, as the only option")
     };
     (@words $read:tt $form:tt [$ty:ty] $keys:tt parsed $($words:tt)*) => {
         $crate::read_table!(@badly $read "parsed`, once, before `or(..)")
     };
     (@words $read:tt $form:tt [$ty:ty] $keys:tt with_warnings $($words:tt)*) => {
-        $crate::read_table!(@badly $read "with_warnings`, as the only word")
+        $crate::read_table!(@badly $read "with_warnings`, as the only option")
     };
     (@badly [$helper:ident, $warnings:tt, $field:ident] $form:literal) => {
         compile_error!(concat!("`read_table!`: `", stringify!($field), "`: write `", $form, "`"))

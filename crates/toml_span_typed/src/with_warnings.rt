@@ -6,7 +6,7 @@ ghost use Rattle.toml_span_tree.specs.Value.{is_whole, view};
 ghost use Rattle.toml_span_typed.specs.Errors.{Errors};
 ghost use Rattle.toml_span_typed.specs.Fields.{lacking};
 ghost use Rattle.toml_span_typed.specs.WithWarnings.{AnswersWithWarnings, Extends};
-ghost use Rattle.toml_span_typed.specs.code.WithWarnings.{ReadsOrKeeps};
+ghost use Rattle.toml_span_typed.specs.code.WithWarnings.{ReadsOrKeepsWithWarnings};
 
 mod lists;
 
@@ -46,7 +46,7 @@ pub(crate) fn read_or_keep<'de, T: DeserializeWithWarnings<'de>>(
     warnings: &mut Vec<Error<'de>>,
 ) -> Result<Option<T>, AllocError>
     requires { IsTrue (is_whole (view value)) }
-    ensures ok { IfOk result (λ element. ReadsOrKeeps T.reads (view value.entry) (map content_of faults.old.items)
+    ensures ok { IfOk result (λ element. ReadsOrKeepsWithWarnings T.reads (view value.entry) (map content_of faults.old.items)
         element (map content_of faults.new.items) (map content_of warnings.old.items)
         (map content_of warnings.new.items)) }
     ensures recorded { IfOk result (λ element. length (map content_of faults.old.items) + lacking element

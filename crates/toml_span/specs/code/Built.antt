@@ -15,7 +15,7 @@ use Rattle.toml_span.specs.Claims.{Claims}
 use Rattle.toml_span.specs.Ordered.{IsOrdered}
 use Rattle.toml_span.specs.code.Machine.{Cell, CellMap, no_cell, no_cells, key_spans, put_all, clash_found}
 use Rattle.toml_span.specs.code.Placing.{Array, NamesAscend, Table, place_shown}
-use Rattle.toml_span.specs.code.Tree.{is_named}
+use Rattle.toml_span_lex.specs.Key.{is_named}
 use Rattle.toml_span.specs.declared.claims.ClaimInfo.{ClaimInfo}
 use Rattle.toml_span.specs.declared.claims.HeaderInfo.{HeaderInfo}
 use Rattle.toml_span.specs.declared.claims.ClaimKind.{ClaimKind}

@@ -1,14 +1,12 @@
 -- What the tree under construction has at each path. The entries of a branch are the elements of an array of tables.
 use Rattle.std.specs.Prelude.{◌≡◌, ℕ, zero, suc, ◌⊎◌, Bool, true, false, List, [], ◌∷◌, length, Option, Some, None}
 use Rattle.std.specs.Prelude.{option_map}
-use Rattle.std.specs.Cow.{cow_str_bytes}
-use Rattle.std.specs.Ordering.{nat_cmp, is_eq}
-use Rattle.std.specs.Cmp.Lexicographic.{slice_cmp}
 use Rattle.std.specs.Box.{box_value}
 use Rattle.std.specs.List.{AllByRecursion}
 use Rattle.std.specs.Map.{lookup, lookup_entry}
 use Rattle.std.specs.BTreeMap.{BTreeMap}
 use Rattle.std.specs.Global.{Box}
+use Rattle.toml_span_lex.specs.Key.{is_named}
 use Rattle.toml_span_lex.specs.declared.key.Key.{Key}
 use Rattle.toml_span_lex.specs.declared.span.Span.{Span}
 use Rattle.toml_span_tree.specs.declared.value.Value.{Value}
@@ -25,10 +23,6 @@ use Rattle.toml_span.specs.declared.claims.ClaimKind.TheVariants.{Assigned, Arra
 use Rattle.toml_span.specs.code.ClaimInfos.{deciding}
 use Rattle.toml_span.specs.declared.claims.ClaimKind.{ClaimKind}
 use Rattle.toml_span.specs.Ordered.{IsOrdered}
-
--- whether the key has this name
-abbrev pub is_named : List ℕ → Key → Bool
-is_named name k = is_eq (slice_cmp nat_cmp name (cow_str_bytes k.name))
 
 abbrev pub infos : Branch → List ClaimInfo
 infos n = (out-Branch n).infos.items

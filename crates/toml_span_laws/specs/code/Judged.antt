@@ -2,7 +2,7 @@
 use Rattle.std.specs.Prelude.{◌≡◌, ◌≤◌, ◌+◌, ℕ, true, List, Result, Ok, Err, Option}
 use Rattle.std.specs.Str.{IsCharBoundary}
 use Rattle.toml_span_lex.specs.Bytes.{is_blank, is_keylike, MaximalRun}
-use Rattle.toml_span_lex.specs.Laws.{SomethingStands}
+use Rattle.toml_span_lex.specs.Laws.{HasTokenOrFault}
 use Rattle.toml_span_tree.specs.Node.{Scalar}
 use Rattle.toml_span_read.specs.declared.fault.Fault.{Fault}
 use Rattle.toml_span_read.specs.code.Gaps.{DotGives, TailGives}
@@ -21,7 +21,7 @@ EndsPast text i (Err fault) = Unit {0}
 
 -- Each form that can be read independently of others is present at i or absent.
 pub record Judged (text : List ℕ) (i : ℕ) : Type 0 where
-  pub stands : SomethingStands text i
+  pub stands : HasTokenOrFault text i
   pub gap : (j : ℕ) × MaximalGap text i j × Onto text i j
   pub blank : (j : ℕ) × MaximalRun is_blank text i j × Onto text i j
   pub run : (j : ℕ) × MaximalRun is_keylike text i j × Onto text i j

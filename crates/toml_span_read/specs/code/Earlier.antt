@@ -1,11 +1,9 @@
 -- The tree of earlier values, by which dotted keys are checked.
-use Rattle.std.specs.Prelude.{◌≡◌, ℕ, ◌<◌, ◌≤◌, Bool, List, [], ◌∷◌, ◌++◌, map, take, length, Result, Ok, Err, Option}
+use Rattle.std.specs.Prelude.{◌≡◌, ℕ, ◌<◌, ◌≤◌, List, [], ◌∷◌, ◌++◌, map, take, length, Result, Ok, Err, Option}
 use Rattle.std.specs.Prelude.{Some, None, unwrap_or}
-use Rattle.std.specs.Cow.{cow_str_bytes}
-use Rattle.std.specs.Ordering.{nat_cmp, is_eq}
-use Rattle.std.specs.Cmp.Lexicographic.{slice_cmp}
 use Rattle.std.specs.Map.{lookup}
 use Rattle.std.specs.declared.alloc.AllocError.{AllocError}
+use Rattle.toml_span_lex.specs.Key.{is_named}
 use Rattle.toml_span_lex.specs.declared.key.Key.{Key}
 use Rattle.toml_span_lex.specs.declared.span.Span.{Span}
 use Rattle.toml_span_lex.specs.declared.stop.Stop.{Stop}
@@ -17,10 +15,6 @@ use Rattle.toml_span_read.specs.Earlier.{value_at, crossing}
 use Rattle.toml_span_read.specs.declared.earlier.Earlier.{Earlier}
 use Rattle.toml_span_read.specs.declared.fault.Fault.{Fault}
 use Rattle.toml_span_read.specs.declared.value.Assignment.{Assignment}
-
--- whether the key has this name
-abbrev pub is_named : List ℕ → Key → Bool
-is_named name key = is_eq (slice_cmp nat_cmp name (cow_str_bytes key.name))
 
 -- the span stored at each path, if any
 abbrev pub Holds : Type 0

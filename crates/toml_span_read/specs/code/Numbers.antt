@@ -19,13 +19,13 @@ WithinGives n None = 2 ^ 64 ≤ n
 WithinGives n (Some m) = m ≡ n
 
 -- The text from i to j is a literal of this number.
-abbrev pub NumeralStands : List ℕ → ℕ → ℕ → Numeral → Type 0
-NumeralStands text i j n = IsNumber (scalar_of n (slice_range text i j)) text i j
+abbrev pub IsNumeral : List ℕ → ℕ → ℕ → Numeral → Type 0
+IsNumeral text i j n = IsNumber (scalar_of n (slice_range text i j)) text i j
 
 -- ---- runs, and where faults are
 
 -- From i to j all bytes are those of bare keys, and the byte at j is not.
-pub record Passes (text : List ℕ) (i j : ℕ) : Type 0 where
+pub record IsRun (text : List ℕ) (i j : ℕ) : Type 0 where
   pub forward : i ≤ j
   pub within : j ≤ length text
   pub passes : (k : ℕ) → i ≤ k → k < j → is_keylike (slice_index text k) ≡ true

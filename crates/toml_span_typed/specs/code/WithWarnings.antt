@@ -7,11 +7,11 @@ use Rattle.toml_span_typed.specs.Reads.{elements, errors}
 use Rattle.toml_span_typed.specs.WithWarnings.{EachWithWarnings}
 
 -- A value was read: its element is returned, or its errors were added to the errors. Its warnings were appended.
-abbrev pub ReadsOrKeeps : {T : Type 0}
+abbrev pub ReadsOrKeepsWithWarnings : {T : Type 0}
     → (Node → Result T Errors → List ErrorContent → List ErrorContent → Type 0) → Node → List ErrorContent
     → Option T → List ErrorContent → List ErrorContent → List ErrorContent → Type 0
-ReadsOrKeeps reads value faults (Some x) kept warnings more = reads value (Ok x) warnings more × (kept ≡ faults)
-ReadsOrKeeps reads value faults None kept warnings more =
+ReadsOrKeepsWithWarnings reads value faults (Some x) kept warnings more = reads value (Ok x) warnings more × (kept ≡ faults)
+ReadsOrKeepsWithWarnings reads value faults None kept warnings more =
     (refused : Errors) × reads value (Err refused) warnings more × (kept ≡ faults ++ all refused)
 
 -- The values were read, and these are the elements and the errors.

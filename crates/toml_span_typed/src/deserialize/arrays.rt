@@ -15,7 +15,7 @@ use toml_span_tree::{Error, Value, ValueInner};
 impl<'de, T: Deserialize<'de>> Deserialize<'de> for Vec<T> {
     ghost reads = { λ v r w. array_reads T.reads v (result_map (λ x. x.items) r) w };
 
-    ghost starved = { Taken };
+    ghost after_alloc_error = { Taken };
 
     fn deserialize(alloc: Global, value: &mut Value<'de>) -> Result<Vec<T>, Stop<DeserError<'de>>> {
         match value.take() {

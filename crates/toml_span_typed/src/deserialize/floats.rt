@@ -56,7 +56,7 @@ fn or_out_of_range<'s, T: Drop>(
 impl<'de> Deserialize<'de> for f64 {
     ghost reads = { Gives (read_number (codes "f64") binary64) };
 
-    ghost starved = { Never };
+    ghost after_alloc_error = { Never };
 
     fn deserialize(_alloc: Global, value: &mut Value<'de>) -> Result<f64, Stop<DeserError<'de>>> {
         match value.take() {
@@ -74,7 +74,7 @@ impl<'de> Deserialize<'de> for f64 {
 impl<'de> Deserialize<'de> for f32 {
     ghost reads = { Gives (read_number (codes "f32") binary32) };
 
-    ghost starved = { Never };
+    ghost after_alloc_error = { Never };
 
     fn deserialize(_alloc: Global, value: &mut Value<'de>) -> Result<f32, Stop<DeserError<'de>>> {
         match value.take() {

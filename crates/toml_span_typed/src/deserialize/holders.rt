@@ -16,7 +16,7 @@ use toml_span_tree::Value;
 impl<'de, T: Deserialize<'de>> Deserialize<'de> for Box<T> {
     ghost reads = { λ v r w. T.reads v (result_map (λ b. b.value) r) w };
 
-    ghost starved = { λ v w. T.starved v w ⊎ AsRead T.reads v w };
+    ghost after_alloc_error = { λ v w. T.after_alloc_error v w ⊎ AsRead T.reads v w };
 
     fn deserialize(alloc: Global, value: &mut Value<'de>) -> Result<Box<T>, Stop<DeserError<'de>>> {
         match T::deserialize(alloc, value) {
@@ -34,7 +34,7 @@ impl<'de, T: Deserialize<'de>> Deserialize<'de> for Box<T> {
 impl<'de, T: Deserialize<'de>> Deserialize<'de> for Option<T> {
     ghost reads = { AsSome T.reads };
 
-    ghost starved = { T.starved };
+    ghost after_alloc_error = { T.after_alloc_error };
 
     fn deserialize(
         alloc: Global,
@@ -48,7 +48,7 @@ impl<'de> Deserialize<'de> for char {
     ghost reads = { λ v r w. AsParsed ⟦<char as FromStr>⟧.from_str_gives ⟦<ParseCharError as Display>⟧.output v r
         × Taken v w };
 
-    ghost starved = { Taken };
+    ghost after_alloc_error = { Taken };
 
     fn deserialize(alloc: Global, value: &mut Value<'de>) -> Result<char, Stop<DeserError<'de>>> {
         parsed(alloc, value)
@@ -64,7 +64,7 @@ pub struct Parsed<T> {
 impl<'de, T: FromStr<Err = E> + Drop, E: Display + Drop> Deserialize<'de> for Parsed<T> {
     ghost reads = { λ v r w. AsParsed T.from_str_gives E.output v (result_map (λ p. p.value) r) × Taken v w };
 
-    ghost starved = { Taken };
+    ghost after_alloc_error = { Taken };
 
     fn deserialize(
         alloc: Global,

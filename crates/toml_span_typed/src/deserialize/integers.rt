@@ -43,7 +43,7 @@ fn narrowed<'s, T: TryFrom<i64, Error = TryFromIntError> + Drop>(
 impl<'de> Deserialize<'de> for u8 {
     ghost reads = { Gives (read_integer (codes "u8") (unsigned (2 ^ 8))) };
 
-    ghost starved = { Never };
+    ghost after_alloc_error = { Never };
 
     fn deserialize(_alloc: Global, value: &mut Value<'de>) -> Result<u8, Stop<DeserError<'de>>> {
         narrowed("u8", value)
@@ -53,7 +53,7 @@ impl<'de> Deserialize<'de> for u8 {
 impl<'de> Deserialize<'de> for u16 {
     ghost reads = { Gives (read_integer (codes "u16") (unsigned (2 ^ 16))) };
 
-    ghost starved = { Never };
+    ghost after_alloc_error = { Never };
 
     fn deserialize(_alloc: Global, value: &mut Value<'de>) -> Result<u16, Stop<DeserError<'de>>> {
         narrowed("u16", value)
@@ -63,7 +63,7 @@ impl<'de> Deserialize<'de> for u16 {
 impl<'de> Deserialize<'de> for u32 {
     ghost reads = { Gives (read_integer (codes "u32") (unsigned (2 ^ 32))) };
 
-    ghost starved = { Never };
+    ghost after_alloc_error = { Never };
 
     fn deserialize(_alloc: Global, value: &mut Value<'de>) -> Result<u32, Stop<DeserError<'de>>> {
         narrowed("u32", value)
@@ -73,7 +73,7 @@ impl<'de> Deserialize<'de> for u32 {
 impl<'de> Deserialize<'de> for u64 {
     ghost reads = { Gives (read_integer (codes "u64") (unsigned (2 ^ 64))) };
 
-    ghost starved = { Never };
+    ghost after_alloc_error = { Never };
 
     fn deserialize(_alloc: Global, value: &mut Value<'de>) -> Result<u64, Stop<DeserError<'de>>> {
         narrowed("u64", value)
@@ -83,7 +83,7 @@ impl<'de> Deserialize<'de> for u64 {
 impl<'de> Deserialize<'de> for usize {
     ghost reads = { Gives (read_integer (codes "usize") (unsigned (2 ^ 64))) };
 
-    ghost starved = { Never };
+    ghost after_alloc_error = { Never };
 
     fn deserialize(_alloc: Global, value: &mut Value<'de>) -> Result<usize, Stop<DeserError<'de>>> {
         narrowed("usize", value)
@@ -93,7 +93,7 @@ impl<'de> Deserialize<'de> for usize {
 impl<'de> Deserialize<'de> for i8 {
     ghost reads = { Gives (read_integer (codes "i8") (signed (2 ^ 7))) };
 
-    ghost starved = { Never };
+    ghost after_alloc_error = { Never };
 
     fn deserialize(_alloc: Global, value: &mut Value<'de>) -> Result<i8, Stop<DeserError<'de>>> {
         narrowed("i8", value)
@@ -103,7 +103,7 @@ impl<'de> Deserialize<'de> for i8 {
 impl<'de> Deserialize<'de> for i16 {
     ghost reads = { Gives (read_integer (codes "i16") (signed (2 ^ 15))) };
 
-    ghost starved = { Never };
+    ghost after_alloc_error = { Never };
 
     fn deserialize(_alloc: Global, value: &mut Value<'de>) -> Result<i16, Stop<DeserError<'de>>> {
         narrowed("i16", value)
@@ -113,7 +113,7 @@ impl<'de> Deserialize<'de> for i16 {
 impl<'de> Deserialize<'de> for i32 {
     ghost reads = { Gives (read_integer (codes "i32") (signed (2 ^ 31))) };
 
-    ghost starved = { Never };
+    ghost after_alloc_error = { Never };
 
     fn deserialize(_alloc: Global, value: &mut Value<'de>) -> Result<i32, Stop<DeserError<'de>>> {
         narrowed("i32", value)
@@ -123,7 +123,7 @@ impl<'de> Deserialize<'de> for i32 {
 impl<'de> Deserialize<'de> for i64 {
     ghost reads = { Gives (read_integer (codes "i64") (signed (2 ^ 63))) };
 
-    ghost starved = { Never };
+    ghost after_alloc_error = { Never };
 
     fn deserialize(_alloc: Global, value: &mut Value<'de>) -> Result<i64, Stop<DeserError<'de>>> {
         narrowed("i64", value)
@@ -133,7 +133,7 @@ impl<'de> Deserialize<'de> for i64 {
 impl<'de> Deserialize<'de> for isize {
     ghost reads = { Gives (read_integer (codes "isize") (signed (2 ^ 63))) };
 
-    ghost starved = { Never };
+    ghost after_alloc_error = { Never };
 
     fn deserialize(_alloc: Global, value: &mut Value<'de>) -> Result<isize, Stop<DeserError<'de>>> {
         narrowed("isize", value)

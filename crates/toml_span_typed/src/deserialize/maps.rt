@@ -20,7 +20,7 @@ use toml_span_tree::{Error, Table, Value, ValueInner};
 impl<'de, T: Deserialize<'de>> Deserialize<'de> for BTreeMap<String, T> {
     ghost reads = { λ v r w. table_reads T.reads v (result_map (λ m. map shown_pair m.entries) r) w };
 
-    ghost starved = { Taken };
+    ghost after_alloc_error = { Taken };
 
     fn deserialize(
         alloc: Global,
@@ -38,7 +38,7 @@ impl<'de, T: Deserialize<'de>> Deserialize<'de> for BTreeMap<String, T> {
 impl<'de, T: Deserialize<'de>> Deserialize<'de> for HashMap<String, T> {
     ghost reads = { hashed_reads T.reads };
 
-    ghost starved = { Taken };
+    ghost after_alloc_error = { Taken };
 
     fn deserialize(
         alloc: Global,

@@ -33,7 +33,7 @@ impl<
 > Deserialize<'de> for InRange<T, LOW, HIGH> {
     ghost reads = { λ v r w. in_range LOW HIGH T.Deserialize.reads v (result_map (λ n. n.value) r) w };
 
-    ghost starved = { λ v w. T.Deserialize.starved v w ⊎ Unchanged v w };
+    ghost after_alloc_error = { λ v w. T.Deserialize.after_alloc_error v w ⊎ Unchanged v w };
 
     fn deserialize(
         alloc: Global,

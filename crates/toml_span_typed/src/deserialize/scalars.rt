@@ -17,7 +17,7 @@ use toml_span_tree::{DateText, FloatText, Value, ValueInner};
 impl<'de> Deserialize<'de> for bool {
     ghost reads = { Gives read_boolean };
 
-    ghost starved = { Never };
+    ghost after_alloc_error = { Never };
 
     fn deserialize(_alloc: Global, value: &mut Value<'de>) -> Result<bool, Stop<DeserError<'de>>> {
         match value.take() {
@@ -30,7 +30,7 @@ impl<'de> Deserialize<'de> for bool {
 impl<'de> Deserialize<'de> for FloatText {
     ghost reads = { λ v r w. Gives read_float v (result_map float_value r) w };
 
-    ghost starved = { Never };
+    ghost after_alloc_error = { Never };
 
     fn deserialize(
         _alloc: Global,
@@ -46,7 +46,7 @@ impl<'de> Deserialize<'de> for FloatText {
 impl<'de> Deserialize<'de> for DateText<'de> {
     ghost reads = { λ v r w. Gives read_datetime v (result_map date_bytes r) w };
 
-    ghost starved = { Never };
+    ghost after_alloc_error = { Never };
 
     fn deserialize(
         _alloc: Global,
@@ -63,7 +63,7 @@ impl<'de> Deserialize<'de> for DateText<'de> {
 impl<'de> Deserialize<'de> for CowStr<'de> {
     ghost reads = { λ v r w. Gives read_string v (result_map cow_str_bytes r) w };
 
-    ghost starved = { Never };
+    ghost after_alloc_error = { Never };
 
     fn deserialize(
         _alloc: Global,
@@ -84,7 +84,7 @@ impl<'de> Deserialize<'de> for CowStr<'de> {
 impl<'de> Deserialize<'de> for String {
     ghost reads = { λ v r w. Gives read_string v (result_map string_bytes r) w };
 
-    ghost starved = { Unchanged };
+    ghost after_alloc_error = { Unchanged };
 
     fn deserialize(alloc: Global, value: &mut Value<'de>) -> Result<String, Stop<DeserError<'de>>> {
         match value.take() {

@@ -11,7 +11,7 @@ use toml_span_tree::Value;
 impl<'de, T: Deserialize<'de>> Deserialize<'de> for Spanned<T> {
     ghost reads = { spanned T.reads (λ s. s.value) (λ s. s.span) };
 
-    ghost starved = { T.starved };
+    ghost after_alloc_error = { T.after_alloc_error };
 
     fn deserialize(
         alloc: Global,

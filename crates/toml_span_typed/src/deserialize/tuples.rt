@@ -20,7 +20,7 @@ use toml_span_tree::{Error, ErrorKind, Value, ValueInner};
 impl<'de, A: Deserialize<'de>, B: Deserialize<'de>> Deserialize<'de> for (A, B) {
     ghost reads = { pair_reads A.reads B.reads };
 
-    ghost starved = { Taken };
+    ghost after_alloc_error = { Taken };
 
     #[tactic(auto, using(crate::proofs::Tuples::two_refused))]
     fn deserialize(alloc: Global, value: &mut Value<'de>) -> Result<(A, B), Stop<DeserError<'de>>> {

@@ -2,12 +2,12 @@
 ghost use Rattle.std.specs.Prelude.{◌≡◌, ◌⊎◌, ◌+◌, ◌≤◌, ◌++◌, IfOk, IfSome, IsTrue, OnErr, OnOk, Some, map, option_map};
 ghost use Rattle.toml_span_tree.specs.Error.{content_of};
 ghost use Rattle.toml_span_tree.specs.Value.{is_whole, view};
-ghost use Rattle.toml_span_typed.specs.Aliases.{AsksDeprecated, AsksEither, ReadsMoved, StarvedDeprecated};
-ghost use Rattle.toml_span_typed.specs.Aliases.{TriesDeprecated, TriesEither, Warns, again, asked_both};
+ghost use Rattle.toml_span_typed.specs.Aliases.{AsksDeprecated, AsksEither, ReadsMoved, AfterAllocErrorDeprecated};
+ghost use Rattle.toml_span_typed.specs.Aliases.{TriesDeprecated, TriesEither, Warns, duplicate_key_error, asked_both};
 ghost use Rattle.toml_span_typed.specs.Aliases.{asked_deprecated, either, entry_of, first_value, keeping_twice, lacks};
 ghost use Rattle.toml_span_typed.specs.Aliases.{newer, outdated, outdated_at, passed, twice};
 ghost use Rattle.toml_span_typed.specs.Fields.{kept, lacking};
-ghost use Rattle.toml_span_typed.specs.TableHelper.{AllWhole, Starved, noted, state_of};
+ghost use Rattle.toml_span_typed.specs.TableHelper.{AllWhole, AfterAllocError, noted, state_of};
 
 use crate::de_helpers::table_helper::{TableHelper, missing_field, remove};
 use crate::deserialize::{Deserialize, read_or_keep};
@@ -159,7 +159,7 @@ impl<'de> TableHelper<'de> {
         requires { AllWhole (state_of self.old) }
         ensures value { IfOk result (λ value. option_map view value ≡ either name.now old.now (state_of self.old)) }
         ensures state { OnOk result (state_of self.new ≡ asked_both name.now old.now (state_of self.old)) }
-        ensures err { OnErr result (Starved name.now (state_of self.old) (state_of self.new)
+        ensures err { OnErr result (AfterAllocError name.now (state_of self.old) (state_of self.new)
             ⊎ (state_of self.new ≡ noted old.now (noted name.now (state_of self.old)))) }
         ensures recorded { OnOk result (kept (state_of self.old) ≤ kept (state_of self.new)) }
         ensures good { IfOk result (λ value. IfSome value (λ v. IsTrue (is_whole (view v)))) }
@@ -183,7 +183,7 @@ impl<'de> TableHelper<'de> {
         ensures state { OnOk result (state_of self.new ≡ asked_deprecated name.now old.now (state_of self.old)) }
         ensures warned { OnOk result (map content_of warnings.new.items
             ≡ map content_of warnings.old.items ++ outdated name.now old.now (state_of self.old)) }
-        ensures err { OnErr result (StarvedDeprecated name.now old.now (state_of self.old) (state_of self.new)) }
+        ensures err { OnErr result (AfterAllocErrorDeprecated name.now old.now (state_of self.old) (state_of self.new)) }
         ensures unwarned { OnErr result (map content_of warnings.new.items ≡ map content_of warnings.old.items) }
         ensures recorded { OnOk result (kept (state_of self.old) ≤ kept (state_of self.new)) }
         ensures good { IfOk result (λ value. IfSome value (λ v. IsTrue (is_whole (view v)))) }
@@ -309,7 +309,7 @@ fn duplicate_key<'s>(
     span: Span,
     first: Span,
 ) -> Result<Error<'s>, AllocError>
-    ensures { IfOk result (λ error. content_of error ≡ again name.now span first) }
+    ensures { IfOk result (λ error. content_of error ≡ duplicate_key_error name.now span first) }
 {
     let key = String::from_str(alloc, name)?;
     Ok(Error::from((ErrorKind::DuplicateKey { key, first }, span)))

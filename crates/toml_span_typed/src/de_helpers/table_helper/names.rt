@@ -79,7 +79,7 @@ fn repeated_name<'s>(
     span: Span,
     before: Span,
 ) -> Result<Error<'s>, AllocError>
-    ensures { IfOk result (λ error. content_of error ≡ spec.again (name.now, span) before) }
+    ensures { IfOk result (λ error. content_of error ≡ spec.duplicate_name_error (name.now, span) before) }
 {
     let mut places = Vec::new(alloc);
     places.push((String::from_str(alloc, "also here")?, before))?;

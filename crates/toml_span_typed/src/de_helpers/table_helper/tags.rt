@@ -5,7 +5,7 @@ ghost use Rattle.toml_span_tree.specs.Value.{is_taken, view};
 ghost use Rattle.toml_span_typed.specs.Errors.{all};
 ghost use Rattle.toml_span_typed.specs.Fields.{kept, lacking};
 ghost use Rattle.toml_span_typed.specs.Rests.{ReadsRest, emptied, remaining};
-ghost use Rattle.toml_span_typed.specs.TableHelper.{AllWhole, Starved, missing, state_of};
+ghost use Rattle.toml_span_typed.specs.TableHelper.{AllWhole, AfterAllocError, missing, state_of};
 ghost use Rattle.toml_span_typed.specs.Reads.{Taken};
 ghost use Rattle.toml_span_typed.specs.Tags.{IsNameOf, IsUnexpected, among, asked_tag, keeping_tag, first_or, read_tag};
 ghost use Rattle.toml_span_typed.specs.code.Tags.{tag_result};
@@ -34,7 +34,7 @@ impl<'de> TableHelper<'de> {
         requires { AllWhole (state_of self.old) }
         ensures answer { IfOk result (λ tag. (option_map (λ t. t.now) tag, state_of self.new)
             ≡ asked_tag name.now (map (λ t. t.now) tags.now) (state_of self.old)) }
-        ensures starved { OnErr result (Starved name.now (state_of self.old) (state_of self.new)) }
+        ensures after_alloc_error { OnErr result (AfterAllocError name.now (state_of self.old) (state_of self.new)) }
         ensures recorded { IfOk result (λ tag. kept (state_of self.old) + lacking tag ≤ kept (state_of self.new)) }
         ensures whole { AllWhole (state_of self.new) }
     {

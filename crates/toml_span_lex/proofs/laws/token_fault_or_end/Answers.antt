@@ -1,6 +1,6 @@
 use Rattle.toml_span_lex.proofs.Common.{arith, inl}
 use Rattle.toml_span_lex.proofs.Standing.{found_stands, scanned_stands}
-use Rattle.toml_span_lex.proofs.laws.something_stands.Goals as goal
+use Rattle.toml_span_lex.proofs.laws.token_fault_or_end.Goals as goal
 
 pub returns-then-at-text : goal.returns-then-at-text
 returns-then-at-text c = inl (omega arith)

@@ -1,5 +1,5 @@
 use Rattle.toml_span_laws.proofs.Apart.{flat-apart, names-apart, tree-apart}
-use Rattle.toml_span_laws.proofs.parse.keys_stand_apart.Goals as goal
+use Rattle.toml_span_laws.proofs.parse.key_starts_differ.Goals as goal
 
 pub returns : goal.returns
 returns c = record { flat = flat-apart; names = names-apart; tree = tree-apart }
