@@ -1,6 +1,6 @@
--- Which strings and keys of a tree are borrowed: those that equal the text at the span where they are written, empty
--- single-line strings, and no others. A string is written at its span. A key is written where its path is first
--- claimed: a table or an array keeps that name, even if a later claim determines the span of its key.
+-- Which strings and keys of a tree are borrowed. A string or key is borrowed if and only if it equals the text at the
+-- span where it is written, or is an empty single-line string. A string is written at its span. A key is written where
+-- its path is first claimed: a table or an array keeps that name, even if a later claim determines the span of its key.
 use Rattle.std.specs.Global.{Global}
 use Rattle.std.specs.declared.borrow.CowStr.{CowStr}
 use Rattle.std.specs.Prelude.{ℕ, suc, List, [], ◌∷◌, ◌++◌, Option, Some, option_map, IsSomeAnd, filter}
@@ -59,7 +59,7 @@ strings_and_keys = fold-Value (Span → StringsAndKeys) StringsAndKeys inner_str
 
 -- ---- what is borrowed
 
--- for each path, the span of the key in the first claim on it
+-- for each path, the span of the key in the first claim on the path
 abbrev pub first_key : Claims → KeySpans
 first_key cs p = option_map (λ c. c.info.key) (slice_get (filter (λ c. same_path c.path p) (all_claims cs)) 0)
 

@@ -48,7 +48,7 @@ abbrev pub key_span_of : ClaimKind → Span → Option Span
 key_span_of TableElement key = None
 key_span_of _ key = Some key
 
--- The claim on p of a table or of an array of tables, made by the part k of a header or key. A header that passes
+-- The claim that p is a table or an array of tables, made by the part k of a header or key. A header that passes
 -- through an element of an array of tables never determines the element's place, because the element's own claim comes
 -- first.
 abbrev pub table_claim : Path → SimpleKey → ClaimInfo → Claim
@@ -66,7 +66,8 @@ value_shape (parsed (scalar s) span) = shape_scalar s
 value_shape (parsed (array vs) span) = shape_array
 value_shape (parsed (inline ps) span) = shape_table
 
--- the info of a claim that an assignment makes: the span of the part of its key, and the span of its value
+-- the info of a claim that an assignment or an array element makes, with the span of the part of the key (for an
+-- element, the span of the element) and the span of the value
 abbrev pub pair_info : ClaimKind → Span → Span → ClaimInfo
 pair_info kind key span = record { kind = kind; key = key; line = span; extent = span }
 
@@ -143,9 +144,9 @@ abbrev pub array_claims : HeaderInfo → Path → SimpleKey → ℕ → Claims �
 array_claims h p k zero rest = claimed (header_claim h ArrayOfTables p k) rest
 array_claims h p k (suc n) rest = rest
 
--- The claims of the last part k of a header, which names the path p. With single brackets, this is the claim of a
--- table. With double brackets, it is the claim of the element at position n, where n is the number of elements that the
--- array of tables at p has so far. If n is 0, the claim of the array itself comes first.
+-- The claims of k, the last part of a header whose path is p. With single brackets, this is the claim of a table. With
+-- double brackets, it is the claim of the element at position n, where n is the number of elements that the array of
+-- tables at p has so far. If n is 0, the claim of the array itself comes first.
 unfoldable pub end_claims : HeaderInfo → Path → SimpleKey → ℕ → Claims
 end_claims h p k n =
     if h.array
@@ -168,7 +169,7 @@ section_claims counts b =
     followed (header_claims counts (header_info b) [] b.header)
     (assignments_claims b.assignments (section_path counts b))
 
--- The claims of sections that follow the sections `earlier`, of which the latest comes first in the list.
+-- The claims of sections that follow the sections `earlier`. The list `earlier` has the latest section first.
 unfoldable pub claims_after : List ParsedSection → List ParsedSection → Claims
 claims_after earlier [] = no_claims
 claims_after earlier (b ∷ bs) =

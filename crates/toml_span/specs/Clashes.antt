@@ -1,5 +1,5 @@
--- Which claims clash, and how a clash is reported. Only claims in the same scope clash; the scopes are the document and
--- each inline table.
+-- Which claims clash, and how a clash is reported. Only claims in the same scope clash; the scopes are the document,
+-- each inline table, and each array in brackets.
 use Rattle.std.specs.Prelude.{◌≡◌, ℕ, if◌then◌else◌, List, [], ◌∷◌, ◌++◌, Option, Some, None, option_map}
 use Rattle.std.specs.Option.{option_or}
 use Rattle.toml_span_tree.specs.Error.{Kind, duplicate_table, duplicate_key, redefine_as_array, ErrorContent}
@@ -38,8 +38,8 @@ clash_kind Assigned Dotted = Some DuplicateKey
 clash_kind Assigned Assigned = Some DuplicateKey
 clash_kind _ _ = None
 
--- the clash of two claims, whose kind is given: with the spans of the two keys for `DuplicateKey`, otherwise with those
--- of the two header lines
+-- the clash of this kind between two claims: with the spans of the two keys for `DuplicateKey`, otherwise with those of
+-- the two header lines
 abbrev pub clash_info : ClaimInfo → ClaimInfo → ClashKind → ClashInfo
 clash_info earlier later DuplicateTable = record { kind = DuplicateTable; first = earlier.line; span = later.line }
 clash_info earlier later DuplicateKey = record { kind = DuplicateKey; first = earlier.key; span = later.key }

@@ -1,4 +1,4 @@
--- Trees in which the names in each table ascend, so that none occurs twice.
+-- Trees in which the names in each table ascend, and trees in which no name occurs twice in a table.
 use Rattle.std.specs.Prelude.{◌≡◌, ⊤, ℕ, List, None}
 use Rattle.std.specs.Cmp.Lexicographic.{slice_cmp}
 use Rattle.std.specs.Ordering.{nat_cmp}

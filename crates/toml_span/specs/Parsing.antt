@@ -1,4 +1,4 @@
--- What `parse` returns.
+-- What `parse` and `parse_with_limit` return.
 use Rattle.std.specs.Prelude.{◌≡◌, ⊤, ℕ, ◌⊎◌, List, Some, None, Result, Ok, Err, length}
 use Rattle.toml_span_lex.specs.declared.stop.Stop.{Stop}
 use Rattle.toml_span_lex.specs.declared.stop.Stop.TheVariants as stops

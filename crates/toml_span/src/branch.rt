@@ -1,4 +1,4 @@
-//! The tree under construction.
+//! The tree under construction, and its conversion to the finished tree.
 ghost use Rattle.std.specs.Prelude.{◌≡◌, [], IfSome, IsOk};
 ghost use Rattle.toml_span.specs.Flat as kept;
 ghost use Rattle.toml_span.specs.code.ClaimInfos as code;

@@ -15,7 +15,7 @@ use toml_span_tree::{Error, ErrorKind};
 
 // Toolchain: `SmallVec` fills unused slots with defaults ("the trait bound `Key: Default` is not satisfied"), so `Key`,
 // `ClaimInfo` and `ClaimKind` have a default.
-/// The kind of a claim: what a header or key declares a path to be.
+/// The kind of a claim: what a header, key or element declares a path to be.
 #[derive(Clone, Copy, Default)]
 pub enum ClaimKind {
     /// A table through which a header passes: `a` in `[a.b]`.
@@ -37,10 +37,11 @@ pub enum ClaimKind {
 #[derive(Clone, Copy, Default)]
 pub struct ClaimInfo {
     pub kind: ClaimKind,
-    /// The span of the part of the header or key that makes the claim.
+    /// The span of the part of the header or key that makes the claim. For an element of an array in brackets, the span
+    /// of the element.
     pub key: Span,
-    /// The line of the header, from its first bracket to the end of the line, including the line end. For a part of an
-    /// assignment's key, the span of the value, which no clash reports.
+    /// The line of the header, from its first bracket to the end of the line, including the line end. For a claim that
+    /// no header makes, the span of the value, which no clash reports.
     pub line: Span,
     /// The span that the table, array or value at the path has if this claim determines it: that of the header's
     /// section or of the assigned value.
@@ -61,10 +62,10 @@ pub struct HeaderInfo {
 /// The kinds of clashes.
 #[derive(Clone, Copy)]
 pub enum ClashKind {
-    /// A table is defined by two headers, at least one of them in single brackets.
+    /// Two headers name the same path, at least one of them in single brackets.
     DuplicateTable,
-    /// A path is assigned twice, is both assigned and a table or array of tables, or is both created by a dotted key
-    /// and opened by a header.
+    /// A path is assigned twice. Or it is assigned, and is also a table or array of tables. Or a header names it, and a
+    /// dotted key passes through it.
     DuplicateKey,
     /// A table that an earlier header passes through is defined as an array of tables.
     RedefineAsArray,
@@ -103,7 +104,7 @@ pub struct ClashInfo {
     pub span: Span,
 }
 
-/// Returns the clash of two claims, whose kind is `kind`. Its spans are those of the two keys for a `DuplicateKey`,
+/// Returns the clash of the kind `kind` between two claims. Its spans are those of the two keys for a `DuplicateKey`,
 /// otherwise those of the two header lines.
 fn clash_info_of(earlier: ClaimInfo, later: ClaimInfo, kind: ClashKind) -> ClashInfo
     ensures { result ≡ clashes.clash_info earlier later kind }
@@ -166,8 +167,8 @@ impl Clash {
     }
 }
 
-/// Why a section could not be placed: an allocation failed, or two claims clash. The clash is boxed to keep results
-/// small.
+/// Why a section, an assignment or a value could not be placed: an allocation failed, or two claims clash. The clash is
+/// boxed to keep results small.
 pub type PlaceError = Stop<Box<Clash>>;
 
 /// The first claim of each kind on a branch, in the order of the text. The others are not needed, since whether two

@@ -1,4 +1,4 @@
-//! Parses a document into a tree.
+//! Parses a text into a tree.
 ghost use Rattle.std.specs.Prelude.{◌≡◌, ◌≤◌, ℕ, List, true, IfOk, IfErr, IsOk, length};
 ghost use Rattle.toml_span_lex.specs.Text.{FirstPlace};
 ghost use Rattle.toml_span_read.specs.code.Faults.{IsPlacedStop};
@@ -21,7 +21,7 @@ use toml_span_read::fault::{Fault, error_of};
 use toml_span_read::{read_first, read_section};
 use toml_span_tree::{Error, Value};
 
-/// The limit of `parse` on the depth of values and on the number of parts of a key.
+/// The limit of `parse` on the depth of values and on the number of parts of a key or header.
 const LIMIT: usize = 128;
 
 /// Reads the sections of `text` into an assembly. `limit` is as in `parse_with_limit`. Fails with the first fault. A
@@ -75,9 +75,9 @@ fn tree_of<'de>(assembly: Assembly<'de>, text: &'de str) -> Result<Value<'de>, S
 
 /// Parses a TOML 1.1 document into a tree. Does the same as `parse_with_limit` with the limit 128.
 ///
-/// Fails with the first fault, that is, the first thing in the text that can't be read. If the text has no fault, fails
-/// with the first clash of two keys or headers, such as a table that is defined twice. Fails with `Stop::Memory` if an
-/// allocation fails.
+/// Fails with the first fault, that is, the first thing in the text that can't be read. If the text has no fault, but
+/// keys or headers clash, fails with the first clash, such as a table that is defined twice. Fails with `Stop::Memory`
+/// if an allocation fails.
 pub fn parse<'de>(alloc: Global, s: &'de str) -> Result<Value<'de>, Stop<Error<'de>>>
     ensures answers { IsParseResult s.now depth_limit result }
     ensures root { IfOk result (IsRoot (length s.now)) }

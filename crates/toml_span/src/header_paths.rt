@@ -14,7 +14,7 @@ use toml_span_lex::key::Key;
 use toml_span_tree::{Array, Table, Value, ValueInner};
 
 /// Places `value`, the table of a section, in `table` at the path `parts`, the remaining parts of the section's header.
-/// `array` says whether the header has double brackets.
+/// If the header has double brackets (`array`), `value` becomes an element of the array at that path.
 ///
 /// Returns `None` if `parts` is empty, or if the path goes through anything except tables that headers made. Also
 /// returns `None` if the path has a value already, unless the header appends an element to that value, or if an
@@ -55,9 +55,9 @@ pub(crate) fn place_table<'de>(
     }
 }
 
-/// Places `value`, the table of a section, at the path `rest` below `child`, a value that headers made. If `rest` is
-/// empty, appends `value` to the array `child`. Returns `None` in the same cases as `place_table`; the contents of
-/// `child` are then unspecified.
+/// Places `value`, the table of a section, in `child`, a value that headers made: in a table, at the path `rest`; in an
+/// array, as the last element, if `rest` is empty and `array` is true. Returns `None` in all other cases, or where
+/// `place_table` does; the contents of `child` are then unspecified.
 #[cycle(header_paths)]
 fn pass_value<'de>(
     alloc: Global,

@@ -31,7 +31,7 @@ pub mod de_helpers {
     };
 }
 
-/// Spans: ranges of bytes in a text.
+/// Spans, which are ranges of bytes in a text, and values with spans.
 pub mod span {
     pub use toml_span_lex::span::Span;
     pub use toml_span_lex::spanned::Spanned;

@@ -1,5 +1,5 @@
 //! Parses a plain document in one pass. A plain document is valid, and each of its headers opens a new table or appends
-//! an element to an array of tables. The path of the header leads only through tables that headers created.
+//! an element to an array of tables. The path of each header leads only through tables that headers created.
 ghost use Rattle.std.specs.Prelude.{◌≡◌, ◌≤◌, length, slice_index, IfSome};
 ghost use Rattle.toml_span_lex.specs.Bytes.{left_bracket};
 ghost use Rattle.toml_span_read.specs.Data.{depth_limit};
@@ -18,7 +18,8 @@ use toml_span_tree::{Table, Value, ValueInner};
 /// Reads the section whose header is at `at`, and places its table in `root`. Returns the offset of the next header, or
 /// of the end of the text.
 ///
-/// Returns `None` in the same cases as `plain_tree`; the contents of `root` are then unspecified.
+/// Returns `None` if the section shows that the document is not plain, or if an allocation fails; the contents of
+/// `root` are then unspecified.
 fn add_section<'de>(
     alloc: Global,
     text: &'de str,
@@ -52,7 +53,7 @@ fn add_section<'de>(
 
 /// Parses a plain document in one pass. `limit` is as in `parse_with_limit`.
 ///
-/// Returns `None` if the document is not plain or if an allocation fails. `parse_with_limit` then parses the document
+/// Returns `None` if `text` is not a plain document, or if an allocation fails. `parse_with_limit` then parses `text`
 /// in the general way.
 pub(crate) fn plain_tree<'de>(alloc: Global, text: &'de str, limit: usize) -> Option<Value<'de>>
     requires some { 1 ≤ limit }

@@ -1,4 +1,4 @@
-//! Places the assignments of a section or of an inline table below a branch of the tree under construction.
+//! Places assignments below a branch of the tree under construction, and converts their values.
 ghost use Rattle.std.specs.Prelude.{◌≡◌, ⊤, ℕ, List, map, [], IfOk, Some};
 ghost use Rattle.std.specs.Cow.{cow_str_bytes};
 ghost use Rattle.toml_span_tree.specs.Value.{inner_view};
@@ -166,7 +166,7 @@ fn assign_pending<'de>(
     }
 }
 
-/// Assigns the pending value in the branch to which `inner`, the parts of a dotted key before the last, lead from
+/// Assigns the pending value in the branch to which `inner`, the remaining parts of a key before the last, lead from
 /// `node`. `span` is the span of the value. Fails with the first clash; `node` is then incomplete.
 #[cycle(place_pair)]
 #[inline(always)]

@@ -1,4 +1,4 @@
-//! Places sections, one after another, in the tree under construction.
+//! Places sections, one after another, in the tree under construction, and finishes the tree.
 ghost use Rattle.std.specs.Prelude.{◌≡◌, ℕ, List, map, [], ◌∷◌, ◌++◌, IfOk, IfErr, IfSome, IsOk, IsOkAnd, None, OnOk};
 ghost use Rattle.toml_span_read.specs.Borrowed.{assignments_written, section_written, AreWrittenRight};
 ghost use Rattle.toml_span_read.specs.Data.{ParsedSection, parsed_section, simple_key as part_of};
@@ -39,7 +39,7 @@ fn part_info(head: HeaderInfo, kind: ClaimKind, key: &Key<'_>) -> ClaimInfo
     }
 }
 
-/// Returns the kind of claim that a part of a header makes. `rest` are the parts after it.
+/// Returns the kind of the claim with which a part of a header creates a branch. `rest` are the parts after it.
 fn claim_kind(head: HeaderInfo, rest: &[Key<'_>]) -> ClaimKind
     ensures { result ≡ part_kind head (map part_of rest.now) }
 {
@@ -52,8 +52,8 @@ fn claim_kind(head: HeaderInfo, rest: &[Key<'_>]) -> ClaimKind
     }
 }
 
-/// Places a section with the assignments `pairs` in the branch to which `parts`, the remaining parts of its header,
-/// lead from `node`. Fails with the first clash; `node` is then incomplete.
+/// Places a section with the assignments `pairs` where `parts`, the remaining parts of its header, lead from `node`.
+/// Fails with the first clash; `node` is then incomplete.
 #[cycle(place_section)]
 #[inline(always)]
 fn place_section<'de>(
@@ -194,9 +194,9 @@ fn add_entry<'de>(
     Ok(())
 }
 
-/// Claims `node`, which the last part of the header names, as a table or, if the header has double brackets, as an
-/// array of tables. Places the section's assignments in the table, or in a new element of the array. Fails with the
-/// first clash; `node` is then incomplete.
+/// Claims `node`, which `part`, the last part of the header, names, as a table. If the header has double brackets,
+/// claims it as an array of tables instead, unless it already has elements. Places the section's assignments in the
+/// table, or in a new element of the array. Fails with the first clash; `node` is then incomplete.
 #[inline(never)]
 fn end_header<'de>(
     alloc: Global,
@@ -296,7 +296,7 @@ pub(crate) fn add_section<'de>(
     }
 }
 
-/// Returns the assembly of the section before the first header, or an empty assembly if `first` is `None`.
+/// Returns the assembly of `first`, the section before the first header, or an empty assembly if `first` is `None`.
 pub(crate) fn begin<'de>(
     alloc: Global,
     first: Option<Section<'de>>,
@@ -317,8 +317,8 @@ pub(crate) fn begin<'de>(
     }
 }
 
-/// Returns the finished root. Its span is 0..`length`, where `length` is the length of the document in bytes. Fails
-/// with the first clash.
+/// Returns the finished root. Its span is 0..`length`, where `length` is the length of the text in bytes. If the
+/// assembly has a clash, fails with that clash.
 pub(crate) fn finish<'de>(assembly: Assembly<'de>, length: usize) -> Result<Value<'de>, PlaceError>
     ensures assembles { (bs : List ParsedSection) → IsAssemblyOf bs assembly.entry → Assembles bs length result }
     ensures root { IfOk result (IsRoot length) }

@@ -51,16 +51,18 @@ assignment_again v i j =
       extent = record { start = 0; end = (j + 4) - i };
     }
 
--- The text from i to j spells the value again: `x = ` followed by this text is a document of only that assignment.
+-- The text from i to j spells the value again: `x = ` followed by this text is a document whose only assignment is
+-- `assignment_again`.
 abbrev pub SpellsAgain : ParsedValue → List ℕ → ℕ → ℕ → ℕ → Type 0
 SpellsAgain v t limit i j =
     SpellsDocument (headerless_section (assignment_again v i j ∷ [])) (assigned_again t i j) limit
 
--- The text at the span of the value spells it again.
+-- The text at the span of the value spells the value again.
 abbrev pub ReadsAgain : List ℕ → ℕ → ParsedValue → Type 0
 ReadsAgain t limit v = SpellsAgain v t limit (parsed_span v).start (parsed_span v).end
 
--- The text at the span of the scalar spells it again. Strings are left out, because their spans exclude the quotes.
+-- The text at the span of the scalar spells the scalar again. For a string, nothing is claimed, because its span
+-- excludes the quotes.
 abbrev pub ScalarReadsAgain : List ℕ → ℕ → Scalar → Span → Type 0
 ScalarReadsAgain t limit (text value) span = Unit {0}
 ScalarReadsAgain t limit (integer n) span = ReadsAgain t limit (parsed (scalar (integer n)) span)
@@ -68,7 +70,8 @@ ScalarReadsAgain t limit (float x) span = ReadsAgain t limit (parsed (scalar (fl
 ScalarReadsAgain t limit (boolean b) span = ReadsAgain t limit (parsed (scalar (boolean b)) span)
 ScalarReadsAgain t limit (datetime d) span = ReadsAgain t limit (parsed (scalar (datetime d)) span)
 
--- A value and all values in it are spelled again by the text at their spans, except for strings.
+-- The text at the span of the value spells the value again, unless the value is a string. The same holds for each
+-- value in it.
 abbrev mutual
   pub AllReadAgain : List ℕ → ℕ → ParsedValue → Type 0
   AllReadAgain t limit (parsed k span) = InnerReadAgain t limit k span
@@ -86,7 +89,7 @@ abbrev mutual
   PairsReadAgain t limit no_pairs = Unit {0}
   PairsReadAgain t limit (pair parts v extent ps) = AllReadAgain t limit v × PairsReadAgain t limit ps
 
--- The same for the values of these assignments, and of these sections.
+-- `AllReadAgain` holds for the value of each assignment; `SectionsReadAgain` says the same for sections.
 abbrev pub AssignmentsReadAgain : List ℕ → ℕ → List ParsedAssignment → Type 0
 AssignmentsReadAgain t limit [] = Unit {0}
 AssignmentsReadAgain t limit (e ∷ es) = AllReadAgain t limit e.value × AssignmentsReadAgain t limit es
@@ -101,9 +104,10 @@ SectionsReadAgain t limit (b ∷ bs) = AssignmentsReadAgain t limit b.assignment
 abbrev pub with_part : List ℕ → ℕ → ℕ → List ℕ → List ℕ
 with_part t i j part = take i t ++ (part ++ drop j t)
 
--- The text from i to j is this scalar, with this span. Suppose that a part that is read as some value wherever it
--- occurs replaces the scalar. Then the part is read there as that value, from its first byte to its last. Each value
--- that is spelled after the scalar is spelled in the new text too, with its spans moved.
+-- The text from i to j is this scalar, with this span. If a part that is read as the value n wherever it occurs
+-- replaces the scalar, the part is read there as n, from its first byte to its last. `ReadsAsValue` says what n must
+-- fulfil. Whatever replaces the scalar, each value that is spelled after it is spelled in the new text too, with its
+-- spans moved.
 pub record CanBeReplaced (t : List ℕ) (s : Scalar) (span : Span) : Type 0 where
   pub i : ℕ
   pub j : ℕ
@@ -125,7 +129,7 @@ ReadsAsScalar s part =
 
 -- ---- forms that are spelled
 
--- The text is a document of one assignment, whose key is one part with this name, and which has this value.
+-- The text is a document of one assignment. Its key is one part with this name, and its value equals n.
 abbrev pub SpellsAssignment : List ℕ → Node → List ℕ → ℕ → Type 0
 SpellsAssignment name n t limit =
     (e : ParsedAssignment) × SpellsDocument (headerless_section (e ∷ [])) t limit × (part_names e.parts ≡ name ∷ [])

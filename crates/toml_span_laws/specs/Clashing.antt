@@ -13,8 +13,8 @@ IsIn c (d ∷ ds) = (c ≡ d) ⊎ IsIn c ds
 abbrev pub DoClash : Claim → Claim → Type 0
 DoClash c d = (t : NamedClash) × (clash c d ≡ Some t)
 
--- The claim d clashes with c, an earlier claim of its scope. The list has the claims that came before in the outer
--- scope.
+-- The claim d clashes with c, an earlier claim of its scope. `earlier` has the claims of the outer scope that come
+-- before the given `Claims`.
 abbrev pub IsPair : List Claim → Claims → Claim → Claim → Type 0
 IsPair earlier no_claims c d = ⊥
 IsPair earlier (claimed x cs) c d = ((d ≡ x) × IsIn c earlier × DoClash c d) ⊎ IsPair (earlier ++ (x ∷ [])) cs c d
@@ -29,7 +29,7 @@ pub record IsFirstPair (earlier : List Claim) (cs : Claims) (c d : Claim) : Type
 
 -- ---- claims of one scope
 
--- the claims of the outer scope
+-- the claims of the outer scope, without those of inner scopes
 abbrev pub own : Claims → List Claim
 own no_claims = []
 own (claimed c cs) = c ∷ own cs

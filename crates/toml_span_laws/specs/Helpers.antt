@@ -43,8 +43,9 @@ abbrev pub ReadsPart : {T : Type 0} → (Node → Result T Errors → Node → T
     → Type 0
 ReadsPart reads places answer = (value : Node) × (left : Node) × IsValueOf places value × reads value answer left
 
--- `required`, where `places` are those of the table without the names recorded before: the element that is read from
--- the value at the key; or `MissingField` if the key is missing; or the last error of the read, after keeping them all
+-- `required`, where `places` are those of the table without the names recorded before: what is read from the value at
+-- the key; or, if the key is missing, `MissingField`; or, if the read fails, its last error. All errors are kept. For a
+-- failed allocation, see `AfterAllocError`.
 abbrev pub RequiresAt : {T : Type 0} → (Node → Result T Errors → Node → Type 0) → List ℕ → (Path → Option Place) → State
     → Result T (Stop Error) → State → Type 0
 RequiresAt reads name places before (Ok x) after =
@@ -55,8 +56,8 @@ RequiresAt reads name places before (Err (stop.Fault error)) after = MatchOption
     × (content_of error ≡ faults.last) × (after ≡ keeping (all faults) (noted name before)))
 RequiresAt reads name places before (Err (stop.Memory error)) after = AfterAllocError name before after
 
--- `optional`: the element that is read from the value at the key; or None if the key is missing, and then no error is
--- kept; or None after keeping all errors of the read
+-- `optional`, where `places` are as in `RequiresAt`: what is read from the value at the key; or, if the key is missing,
+-- None; or, if the read fails, None, and all its errors are kept. For a failed allocation, see `AfterAllocError`.
 abbrev pub TriesAt : {T : Type 0} → (Node → Result T Errors → Node → Type 0) → List ℕ → (Path → Option Place) → State
     → Result (Option T) AllocError → State → Type 0
 TriesAt reads name places before (Ok (Some x)) after =

@@ -1,4 +1,4 @@
--- Definitions that the laws cite.
+-- The number of keys in a path, where strings are in a text, and values that the text at their spans spells again.
 use Rattle.std.specs.Prelude.{◌≡◌, ⊤, ℕ, suc, ◌+◌, Bool, List, [], ◌∷◌}
 use Rattle.toml_span_lex.specs.declared.span.Span.{Span}
 use Rattle.toml_span_lex.specs.Strings.{IsString, IsEmptyOnOneLine}
@@ -16,8 +16,8 @@ keys_in [] = 0
 keys_in (key name ∷ p) = suc (keys_in p)
 keys_in (position i ∷ p) = keys_in p
 
--- The text from i to j is a string with this value. The span is that of the string's content (`CutsContent`) or, for an
--- empty single-line string, the first quote.
+-- The text has a string with this value, from i to j. The span is that of the string's content (`CutsContent`) or, for
+-- an empty single-line string, the first quote.
 pub record ShowsString (text value : List ℕ) (span : Span) : Type 0 where
   pub i : ℕ
   pub j : ℕ
@@ -27,7 +27,7 @@ pub record ShowsString (text value : List ℕ) (span : Span) : Type 0 where
   pub content : (IsEmptyOnOneLine i j → ⊥) → CutsContent text i j span value multi
   pub opening : IsEmptyOnOneLine i j → (value ≡ []) × (span ≡ record { start = i; end = i + 1 })
 
--- The text at the span of the value is read as that value again. Strings are left out.
+-- The text at the span of the value spells it again (`ReadsAgain`). For a string, nothing is claimed.
 abbrev pub ValueReadsAgain : List ℕ → ℕ → read.ParsedValue → Type 0
 ValueReadsAgain text limit (read.parsed (read.scalar s) span) = ScalarReadsAgain text limit s span
 ValueReadsAgain text limit (read.parsed (read.array items) span) =
@@ -35,8 +35,8 @@ ValueReadsAgain text limit (read.parsed (read.array items) span) =
 ValueReadsAgain text limit (read.parsed (read.inline pairs) span) =
     ReadsAgain text limit (read.parsed (read.inline pairs) span)
 
--- For each claim that assigns a value: the text at the span of the value is read as that value again, and the claims
--- that follow directly are those inside the value.
+-- For each claim that assigns a value: the text at the span of the value spells it again (`ValueReadsAgain`), and the
+-- claims that follow directly are those inside the value.
 abbrev pub AssignsAgain : List ℕ → ℕ → Claims → Type 0
 AssignsAgain text limit no_claims = ⊤
 AssignsAgain text limit (claimed c cs) =

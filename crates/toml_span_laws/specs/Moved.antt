@@ -17,8 +17,8 @@ abbrev pub moved_place : ℕ → ℕ → Place → Place
 moved_place from to x =
     record { shape = x.shape; key_span = option_map (moved_span from to) x.key_span; span = moved_span from to x.span }
 
--- The places at the path and below are also at the other path of the other document, with their spans moved, also those
--- of keys.
+-- At the path `other`, and below, `others` has exactly the places that `places` has at `path` and below, with all spans
+-- moved, those of keys included.
 abbrev pub HasMovedPlaces : ℕ → ℕ → (Path → Option Place) → Path → (Path → Option Place) → Path → Type 0
 HasMovedPlaces from to places path others other =
     (p : Path) → subtree others other p ≡ option_map (moved_place from to) (subtree places path p)

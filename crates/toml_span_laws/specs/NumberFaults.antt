@@ -9,7 +9,7 @@ use Rattle.toml_span_read.specs.Numerals.{invalid_number}
 
 -- ---- the parts of a literal
 
--- The first run of the number at i is from a to b. A plus may be before it.
+-- The first run of bare-key bytes of the number at i is from a to b. It begins at i or after a plus at i.
 pub record FirstRun (text : List ℕ) (i a b : ℕ) : Type 0 where
   pub run : MaximalRun is_keylike text a b
   pub some : a < b
@@ -37,8 +37,8 @@ pub data ExponentPart (text : List ℕ) (i : ℕ) : ℕ → ℕ → ℕ → Type
   after_its_plus : (at b end : ℕ) → Letter text i at b → b ≡ at + 1 → slice_index text b ≡ plus
       → MaximalRun is_keylike text (b + 1) end → b + 1 < end → ExponentPart text i (b + 1) (b + 1) end
 
--- Digits of this radix are expected from `from` to `end`. Their digit part begins at `start`: it is the first run
--- without its prefix, the run after the dot, or the part of an exponent (`ExponentPart`).
+-- Digits of this radix are expected from `from` on, in the digit part from `start` to `end`. The digit part is the
+-- first run without a prefix, the run after the dot, or the part of an exponent (`ExponentPart`).
 pub data DigitPart (text : List ℕ) (i : ℕ) : ℕ → ℕ → ℕ → ℕ → Type 0 where
   in_first_run : (a b : ℕ) → FirstRun text i a b → radix_at text a ≡ None → DigitPart text i 10 a (after_sign text a) b
   after_prefix : (radix a b : ℕ) → FirstRun text i a b → radix_at text a ≡ Some radix
@@ -57,13 +57,13 @@ pub data NumberFault (text : List ℕ) (i : ℕ) : ℕ → ℕ → Type 0 where
   -- a plus before `-` or a prefix: the plus and the run
   plus_before : (b : ℕ) → slice_index text i ≡ plus → MaximalRun is_keylike text (i + 1) b
       → (slice_index text (i + 1) ≡ dash) ⊎ (is_some (radix_at text (i + 1)) ≡ true) → NumberFault text i i b
-  -- no digits, two underscores in a row, or an underscore after the last digit: the digit part
+  -- no digit at `from`, or an underscore that no digit follows: the digit part
   no_digits : (radix start from end : ℕ) → DigitPart text i radix start from end
       → ((j : ℕ) → Digits radix text from j → ⊥) → NumberFault text i start end
-  -- an underscore first: the rest of the run
+  -- an underscore at `from`: the rest of the digit part
   underscore_first : (radix start from end : ℕ) → DigitPart text i radix start from end
       → slice_index text from ≡ underscore → NumberFault text i from end
-  -- a leading 0, at z: the rest of the run, without an underscore after the 0
+  -- a leading 0, at z: the first run after the 0 or, if an underscore follows the 0, after the underscore
   leading_zero : (a b z m : ℕ) → FirstRun text i a b → z ≡ after_sign text a → slice_index text z ≡ digit_zero
       → Digits 10 text z m → z + 1 < m
       → NumberFault text i (if slice_index text (z + 1) == underscore then z + 2 else z + 1) b
@@ -80,7 +80,7 @@ pub data NumberFault (text : List ℕ) (i : ℕ) : ℕ → ℕ → Type 0 where
   -- other characters after the digits that follow a prefix: the first run without the prefix
   other_after_prefix : (radix a b m : ℕ) → FirstRun text i a b → radix_at text a ≡ Some radix
       → Digits radix text (a + 2) m → m < b → NumberFault text i (a + 2) b
-  -- a fraction after `inf` or `nan`: the first run, which is that word
+  -- a dot and other characters after `inf` or `nan`: the first run
   fraction_of_word : (a b end : ℕ) → AfterDot text i a b end → b + 1 < end
       → is_some (special (is_negative text a) (slice_range text (after_sign text a) b)) ≡ true → NumberFault text i a b
   -- nothing after the dot: the whole number, with the dot

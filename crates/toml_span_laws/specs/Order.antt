@@ -9,14 +9,14 @@ use Rattle.toml_span.specs.declared.claims.ClaimKind.TheVariants.{ArrayOfTables,
 abbrev pub claim_start : Claim → ℕ
 claim_start c = c.info.key.start
 
--- The second claim starts after the first; or the first is an array of tables and the second its element, which are
--- claimed by the same key.
+-- The second claim starts after the first; or the same key makes both claims: the first for an array of tables, the
+-- second for an element.
 abbrev pub Follows : Claim → Claim → Type 0
 Follows c d =
     (claim_start c < claim_start d)
     ⊎ ((c.info.kind ≡ ArrayOfTables) × (d.info.kind ≡ TableElement) × (c.info.key ≡ d.info.key))
 
--- Each claim follows the one before it.
+-- Each claim follows the one before it (`Follows`).
 abbrev pub Ascends : List Claim → Type 0
 Ascends [] = ⊤
 Ascends (c ∷ []) = ⊤
@@ -26,7 +26,7 @@ Ascends (c ∷ d ∷ cs) = Follows c d × Ascends (d ∷ cs)
 abbrev pub key_at : (Path → Option Place) → Path → Option Span
 key_at places p = option_and_then (λ x. x.key_span) (places p)
 
--- No two keys start at the same offset.
+-- The keys at two different paths start at different offsets.
 abbrev pub KeysApart : (Path → Option Place) → Type 0
 KeysApart places =
     (p q : Path) (k l : Span) → key_at places p ≡ Some k → key_at places q ≡ Some l → k.start ≡ l.start → p ≡ q

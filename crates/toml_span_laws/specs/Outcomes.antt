@@ -16,7 +16,7 @@ use Rattle.toml_span.specs.Claims.{claims}
 use Rattle.toml_span.specs.Clashes.{Resolves, NamedClash, first_clash, content_of_clash}
 use Rattle.toml_span.specs.Parsing.{IsTreeOf}
 
--- the sections of a text; its sections and their first clash; or its first fault
+-- the sections of a text, which do not clash; its sections and their first clash; or its first fault
 pub data Outcome : Type 0 where
   resolved : List ParsedSection → Outcome
   clashed : List ParsedSection → NamedClash → Outcome

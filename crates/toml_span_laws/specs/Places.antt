@@ -79,17 +79,17 @@ abbrev mutual
   pair_starts no_pairs = []
   pair_starts (pair ss v extent ps) = part_starts ss ++ (starts v ++ pair_starts ps)
 
--- these starts in assignments: for each assignment those of the parts of its key, and then those in its value
+-- the same starts in assignments: for each assignment those of the parts of its key, and then those in its value
 abbrev pub assignment_starts : List ParsedAssignment → List ℕ
 assignment_starts [] = []
 assignment_starts (e ∷ es) = part_starts e.parts ++ (starts e.value ++ assignment_starts es)
 
--- these starts in a header: its first bracket and its parts; the section before the first header has none
+-- the same starts for a header: of its first bracket and of its parts; a section without a header has no such starts
 abbrev pub header_starts : List SimpleKey → Span → List ℕ
 header_starts [] span = []
 header_starts (p ∷ ps) span = span.start ∷ part_starts (p ∷ ps)
 
--- these starts in sections: for each section those in its header, and then those in its assignments
+-- the same starts in sections: for each section those for its header, and then those in its assignments
 abbrev pub section_starts : List ParsedSection → List ℕ
 section_starts [] = []
 section_starts (b ∷ bs) = header_starts b.header b.header_span ++ (assignment_starts b.assignments ++ section_starts bs)

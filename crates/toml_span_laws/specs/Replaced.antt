@@ -36,7 +36,7 @@ abbrev mutual
   members_without no_members = no_members
   members_without (member name key n ms) = member name no_span (without_spans n) (members_without ms)
 
--- the text of a scalar's literal, which has this span in the tree
+-- the text of a scalar's literal, where the scalar has this span in the tree
 abbrev pub literal_text : List ℕ → Scalar → Span → List ℕ
 literal_text t s span =
     slice_range t (literal_span t (node (scalar s) span)).start (literal_span t (node (scalar s) span)).end
@@ -48,9 +48,8 @@ IsDocumentWith path s root t limit =
     × ((other : Value) → IsTree t limit other
     → without_spans (view other) ≡ without_spans (put path (node (scalar s) no_span) (view root)))
 
--- The text has this scalar, with this span. If a part that spells another scalar replaces the literal of this one,
--- quotes included, the result is a document too: its tree is `root` with the other scalar at the path, except for
--- spans.
+-- The text has this scalar, with this span. Replacing its literal (with any quotes) by a text that spells a scalar x
+-- gives a document. The tree of that document is `root` with x at the path, except for spans.
 pub record CanBeSet (t : List ℕ) (limit : ℕ) (root : Value) (path : Path) (s : Scalar) (span : Span) : Type 0 where
   pub takes : CanBeReplaced t s span
   pub literal : literal_span t (node (scalar s) span) ≡ record { start = takes.i; end = takes.j }

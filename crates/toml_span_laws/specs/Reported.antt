@@ -1,4 +1,4 @@
--- The offset at which the bytes that a fault reports end.
+-- The offset at which the bytes that a fault reports end, and how many bytes after it can decide about the fault.
 use Rattle.std.specs.Prelude.{◌≡◌, ℕ, ◌+◌, ◌<◌, ◌≤◌, ◌⊎◌, Bool, true, false, if◌then◌else◌, List, length}
 use Rattle.toml_span_lex.specs.declared.span.Span.{Span}
 use Rattle.toml_span_lex.specs.Bytes.{is_blank, MaximalRun}
@@ -19,13 +19,13 @@ TokenTo text i j = ((span : Span) × (l : Lexeme) × IsLexeme text i j span l) �
 -- A fault of this kind with the span s reports bytes of the text up to the offset j:
 -- for a token other than the expected one, and for a multi-line string as a key, up to the end of the token;
 -- if the text ends too early, up to its end;
--- for a character that is not allowed, up to its end, or up to the end of the spaces and tabs after a backslash;
+-- for a character that is not allowed, up to its end; for spaces and tabs after a backslash, up to their end;
 -- for an escape value, up to the end of its digits;
--- for a number, up to the end of all letters, digits, dashes, underscores, colons, dots and plus signs;
--- for a date or an unquoted string, up to the end of the span;
+-- for a number, up to the end of all letters, digits, dashes, underscores, colons, dots and plus signs from s.start on;
+-- for a date, a time or an unquoted string, up to the end of the span;
 -- for a value or key beyond the limit, up to the end of the string or key, or of the first byte of another value;
--- for a key through a value, up to the end of its line or, in an inline table, of its value, whose closing quotes are
--- after the span.
+-- for a key through a value, up to the end of its line; in an inline table, up to the end of the assigned value with
+-- its closing quotes, which are not in the span.
 abbrev pub ReportsTo : FaultKind → List ℕ → Span → ℕ → Type 0
 ReportsTo (kinds.Wanted expected found) text s j = TokenTo text s.start j
 ReportsTo kinds.MultilineStringKey text s j = TokenTo text s.start j
@@ -58,9 +58,9 @@ is_byte_or_newline found_tokens.OneLineString = false
 is_byte_or_newline found_tokens.MultilineString = false
 is_byte_or_newline found = true
 
--- How many bytes after the reported ones can decide whether there is a fault of this kind: none after a token of one
--- byte or a line end; two after a number, a date, an invalid escape, a key through a value, and a value or key beyond
--- the limit; otherwise one.
+-- How many bytes after the reported ones can decide whether there is a fault of this kind: none after an unexpected
+-- token that is a single byte or a line end; two after a number, a date or time, an invalid escape, a key through a
+-- value, and a value or key beyond the limit; otherwise one.
 abbrev pub ahead : FaultKind → ℕ
 ahead (kinds.Wanted expected found) = if is_byte_or_newline found then 0 else 1
 ahead kinds.InvalidNumber = 2

@@ -1,5 +1,5 @@
--- The grammar without dates (TOML 1.1 without "Offset Date-Time" to "Local Time"): a number is read even where a date
--- would begin, and no value is a date.
+-- The grammar without dates and times (TOML 1.1 without "Offset Date-Time" to "Local Time"): a number is read even
+-- where a date or time would begin, and no value is a date or time.
 use Rattle.std.specs.Prelude.{◌≡◌, ℕ, Bool, List}
 use Rattle.toml_span_lex.specs.declared.span.Span.{Span}
 use Rattle.toml_span_lex.specs.Bytes.{is_keylike}
@@ -10,7 +10,8 @@ use Rattle.toml_span_read.specs.Data.{ParsedValue, ParsedSection, from_to}
 use Rattle.toml_span_read.specs.Grammar.{truth_text, SpellsWith, DocumentWith}
 use Rattle.toml_span_read.specs.Numbers.{IsNumber}
 
--- The text from i to j is this string, number or boolean, with this span. A string has the span of its content.
+-- The text from i to j is this string, number or boolean, with this span. A string has the same span as in
+-- `SpellsScalar`.
 abbrev pub UndatedScalar : Scalar → Span → List ℕ → ℕ → ℕ → Type 0
 UndatedScalar (text value) span t i j = (source : List ℕ) × (multi : Bool) × IsString t i j span source value multi
 UndatedScalar (boolean b) span t i j = RunAt is_keylike t i j (truth_text b) × (span ≡ from_to i j)

@@ -1,2 +1,2 @@
--- Definitions that only inner functions need. Nothing else in `specs/` cites them.
+-- Definitions that only the laws in `judged.rt` cite.
 pub mod Judged

@@ -14,30 +14,30 @@ ghost use Rattle.toml_span_laws.specs.Replaced.{CanBeSet, literal_text};
 ghost use Rattle.toml_span_laws.specs.Again.{ReadsAsScalar, SpellsAgain, SpellsAssignment, SectionsReadAgain};
 ghost use Rattle.toml_span_laws.specs.Again.{CanBeReplaced};
 
-/// If the bytes of a text from `i` to `j` spell a value, then `x = ` followed by these bytes is a document with one
-/// assignment. Its key is `x`, and its value is the same, with all spans moved. In this sense, the bytes spell the
-/// value again.
+/// If the bytes of a text from `i` to `j` spell a value at a depth of 1 or more, then `x = ` followed by these bytes is
+/// a document with one assignment. Its key is `x`, and its value is the same, with all spans moved. In this sense, the
+/// bytes spell the value again.
 pub fn spelled_again()
     ensures { (text : List ℕ) (limit depth i j : ℕ) (v : ParsedValue) → 1 ≤ depth → Spells v text limit depth i j
         → SpellsAgain v text limit i j }
 {}
 
-/// In a document, the text at the span of each number, boolean, date, array and inline table, at any depth, spells that
-/// value again: `x = ` followed by this text is a document with one assignment of that value.
+/// In a document, the text at the span of each number, boolean, date, time, array and inline table, at any depth,
+/// spells that value again: `x = ` followed by this text is a document with one assignment of that value.
 pub fn values_read_again()
     ensures { (text : List ℕ) (limit : ℕ) (sections : List ParsedSection) → SpellsDocument sections text limit
         → SectionsReadAgain text limit sections }
 {}
 
-/// In the tree of a text, the stored text of each float is a literal of that float. So the result of `to_toml` for a
-/// value of the tree can be read again, if the value is within the depth limit of that read.
+/// In the tree of a text, the stored text of each finite float is a literal of that float. So the result of `to_toml`
+/// for a value of the tree can be read again, if the value is whole and within the depth limit of that read.
 pub fn float_texts()
     ensures { (text : List ℕ) (limit : ℕ) (root : Value) → IsTree text limit root → HasFloatTexts (view root) }
 {}
 
-/// In a text that has a tree, each scalar can be replaced with the text of any value, such as a result of `to_toml`.
-/// The new text is read as that value, and all values after it are the same as before, with moved spans. The text of
-/// the new value must be one that is read as that value wherever it occurs. The value must be whole and within the
+/// In a text that has a tree, each scalar can be replaced with the text of any value, such as a result of `to_toml`. In
+/// place of the scalar, that value is read, and all values after it are the same as before, with moved spans. The text
+/// of the new value must be one that is read as that value wherever it occurs. The value must be whole and within the
 /// depth limit, and the texts of its floats must be valid.
 pub fn written_over()
     ensures { (text : List ℕ) (limit : ℕ) (root : Value) (path : Path) (place : Place) (s : Scalar)

@@ -5,7 +5,7 @@ ghost use Rattle.toml_span_read.specs.declared.fault.FaultKind.TheVariants as ki
 ghost use Rattle.toml_span_read.specs.Data.{ParsedAssignment, SimpleKey, parsed_span, from_to};
 ghost use Rattle.toml_span_read.specs.Earlier.{crossing, last_span, part_names};
 
-/// If a key goes through no earlier value, then no earlier key has the same names as a proper prefix of its parts.
+/// If the key of `next` goes through no earlier value, no proper prefix of its parts has the names of an earlier key.
 pub fn clear_keys_pass_no_value()
     ensures { (earlier : List ParsedAssignment) (next : ParsedAssignment) (outer rest : List SimpleKey)
         (part more : SimpleKey)

@@ -8,7 +8,8 @@ ghost use Rattle.toml_span_laws.specs.Reported.{EndsReported, ahead};
 
 /// Nothing after a fault matters. Take the bytes of the text up to the end of those that the fault reports
 /// (`EndsReported`), and up to two more, depending on the kind of the fault (`ahead`). Every other text that begins
-/// with these bytes has the same fault. If the text ends earlier, the law does not apply to other texts.
+/// with these bytes has the same fault. If the text ends before the last of these bytes, the law says nothing about
+/// other texts.
 pub fn nothing_after_a_fault_matters()
     ensures { (text : List ℕ) (limit : ℕ) (fault : Fault) → document text limit (Err fault)
         → (end : ℕ) × EndsReported text fault end

@@ -13,7 +13,7 @@ use toml_span_lex::laws::token_fault_or_end;
 use toml_span_read::dates::{begins_date, date};
 use toml_span_read::gaps::{dot, gap_end, line_rest};
 
-/// Where a date begins, there is either a valid date or a fault.
+/// If a date or time begins at `at`, there is either a valid one or a fault.
 pub fn date_or_fault(text: &str, at: usize)
     requires { IsCharBoundary text.now at }
     ensures { date_spec.begins_date text.now at ≡ true
@@ -26,7 +26,7 @@ pub fn date_or_fault(text: &str, at: usize)
 
 /// At a character boundary, each form that can be read independently of others is either present or absent: a token, a
 /// gap (blanks, line ends and comments), a run of spaces and tabs, a run of bare key bytes, a dot, the rest of a line,
-/// and a date.
+/// and a date or time.
 pub fn place_is_judged(text: &str, at: usize)
     requires { IsCharBoundary text.now at }
     ensures { Judged text.now at }

@@ -1,6 +1,8 @@
-//! Laws about the grammar, about reading and about `parse`: facts that follow from the definitions that contracts cite.
+//! Laws about the grammar, reading, `parse`, paths and the output of `toml_span_show`: facts that follow from the
+//! definitions that contracts cite.
 //!
-//! A text *spells* a key, value or document if, by the grammar, it is a way to write that key, value or document.
+//! A text *spells* a key, value or document if, by the grammar, it is a way to write that key, value or document. In
+//! these laws, the claims of a document may clash, unless the law says that they do not.
 #![tactic(auto)]
 
 pub mod again;

@@ -24,8 +24,8 @@ pub fn documents_are_read()
         → read.document text limit (Ok sections) ↔ SpellsDocument sections text limit }
 {}
 
-/// The text spells each section that is read, with a header or before the first header. The section is within the depth
-/// limit `limit`, and its headers and keys are inside the text.
+/// The text spells each section that is read: a section with a header, and the one before the first header. Each
+/// section is within the depth limit `limit`, and its header and keys are inside the text.
 pub fn sections_are_read()
     ensures section { (text : List ℕ) (limit i j : ℕ) (s : Section) → slice_index text i ≡ left_bracket
         → read.section text limit i (Ok (parsed_section s, j)) → SpellsSection (parsed_section s) text limit i j
@@ -38,7 +38,7 @@ pub fn sections_are_read()
         × WithinSections limit sections × SectionsInside (length text) sections }
 {}
 
-/// A text spells at most one list of sections.
+/// Within a depth limit, a text spells at most one list of sections.
 pub fn one_document()
     ensures { (text : List ℕ) (limit : ℕ) (sections others : List ParsedSection) → SpellsDocument sections text limit
         → SpellsDocument others text limit → sections ≡ others }

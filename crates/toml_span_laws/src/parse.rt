@@ -1,4 +1,4 @@
-//! Laws about claims, and about the result of `parse` for a text.
+//! Laws about claims, about the result of `parse` for a text, and about typed reads of that result.
 ghost use Rattle.std.specs.Prelude.{◌≡◌, ◌≢◌, ◌≤◌, ◌↔◌, ⊤, ◌*◌, ◌⊎◌, ◌++◌, ◌∷◌, ℕ, false, true, List, [], length};
 ghost use Rattle.std.specs.Prelude.{slice_range, Option, Some, option_map, Result, Ok, Err, IsOk};
 ghost use Rattle.toml_span_lex.specs.Bytes.{quotation_mark};
@@ -39,8 +39,8 @@ pub mod clashes;
 use crate::reading::reading_gives;
 use toml_span_typed::Deserialize;
 
-/// All results for a text within the same depth limit agree, unless an allocation fails: if there is a tree, there is
-/// no error; all its trees are equal as data; and all its errors have the same contents.
+/// Unless an allocation fails, all results of `parse_with_limit` for the same text and limit agree: either all are
+/// trees, which are equal as data, or all are errors, with the same contents.
 pub fn one_answer()
     ensures { (text : List ℕ) (limit : ℕ) (result other : Result Value (Stop Error)) → IsParseResult text limit result
         → IsParseResult text limit other → IsAlike result other }
@@ -120,8 +120,8 @@ pub fn key_starts_differ()
         → KeysApart (λ path. place_at path (view root)) }
 {}
 
-/// The text at the span of each number, boolean and date in a document, or in its tree, spells that value again. After
-/// `x = `, this text makes a document with one assignment of that value.
+/// The text at the span of each number, boolean, date and time in a document, or in its tree, spells that value again:
+/// `x = ` followed by this text is a document with one assignment of that value.
 pub fn scalars_read_again()
     ensures flat { (text : List ℕ) (limit n : ℕ) (sections : List ParsedSection) (path : Path) (place : Place)
         (s : Scalar)

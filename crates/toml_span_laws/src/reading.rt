@@ -1,4 +1,5 @@
-//! Laws about reading: for each text, there is exactly one result, which may be a fault.
+//! Laws about reading: for each text, there is exactly one result, which may be a fault. Also a law about the names of
+//! tokens in errors.
 ghost use Rattle.std.specs.Prelude.{◌≡◌, ◌+◌, ℕ, Bool, List, [], Result};
 ghost use Rattle.std.specs.Str.{IsCharBoundary};
 ghost use Rattle.toml_span_lex.specs.Bytes.{is_blank, MaximalRun};

@@ -5,13 +5,14 @@ ghost use Rattle.toml_span_read.specs.Data.{ParsedValue, ParsedSection};
 ghost use Rattle.toml_span_read.specs.Grammar.{Spells, SpellsDocument};
 ghost use Rattle.toml_span_laws.specs.Undated.{SpellsUndated, SpellsUndatedDocument};
 
-/// A value that the grammar without dates spells, and that no colon follows, is also spelled by the grammar with dates.
+/// A value that the grammar without dates and times spells is also spelled by the full grammar, unless a colon follows
+/// the value.
 pub fn undated_value()
     ensures { (text : List ℕ) (limit depth i j : ℕ) (v : ParsedValue) → (slice_index text j == colon) ≡ false
         → SpellsUndated v text limit depth i j → Spells v text limit depth i j }
 {}
 
-/// A document that the grammar without dates spells is also spelled by the grammar with dates.
+/// A document that the grammar without dates and times spells is also spelled by the full grammar.
 pub fn undated_document()
     ensures { (text : List ℕ) (limit : ℕ) (sections : List ParsedSection) → SpellsUndatedDocument sections text limit
         → SpellsDocument sections text limit }

@@ -1,9 +1,9 @@
--- Classes of bytes and runs of them.
+-- Named bytes and characters, classes of bytes, and runs of bytes of a class.
 use Rattle.std.specs.Prelude.{◌≡◌, ℕ, ◌<◌, ◌≤◌, Bool, true, false, not, ◌&&◌, ◌||◌, ◌==◌, nat_le, List, length}
 use Rattle.std.specs.Prelude.{slice_index}
 use Rattle.std.specs.Char.{is_ascii_alphanumeric}
 
--- ---- the bytes that have names
+-- ---- named bytes and characters
 
 abbrev pub backspace : ℕ
 backspace = 8
@@ -95,11 +95,11 @@ byte_order_mark = 0xFEFF
 abbrev pub is_blank : ℕ → Bool
 is_blank c = c == space || c == tab
 
--- `ALPHA / DIGIT / %x2D / %x5F`, a character of an `unquoted-key`: a letter, a digit, a dash or an underscore
+-- `ALPHA / DIGIT / %x2D / %x5F`, a character of an `unquoted-key`: an ASCII letter or digit, a dash or an underscore
 abbrev pub is_keylike : ℕ → Bool
 is_keylike c = (is_ascii_alphanumeric c || c == dash) || c == underscore
 
--- `non-eol = %x09 / %x20-7E / non-ascii`: a tab or anything but an ASCII control character. Bytes from 128 on are
+-- `non-eol = %x09 / %x20-7E / non-ascii`: a tab, or any byte except ASCII control characters. Bytes from 128 on are
 -- part of a non-ASCII character.
 abbrev pub is_printed : ℕ → Bool
 is_printed c = c == tab || (nat_le space c && not (c == delete))

@@ -7,9 +7,9 @@ use Rattle.toml_span_lex.specs.Text.{CharAt}
 use Rattle.toml_span_lex.specs.declared.tokens.Error.{Error}
 use Rattle.toml_span_lex.specs.declared.tokens.Error.TheVariants as errors
 
--- the character that a backslash and this letter represent, if no digits follow: `escape-seq-char = %x22 / %x5C / %x62
--- / %x65 / %x66 / %x6E / %x72 / %x74`, which is `"`, `\`, b (backspace), e (escape), f (form feed), n (line feed),
--- r (carriage return) and t (tab)
+-- the character that a backslash and this letter represent, or None if the letter needs digits or may not follow a
+-- backslash: `escape-seq-char = %x22 / %x5C / %x62 / %x65 / %x66 / %x6E / %x72 / %x74`, which is `"`, `\`, b
+-- (backspace), e (escape), f (form feed), n (line feed), r (carriage return) and t (tab)
 abbrev pub simple_escape : ℕ → Option ℕ
 simple_escape c =
     if c == 0x22 then Some 0x22
@@ -66,8 +66,8 @@ IsEscape text i c j =
     ((simple_escape (slice_index text i) ≡ Some c) × (i < length text) × (j ≡ i + 1))
     ⊎ ((0 < hex_len (slice_index text i)) × (i < length text) × IsHexEscape text i (hex_len (slice_index text i)) c j)
 
--- The letter at i, after a backslash, does not begin a valid escape. The fault is e, and j is the offset up to which
--- the escape was read.
+-- After a backslash, the text ends at i, the character at i is not the letter of an escape, or the digits after the
+-- letter are not valid. The fault is e, and j is the offset up to which the escape was read.
 abbrev pub IsEscapeFault : ℕ → List ℕ → ℕ → ℕ → Error → Type 0
 IsEscapeFault start text i j e =
     ((e ≡ errors.UnterminatedString start) × (i ≡ length text) × (j ≡ i))

@@ -1,5 +1,5 @@
--- The pieces of a string's content. The string is quoted with q (`"` or `'`), and `multi` says whether it is
--- multi-line.
+-- The pieces of a string's content, its closing quotes, and the faults in it. The string is quoted with q (`"` or `'`),
+-- and `multi` says whether it is multi-line.
 use Rattle.std.specs.Prelude.{◌≡◌, ℕ, ◌+◌, ◌<◌, ◌≤◌, ◌⊎◌, min, Bool, true, false, not, ◌&&◌, ◌||◌, ◌==◌, if◌then◌else◌}
 use Rattle.std.specs.Prelude.{List, [], ◌∷◌, length, slice_index, slice_range, encode_utf8}
 use Rattle.toml_span_lex.specs.Bytes.{quotation_mark, backslash, line_feed, is_blank, is_printed, MaximalRun}
@@ -16,7 +16,7 @@ use Rattle.toml_span_lex.specs.declared.tokens.Error.TheVariants as errors
 abbrev pub is_plain : ℕ → ℕ → Bool
 is_plain q c = is_printed c && not (c == q) && not (q == quotation_mark && c == backslash)
 
--- `wschar / newline`: a space, a tab or a line end
+-- whether there is a space, a tab or a line end at i: `wschar / newline`
 abbrev pub is_ws_or_newline : List ℕ → ℕ → Bool
 is_ws_or_newline text i = is_blank (slice_index text i) || slice_index text i == line_feed || is_crlf text i
 
@@ -28,8 +28,8 @@ pub record WsAndNewlines (text : List ℕ) (i j : ℕ) : Type 0 where
   pub passes : (k : ℕ) → i ≤ k → k < j → is_ws_or_newline text k ≡ true
   pub stops : j < length text → is_ws_or_newline text j ≡ false
 
--- `mlb-escaped-nl = escape ws newline *( wschar / newline )`: a backslash before i drops the text from i to j: spaces
--- and tabs, a line end, and all spaces, tabs and line ends after it
+-- `mlb-escaped-nl = escape ws newline *( wschar / newline )`: a backslash before i drops the text from i to j: a line
+-- end, any spaces and tabs before it, and all spaces, tabs and line ends after it
 abbrev pub IsDropped : List ℕ → ℕ → ℕ → Type 0
 IsDropped text i j = (k : ℕ) × (l : ℕ) × MaximalRun is_blank text i k × LineEnd text k l × WsAndNewlines text l j
 
@@ -47,7 +47,7 @@ IsPiece q multi text i j (pieces.Escape c) =
 IsPiece q multi text i j pieces.Dropped =
     (q ≡ quotation_mark) × (multi ≡ true) × (slice_index text i ≡ backslash) × IsDropped text (i + 1) j
 
--- the value of a piece
+-- the value of the piece from i to j
 abbrev pub piece_value : List ℕ → ℕ → ℕ → Piece → List ℕ
 piece_value text i j pieces.LineEnd = line_feed ∷ []
 piece_value text i j (pieces.Escape c) = encode_utf8 c

@@ -25,8 +25,8 @@ abbrev pub content : List ℕ → ℕ → List (Piece × ℕ) → List ℕ
 content text i [] = []
 content text i (p ∷ ps) = piece_value text i p.1 p.0 ++ content text p.1 ps
 
--- the offset at which the content of a string that ends at j ends: before the last quote or, if it is multi-line,
--- before the last three
+-- the offset at which the content ends in a string that ends at j: before the last quote or, if the string is
+-- multi-line, before the last three
 abbrev pub content_end : Bool → ℕ → ℕ
 content_end multi j = if multi then j - 3 else j - 1
 
@@ -73,8 +73,8 @@ IsQuote q = (q ≡ quotation_mark) ⊎ (q ≡ apostrophe)
 abbrev pub opens_multi : List ℕ → ℕ → Bool
 opens_multi text i = slice_index text (i + 1) == slice_index text i && slice_index text (i + 2) == slice_index text i
 
--- `ml-basic-string-delim [ newline ]`, `ml-literal-string-delim [ newline ]`: the content begins at `from`: after the
--- opening quotes and, in a multi-line string, after a line end that follows them directly
+-- The content of the string at i begins at `from`: after the opening quotes and, in a multi-line string, after a line
+-- end that follows them directly (`ml-basic-string-delim [ newline ]`, `ml-literal-string-delim [ newline ]`).
 abbrev pub ContentFrom : Bool → List ℕ → ℕ → ℕ → Type 0
 ContentFrom false text i from = from ≡ i + 1
 ContentFrom true text i from = LineEnd text (i + 3) from ⊎ (NoLineEnd text (i + 3) × (from ≡ i + 3))
@@ -125,8 +125,8 @@ Borrows text i j span val =
     (IsEmptyOnOneLine i j → IsBorrowedStr val)
     × ((IsEmptyOnOneLine i j → ⊥) → (IsBorrowedStr val ↔ (cow_str_bytes val ≡ slice_range text span.start span.end)))
 
--- `Borrows` in terms of the span: a string is borrowed if and only if it equals the text at its span, or is empty and
--- its span is one quote, as that of an empty single-line string is.
+-- `Borrows` in terms of the span: a string is borrowed if and only if its value equals the text at its span, or if the
+-- value is empty and the span is one quote, as for an empty single-line string.
 abbrev pub BorrowsWhereSame : {Z : Type 0} → List ℕ → Span → CowStr Z → Type 0
 BorrowsWhereSame text span val = IsBorrowedStr val
     ↔ ((cow_str_bytes val ≡ slice_range text span.start span.end)

@@ -12,7 +12,7 @@ use Rattle.toml_span_lex.specs.Bytes.{line_feed, carriage_return, byte_order_mar
 abbrev pub is_crlf : List ℕ → ℕ → Bool
 is_crlf text i = slice_index text i == carriage_return && slice_index text (i + 1) == line_feed
 
--- `newline = %x0A / %x0D.0A`: the text from i to j is a line end: a line feed, alone or after a carriage return
+-- The text from i to j is a line end: a line feed, or a carriage return and a line feed (`newline = %x0A / %x0D.0A`).
 abbrev pub LineEnd : List ℕ → ℕ → ℕ → Type 0
 LineEnd text i j = ((slice_index text i ≡ line_feed) × (j ≡ i + 1)) ⊎ ((is_crlf text i ≡ true) × (j ≡ i + 2))
 
@@ -20,7 +20,7 @@ LineEnd text i j = ((slice_index text i ≡ line_feed) × (j ≡ i + 1)) ⊎ ((i
 abbrev pub NoLineEnd : List ℕ → ℕ → Type 0
 NoLineEnd text i = (slice_index text i == line_feed ≡ false) × (is_crlf text i ≡ false)
 
--- The character at i is c, and the next one begins at j. CRLF is one line feed.
+-- The character at i is c, and ends at j. CRLF is one line feed.
 abbrev pub CharAt : List ℕ → ℕ → ℕ → ℕ → Type 0
 CharAt text i c j =
     ((is_crlf text i ≡ true) × (c ≡ line_feed) × (j ≡ i + 2))

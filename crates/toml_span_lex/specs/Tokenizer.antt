@@ -23,27 +23,27 @@ pub record Cursor : Type 0 where
 
 -- ---- failures
 
--- No token was read at i. The tokenizer is then at j: still at i if an allocation failed, otherwise at the offset up to
--- which the text was read to find the fault.
+-- No token was read at i. If an allocation failed, j is i; otherwise j is the offset up to which the text was read to
+-- find the fault.
 abbrev pub Fails : List ℕ → ℕ → Stop Error → ℕ → Type 0
 Fails text i (stops.Memory e) j = (j ≡ i) × NeedsMemory text i
 Fails text i (stops.Fault e) j = IsNoToken text i j e
 
--- The error reports that at i, where a token with the name `expected_name` was expected, one with the name
--- `found_name` was found.
+-- The error reports that `expected_name` was expected at i, and `found_name` was found. `found_name` is `eof` at the
+-- end of the text.
 abbrev pub ReportsExpected : Error → ℕ → List ℕ → List ℕ → Type 0
 ReportsExpected (errors.Wanted at expected found) i expected_name found_name =
     (at ≡ i) × (expected.now ≡ expected_name) × (found.now ≡ found_name)
 ReportsExpected _ i expected_name found_name = ⊥
 
--- The token at i, which ends at j, does not satisfy `Allows`, and the error reports it. `expected_name` is the name of
--- the expected token.
+-- The token at i, which ends at j, does not satisfy `Allows`. The error reports the name of that token, and that
+-- `expected_name` was expected.
 abbrev pub IsOther : (Lexeme → Type 0) → List ℕ → List ℕ → ℕ → ℕ → Error → Type 0
 IsOther Allows expected_name text i j e =
     (span : Span) × (found : Lexeme) × IsLexeme text i j span found × (Allows found → ⊥)
     × ReportsExpected e i expected_name (words found)
 
--- The text ends at i, and the error reports that a token with the name `expected_name` was expected there.
+-- The text ends at i, and the error reports that `expected_name` was expected there.
 abbrev pub IsEndOf : List ℕ → List ℕ → ℕ → ℕ → Error → Type 0
 IsEndOf expected_name text i j e = (i ≡ length text) × (j ≡ i) × ReportsExpected e i expected_name (codes "eof")
 
@@ -95,8 +95,8 @@ Expects text i (Err stop) expected j = RefusesOther (λ l. l ≡ expected) (word
 
 -- ---- keys
 
--- `simple-key = quoted-key / unquoted-key`, `quoted-key = basic-string / literal-string`: the text from i to j is a
--- key: a bare key, whose name is that text, or a single-line string
+-- The text from i to j is this key: a bare key, whose name is that text, or a single-line string
+-- (`simple-key = quoted-key / unquoted-key`, `quoted-key = basic-string / literal-string`).
 abbrev pub IsSimpleKey : List ℕ → ℕ → ℕ → Key → Type 0
 IsSimpleKey text i j key =
     (IsBorrowedStr key.name × IsLexeme text i j key.span (keylike (cow_str_bytes key.name)))
@@ -137,8 +137,8 @@ ExpectsLineEnd text i (Err (stops.Memory e)) j = Fails text i (stops.Memory e) j
 ExpectsLineEnd text i (Err (stops.Fault e)) j =
     IsNoToken text i j e ⊎ IsOther (λ l. l ≡ newline) (codes "newline") text i j e
 
--- `comment = comment-start-symbol *non-eol`, with the line end or the end of the text after it; or no comment; or a
--- character that may not follow a comment
+-- `Ok true`: a comment (`comment-start-symbol *non-eol`) begins at i, and j is after it and after its line end, if any.
+-- `Ok false`: no comment begins at i. `Err`: after a comment at i, there is a character that may not follow it.
 abbrev pub EatsComment : List ℕ → ℕ → Result Bool Error → ℕ → Type 0
 EatsComment text i (Ok true) j =
     (k : ℕ) × (span : Span) × (s : List ℕ) × IsLexeme text i k span (comment s) × EndsLine text k j

@@ -1,4 +1,4 @@
--- The token, or the fault, at an offset of a text.
+-- Tokens, their names in errors, and the token or fault at an offset of a text.
 use Rattle.std.specs.Prelude.{◌≡◌, ℕ, ◌+◌, ◌<◌, ◌⊎◌, Bool, true, false, ◌||◌, ◌==◌, if◌then◌else◌, List, slice_index}
 use Rattle.std.specs.Prelude.{slice_range, codes}
 use Rattle.std.specs.Cow.{cow_str_bytes}
@@ -76,7 +76,7 @@ words (string src value false) = codes "a string"
 abbrev pub RunAt : (ℕ → Bool) → List ℕ → ℕ → ℕ → List ℕ → Type 0
 RunAt p text i j part = (i < j) × MaximalRun p text i j × (part ≡ slice_range text i j)
 
--- The text from i to j is this token, which is not a string:
+-- The text from i to j is this token, which is not a string: a punctuator, or one of these:
 -- `ws = *wschar`, of one character at least
 -- `newline = %x0A / %x0D.0A`
 -- `comment = comment-start-symbol *non-eol`

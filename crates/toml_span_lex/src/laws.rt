@@ -1,4 +1,4 @@
-//! Laws: facts about the definitions, stated as functions that do nothing.
+//! Laws: proved facts about the definitions, stated as contracts of functions that have no effect.
 ghost use Rattle.std.specs.Prelude.{◌≡◌, ◌↔◌, true};
 ghost use Rattle.std.specs.Str.{IsCharBoundary};
 ghost use Rattle.std.specs.declared.cmp.Ordering.{Ordering};

@@ -1,4 +1,4 @@
-//! Splits a TOML document into tokens with spans.
+//! Splits a text into TOML tokens with spans. Also defines `Span`, `Spanned`, `Key` and `Stop`.
 #![tactic(auto)]
 
 pub mod bytes;

@@ -26,7 +26,7 @@ pub fn line_info(text: &str, at: usize) -> (usize, usize)
 /// Returns the line and the column of `span.start`, both counted from 1, the column in bytes. If `span.start` is after
 /// the end of the text, returns the line and the column of the end.
 ///
-/// `Error::line_info` counts both from 0. `toml_span_report::line_column` counts columns in characters.
+/// `toml_span::Error::line_info` counts both from 0. `toml_span_report::line_column` counts columns in characters.
 pub fn line_and_byte(text: &str, span: Span) -> (usize, usize)
     ensures { let place = spec.line_info text.now (min span.start (length text.now)) in
         result ≡ (place.0 + 1, place.1 + 1) }

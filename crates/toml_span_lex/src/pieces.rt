@@ -1,4 +1,4 @@
-//! The pieces of a string's content (TOML 1.1, "String").
+//! The pieces of a string's content, and the closing quotes (TOML 1.1, "String").
 ghost use Rattle.std.specs.Prelude.{◌≡◌, ℕ, ◌+◌, ◌≤◌, ◌<◌, ◌==◌, true, length, slice_index, IsTrue, Ok};
 ghost use Rattle.std.specs.Str.{IsCharBoundary};
 ghost use Rattle.toml_span_lex.specs.Bytes.{MaximalRun, backslash, quotation_mark};
@@ -17,14 +17,14 @@ use std::simd::prelude::*;
 /// A piece of a string's content.
 #[derive(Clone, Copy)]
 pub enum Piece {
-    /// A run of unescaped characters, without line ends and quotes of the string's kind.
+    /// A maximal run of bytes that may occur unescaped in a single-line string with the same quotes.
     Plain,
-    /// One or two quotes in a multi-line string.
+    /// One or two quotes of the string's kind, in a multi-line string.
     Quotes,
     LineEnd,
     Escape(char),
-    /// A backslash at the end of a line, and all white space and line ends after it. They add nothing to the value of
-    /// the string.
+    /// A backslash before a line end, perhaps with white space in between, and all white space and line ends that
+    /// follow. They add nothing to the value of the string.
     Dropped,
 }
 
@@ -129,9 +129,10 @@ fn quotes(text: &str, quote: u8, at: usize) -> (Option<Piece>, usize)
     }
 }
 
-/// Reads the piece that begins with the backslash at `at`: an escape (`escaped`) or, if `multi`, an escaped line end
-/// (`mlb-escaped-nl`). Returns the piece, never `None`, with the offset after it. Fails with the error, and the offset
-/// up to which the string was read. `start` is the offset of the opening quote, for the error `UnterminatedString`.
+/// Reads the piece that begins with the backslash at `at`: an escape (`escaped`) or, only if `multi`, an escaped line
+/// end (`mlb-escaped-nl`). Returns the piece, never `None`, with the offset after it. Fails with the error, and the
+/// offset up to which the string was read. `start` is the offset of the opening quote, for the error
+/// `UnterminatedString`.
 fn escape_piece(
     text: &str,
     multi: bool,
@@ -190,9 +191,8 @@ fn drop_line(text: &str, start: usize, at: usize) -> Result<(Option<Piece>, usiz
     }
 }
 
-/// Reads the piece at the byte offset `at` of a string that is quoted with `quote`, and multi-line if `multi`. Returns
-/// the piece with the offset after it. At the end of the string, returns `None` with the offset after the closing
-/// quotes.
+/// Reads the piece at the byte offset `at` in a string that is quoted with `quote`, and multi-line if `multi`. Returns
+/// the piece with the offset after it. At the closing quotes, returns `None` with the offset after them.
 ///
 /// Fails with the error, and the offset up to which the string was read. `start` is the offset of the opening quote,
 /// for the error `UnterminatedString`.

@@ -18,7 +18,7 @@ impl<E> Stop<E> {
     ghost use Rattle.toml_span_lex.specs.Stop.{Converts, fault_of};
 
     /// Returns the fault, or `Err` if an allocation failed. In a function that fails with `AllocError` or `Stop`, the
-    /// arm `Err(stop) => report(stop.fault()?)` handles the fault, and passes on a failed allocation.
+    /// expression `stop.fault()?` is the fault; if an allocation failed, it returns that error from the function.
     pub fn fault(self) -> Result<E, AllocError>
         ensures { result ≡ fault_of self }
     {

@@ -35,8 +35,8 @@ fn owned(
     }
 }
 
-/// Appends `text[at..next]` to `kept`, the value of the content `from..at`. `None`, given or returned, means that the
-/// value equals the text of the content.
+/// Returns the value of the string content `text[from..next]`, where `kept` is the value of `text[from..at]`, and the
+/// rest is its own value. A value that equals its text is passed and returned as `None`.
 fn same(
     kept: Option<String>,
     text: &str,
@@ -62,8 +62,8 @@ fn same(
     }
 }
 
-/// Appends the value of the piece `at..next` to `kept`, the value of the content `from..at`. `None`, given or returned,
-/// means that the value equals the text of the content.
+/// Returns the value of the string content `text[from..next]`, where `kept` is the value of `text[from..at]`, and the
+/// rest is the piece `piece`. A value that equals its text is passed and returned as `None`.
 fn with_piece(
     alloc: Global,
     kept: Option<String>,
@@ -102,9 +102,9 @@ fn with_piece(
     }
 }
 
-/// Reads the content of a string, from the byte offset `from` on, and its closing quotes. The string is quoted with
-/// `quote`, and `multi` says whether it is multi-line. Returns its value (`None` if the value equals the text of the
-/// content), the offset at which the content ends, and the offset after the string.
+/// Reads the content of a string, from the byte offset `from` on, and the closing quotes. The string is quoted with
+/// `quote`, and `multi` says whether it is multi-line. Returns the value of the string (`None` if it equals the text of
+/// the content), the offset at which the content ends, and the offset after the string.
 ///
 /// Fails with the error and the offset up to which the string was read. `start` is the offset of the opening quote, for
 /// the error `UnterminatedString`.

@@ -1,12 +1,12 @@
-//! The characters of a text, in which CRLF counts as one character.
+//! The characters and line ends of a text. CRLF counts as one character.
 ghost use Rattle.std.specs.Prelude.{◌≡◌, ◌<◌, ◌≤◌, length, IfSome};
 ghost use Rattle.std.specs.Str.{IsCharBoundary};
 ghost use Rattle.toml_span_lex.specs.Text as spec;
 ghost use Rattle.toml_span_lex.specs.code.Text as code;
 ghost use Rattle.toml_span_lex.specs.Text.{CharAt};
 
-/// Returns the character at the byte offset `at`, with the offset of the next character. CRLF counts as the single
-/// character `'\n'`. `at` must be a character boundary before the end of the text.
+/// Returns the character at the byte offset `at`, with the offset after it. CRLF counts as the single character `'\n'`.
+/// `at` must be a character boundary before the end of the text.
 pub fn char_at(text: &str, at: usize) -> (char, usize)
     requires boundary { IsCharBoundary text.now at }
     requires within { at < length text.now }
@@ -27,7 +27,7 @@ pub fn char_at(text: &str, at: usize) -> (char, usize)
     }
 }
 
-/// Returns whether there is a CRLF at the byte offset `at`, which must be less than the length of `bytes`.
+/// Returns whether a CRLF begins at the byte offset `at`, which must be less than the length of `bytes`.
 #[inline]
 pub fn is_crlf(bytes: &[u8], at: usize) -> bool
     requires { at < length bytes.now }
@@ -36,8 +36,8 @@ pub fn is_crlf(bytes: &[u8], at: usize) -> bool
     bytes[at] == b'\r' && at + 1 < bytes.len() && bytes[at + 1] == b'\n'
 }
 
-/// Returns the offset after the line end at the byte offset `at`, or `None` if no line end is there:
-/// `newline = %x0A / %x0D.0A`. `at` must be at most the length of the text.
+/// Returns the offset after the line end (`newline = %x0A / %x0D.0A`) at the byte offset `at`, or `None` if no line end
+/// begins there. `at` must be at most the length of the text.
 #[inline]
 #[tactic(auto, using(crate::proofs::Runs::after_line))]
 pub fn line_end(text: &str, at: usize) -> Option<usize>

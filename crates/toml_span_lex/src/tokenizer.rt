@@ -96,8 +96,8 @@ pub fn token_at(input: &str, at: usize) -> Result<(Token<'_>, usize), (Error, us
     }
 }
 
-/// Reads the CRLF or bare key at `at`. Returns the token with the offset after it. At any other character, fails with
-/// `Unexpected` and the offset after the character.
+/// Reads the CRLF or the `Keylike` token at `at`. Returns the token with the offset after it. At any other character,
+/// fails with `Unexpected` and the offset after that character.
 fn other_at(input: &str, at: usize) -> Result<(Token<'_>, usize), (Error, usize)>
     requires boundary { IsCharBoundary input.now at }
     requires within { at < length input.now }
@@ -166,9 +166,9 @@ impl<'a> Tokenizer<'a> {
     /// # Errors
     ///
     /// Fails if no token can be read. The tokenizer is then after the invalid character, line end or escape. If the
-    /// invalid character is a space or tab after a backslash in a multi-line string, the tokenizer is after all spaces
-    /// and tabs there. If a string is not closed, the tokenizer is at the end of the text. If an allocation fails, it
-    /// stays where it is.
+    /// invalid character is a space or tab after a backslash in a multi-line basic string, the tokenizer is after all
+    /// spaces and tabs there. If a string is not closed, the tokenizer is at the end of the text. If an allocation
+    /// fails, it stays where it is.
     pub fn step(&mut self, alloc: Global) -> Result<Option<(Span, Token<'a>)>, Stop<Error>>
         ensures text { self.new.text ≡ self.old.text }
         ensures step { spec.StepGives self.old.text self.old.at result self.new.at }
@@ -262,7 +262,7 @@ impl<'a> Tokenizer<'a> {
     ///
     /// # Errors
     ///
-    /// Fails with `Wanted` at another token or at the end of the text. The tokenizer is then after that token. If no
+    /// Fails with `Wanted` at the end of the text, or at another token; the tokenizer is then after that token. If no
     /// token can be read, the tokenizer is where `step` would leave it. If an allocation fails, it stays where it is.
     pub fn expect(&mut self, alloc: Global, expected: Token<'a>) -> Result<(), Stop<Error>>
         ensures text { self.new.text ≡ self.old.text }
@@ -278,7 +278,7 @@ impl<'a> Tokenizer<'a> {
     ///
     /// # Errors
     ///
-    /// Fails with `Wanted` at another token or at the end of the text. The tokenizer is then after that token. If no
+    /// Fails with `Wanted` at the end of the text, or at another token; the tokenizer is then after that token. If no
     /// token can be read, the tokenizer is where `step` would leave it. If an allocation fails, it stays where it is.
     pub fn expect_spanned(
         &mut self,
@@ -313,9 +313,9 @@ impl<'a> Tokenizer<'a> {
     ///
     /// # Errors
     ///
-    /// Fails with `MultilineStringKey` at a multi-line string, and with `Wanted` at another token or at the end of the
-    /// text. The tokenizer is then after that token. If no token can be read, the tokenizer is where `step` would leave
-    /// it. If an allocation fails, it stays where it is.
+    /// Fails with `Wanted` at the end of the text. Fails with `MultilineStringKey` at a multi-line string, and with
+    /// `Wanted` at another token; the tokenizer is then after that token. If no token can be read, the tokenizer is
+    /// where `step` would leave it. If an allocation fails, it stays where it is.
     pub fn table_key(&mut self, alloc: Global) -> Result<Key<'a>, Stop<Error>>
         ensures text { self.new.text ≡ self.old.text }
         ensures key { spec.TableKeyGives self.old.text self.old.at result self.new.at }
@@ -381,8 +381,8 @@ impl<'a> Tokenizer<'a> {
     ///
     /// # Errors
     ///
-    /// Fails with `Unexpected` at an ASCII control character other than a tab in the comment. The tokenizer is then
-    /// after that character.
+    /// Fails with `Unexpected` if an ASCII control character that does not begin a line end follows the comment. The
+    /// tokenizer is then after that character.
     pub fn eat_comment(&mut self) -> Result<bool, Error>
         ensures text { self.new.text ≡ self.old.text }
         ensures comment { spec.EatsComment self.old.text self.old.at result self.new.at }

@@ -9,7 +9,7 @@ use std::borrow::CowStr;
 pub enum Token<'a> {
     /// A maximal run of spaces and tabs.
     Whitespace(&'a str),
-    /// A line feed, alone or after a carriage return.
+    /// A line end: a line feed, or a carriage return and a line feed.
     Newline,
     /// A comment, from its `#` to the end of the line, without the line end. An ASCII control character other than a
     /// tab ends it earlier.
@@ -42,7 +42,8 @@ pub enum Token<'a> {
 pub enum Error {
     /// A character that may not occur in a string.
     InvalidCharInString(usize, char),
-    /// A character that may not follow a backslash.
+    /// A character that may not follow a backslash. In a multi-line basic string, spaces and tabs may follow one only
+    /// at the end of a line.
     InvalidEscape(usize, char),
     /// A character where a hexadecimal digit is expected.
     InvalidHexEscape(usize, char),
@@ -70,7 +71,7 @@ pub enum Error {
 }
 
 impl Token<'_> {
-    /// Returns the name of this kind of token, as errors use it: `a comma`.
+    /// Returns the name of this kind of token, as errors use it, such as `a comma`.
     pub fn describe(&self) -> &'static str
         ensures { result.now ≡ words (lexeme self.now) }
     {

@@ -112,7 +112,7 @@ abbrev mutual
 
 -- Wherever this part occurs in a text before bytes that do not continue it (`may_follow`), it is a value that equals
 -- this value of the tree, from its first byte to its last. The value of the tree must be whole and within the limit,
--- and its floats must be literals.
+-- and the texts of its floats must be literals (`HasFloatTexts`).
 abbrev pub ReadsAsValue : Node → List ℕ → Type 0
 ReadsAsValue n part =
     (limit depth : ℕ) → is_whole n ≡ true → IsWithin limit depth n → HasFloatTexts n

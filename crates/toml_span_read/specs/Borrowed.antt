@@ -41,8 +41,8 @@ keys_written keys = map key_written keys
 abbrev pub dotted_written : DottedKey → List Written
 dotted_written key = keys_written key.inner.items ++ (key_written key.last ∷ [])
 
--- The strings and keys in the content of a value, in a value and in an assignment, given those in the values inside it.
--- A string has the span of its value.
+-- The strings and keys in a `ValKind`, a `Val` and an `Assignment`. Those in the values inside are given. A string has
+-- the span of its value.
 abbrev pub kind_written_step : ValKind-F (Span → List Written) (List Written) (List Written) → Span → List Written
 kind_written_step (ValKind-F.String s) span = string s span ∷ []
 kind_written_step (ValKind-F.Array v) span = joined v.items

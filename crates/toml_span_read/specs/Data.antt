@@ -1,4 +1,4 @@
--- What was read, as plain data. A string is its bytes, whether it is borrowed or not.
+-- What was read, as plain data, and the highest limit on depth. A string is its bytes, whether it is borrowed or not.
 use Rattle.std.specs.Prelude.{ℕ, Bool, false, List, [], ◌∷◌, ◌++◌, map}
 use Rattle.std.specs.Cow.{cow_str_bytes}
 use Rattle.toml_span_lex.specs.declared.key.Key.{Key}
@@ -48,9 +48,9 @@ pub record ParsedAssignment : Type 0 where
 abbrev pub parsed_span : ParsedValue → Span
 parsed_span (parsed inner span) = span
 
--- A section: the parts of its header (an empty list for the section before the first header); whether the header has
--- double brackets; the span of the header's line; the extent, from the header or the first assignment to the end of the
--- last assignment (without assignments, of the header's line); and the assignments.
+-- A section: the parts of its header; whether the header has double brackets; the span of the header's line; the
+-- extent; and the assignments. The extent is from the header to the end of the last assignment or, without assignments,
+-- to the end of the header's line. For a section without a header, see `headerless_section`.
 pub record ParsedSection : Type 0 where
   pub header : List SimpleKey
   pub array : Bool
@@ -86,7 +86,7 @@ depth_limit = 128
 
 -- ---- the code's values as plain data
 
--- the items with this list of values before them
+-- the values of this list, and then the items `rest`
 abbrev pub onto : List ParsedValue → ParsedItems → ParsedItems
 onto [] rest = rest
 onto (n ∷ ns) rest = item n (onto ns rest)
@@ -95,14 +95,14 @@ abbrev pub pairs_onto : List ParsedAssignment → ParsedPairs → ParsedPairs
 pairs_onto [] rest = rest
 pairs_onto (p ∷ ps) rest = pair p.parts p.value p.extent (pairs_onto ps rest)
 
--- a key of the code as plain data; `parts` does the same for the parts of a dotted key
+-- a `Key` as plain data; `parts` converts the parts of a `DottedKey`
 abbrev pub simple_key : Key → SimpleKey
 simple_key key = record { name = cow_str_bytes key.name; span = key.span }
 
 abbrev pub parts : DottedKey → List SimpleKey
 parts key = map simple_key key.inner.items ++ (simple_key key.last ∷ [])
 
--- the content of a value, a value and an assignment as plain data, where the values inside are converted already
+-- A `ValKind`, a `Val` and an `Assignment` as plain data. What is inside them is converted already.
 abbrev pub kind_step : ValKind-F ParsedInner ParsedAssignment ParsedValue → ParsedInner
 kind_step (ValKind-F.String s) = scalar (text (cow_str_bytes s))
 kind_step (ValKind-F.Integer n) = scalar (integer n)

@@ -21,8 +21,9 @@ unfoldable pub value_at : List ParsedAssignment → List (List ℕ) → Option S
 value_at es names =
     option_map (λ e. last_span e.parts) (find (λ e. pointwise bytes_eq (part_names e.parts) names) es)
 
--- Finds the first part of a key, except the last, whose path has a value. The path of a part consists of the names of
--- the parts up to this part. Returns the offset at which the part starts, and the span that `value` has for its path.
+-- Among the parts of a key before its last part, finds the first whose path has a value. The path of a part consists of
+-- the names of the parts up to this part. Returns the offset at which the part starts, and the span that `value` has
+-- for its path.
 unfoldable pub crossed : (List (List ℕ) → Option Span) → List SimpleKey → Option (ℕ × Span)
 crossed value (p ∷ q ∷ rest) =
     option_or (option_map (λ first. (p.span.start, first)) (value (p.name ∷ [])))

@@ -1,4 +1,4 @@
--- Faults as errors, and the names of tokens in errors. `Read` says which fault a text has, and where.
+-- Faults as errors, the names of tokens in errors, and how values begin. `Read` says which fault a text has, and where.
 use Rattle.std.specs.Prelude.{◌≡◌, ℕ, ◌+◌, ◌≤◌, Bool, ◌||◌, ◌==◌, List, length}
 use Rattle.std.specs.Prelude.{if◌then◌else◌, Some, codes}
 use Rattle.std.specs.Char.{is_ascii_digit}
@@ -100,7 +100,7 @@ token_fault (errors.Wanted at expected found) = fault_at kinds.UnexpectedEof at
 
 -- ---- a token other than the expected one
 
--- the name of a token that was found where another one was expected
+-- the `FoundToken` for a token that was found where another one was expected
 abbrev pub found_of : Lexeme → FoundToken
 found_of (whitespace s) = found_tokens.Whitespace
 found_of newline = found_tokens.Newline
@@ -126,7 +126,8 @@ wanted_fault expected found i =
 
 -- ---- how values begin
 
--- whether a number, boolean, date or time can begin with this byte: a bare-key byte or a plus sign
+-- whether a value that begins with this byte is read as a number, boolean, date or time: a letter, digit, dash,
+-- underscore or plus sign
 abbrev pub begins_bare : ℕ → Bool
 begins_bare c = is_keylike c || c == plus
 

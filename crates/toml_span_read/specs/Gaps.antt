@@ -1,4 +1,4 @@
--- White space, comments and line ends (TOML 1.1, "Comment", "Whitespace", "Newline").
+-- White space, comments, line ends, separators and closing brackets (TOML 1.1, "Comment", "Whitespace", "Newline").
 use Rattle.std.specs.Prelude.{◌≡◌, ℕ, ◌+◌, ◌<◌, ◌≤◌, ◌⊎◌, Bool, true, false, ◌||◌, ◌==◌, List, [], ◌∷◌, length}
 use Rattle.std.specs.Prelude.{slice_index}
 use Rattle.toml_span_lex.specs.Bytes.{is_blank, is_printed, MaximalRun, comma, equals, hash, line_feed, period}
@@ -23,9 +23,9 @@ abbrev pub GapBy : List ℕ → ℕ → List ℕ → ℕ → Type 0
 GapBy text i [] j = i ≡ j
 GapBy text i (k ∷ ks) j = GapPiece text i k × GapBy text k ks j
 
--- All spaces, tabs, line ends and comments from i on: `ws-comment-newline = *( wschar / [ comment ] newline )`, and
--- perhaps one more comment without a line end. After such a comment the text ends or has a control character, so
--- nothing else begins there.
+-- The text from i to j is a gap: all spaces, tabs, line ends and comments from i on. By the grammar, a gap is
+-- `ws-comment-newline = *( wschar / [ comment ] newline )`, and perhaps one more comment without a line end. After such
+-- a comment the text ends or has a control character, so the gap ends there.
 pub record MaximalGap (text : List ℕ) (i j : ℕ) : Type 0 where
   pub ends : List ℕ
   pub pieces : GapBy text i ends j
@@ -68,7 +68,7 @@ pub record Dot (text : List ℕ) (i j : ℕ) : Type 0 where
   pub here : slice_index text at ≡ period
   pub after : MaximalRun is_blank text (at + 1) j
 
--- No dot follows, not even after spaces and tabs.
+-- There is a dot neither at i nor after the spaces and tabs from i on.
 pub record NoDot (text : List ℕ) (i : ℕ) : Type 0 where
   pub at : ℕ
   pub before : MaximalRun is_blank text i at
@@ -90,7 +90,7 @@ pub record Closes (c : ℕ) (text : List ℕ) (i j : ℕ) : Type 0 where
   pub here : slice_index text at ≡ c
   pub ends : j ≡ at + 1
 
--- After a gap, which ends at j, there is neither a comma nor the closing bracket or brace c.
+-- The text from i to j is a gap. At j there is neither a comma nor the closing bracket or brace c.
 pub record Neither (c : ℕ) (text : List ℕ) (i j : ℕ) : Type 0 where
   pub before : MaximalGap text i j
   pub no_comma : (slice_index text j == comma) ≡ false

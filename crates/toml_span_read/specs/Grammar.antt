@@ -26,9 +26,9 @@ abbrev pub truth_text : Bool → List ℕ
 truth_text true = codes "true"
 truth_text false = codes "false"
 
--- The text from i to j is this string, number, boolean or date, with this span. The span of a string is that of its
--- content or, if it is an empty single-line string, that of its opening quote. A number is read only where no date
--- begins.
+-- The text from i to j is this string, number, boolean, date or time, with this span. The span of a string is that of
+-- its content or, if it is an empty single-line string, that of its opening quote. A number is read only where no date
+-- or time begins.
 --
 -- `string = ml-basic-string / basic-string / ml-literal-string / literal-string`, `boolean = true / false`,
 -- `date-time = offset-date-time / local-date-time / local-date / local-time`
@@ -112,8 +112,8 @@ pub record AssignmentWith (S : Scalars) (ev : ParsedAssignment) (text : List ℕ
   pub spelled : SpellsWith S ev.value text limit (length ev.parts) from j
   pub extent : ev.extent ≡ record { start = i; end = j }
 
--- From i to j there are these assignments, each with the rest of its line and the blank lines after it. No key goes
--- through an earlier value in its section.
+-- From i to j there are these assignments, each with the rest of its line and the gap after that line. The assignments
+-- `earlier` come before them in the section. No key goes through an earlier value of the section.
 --
 -- `expression =/ ws keyval ws [ comment ]`
 abbrev pub AssignmentsWith : Scalars → List ParsedAssignment → List ParsedAssignment → List ℕ → ℕ → ℕ → ℕ → Type 0
@@ -122,7 +122,7 @@ AssignmentsWith S (ev ∷ evs) earlier text limit i j =
     (m n k : ℕ) × AssignmentWith S ev text limit i m × Tail text m n × (crossing earlier ev ≡ None)
     × MaximalGap text n k × AssignmentsWith S evs (earlier ++ (ev ∷ [])) text limit k j
 
--- From i to j there are blank lines, then these assignments.
+-- From i to j there is a gap, then these assignments.
 abbrev pub LinesWith : Scalars → List ParsedAssignment → List ℕ → ℕ → ℕ → ℕ → Type 0
 LinesWith S evs text limit i j = (k : ℕ) × MaximalGap text i k × AssignmentsWith S evs [] text limit k j
 

@@ -19,19 +19,20 @@ pub record Digits (radix : ℕ) (text : List ℕ) (i j : ℕ) : Type 0 where
 
 -- ---- integers
 
--- n is the number m, negated if the first argument is true, and fits into 64 bits.
+-- n is the number m, negated if the first argument is true, and fits into an `i64`.
 abbrev pub IsSigned : Bool → ℕ → ℤ → Type 0
 IsSigned false m n = (n ≡ pos m) × (m < 2 ^ 63)
 IsSigned true m n = (n ≡ neg_ℤ (pos m)) × (m ≤ 2 ^ 63)
 
--- The text from i to j is a decimal number without a sign and without leading zeros.
+-- The text from i to j is a decimal integer without a sign and without leading zeros.
 --
 -- `unsigned-dec-int = DIGIT / digit1-9 1*( DIGIT / underscore DIGIT )`
 pub record UnsignedDecimal (text : List ℕ) (i j : ℕ) : Type 0 where
   pub digits : Digits 10 text i j
   pub leading : slice_index text i ≡ digit_zero → j ≡ i + 1
 
--- Whether a bare-key byte or a dot is at j. Neither may follow an integer without a prefix, `inf` or `nan`.
+-- Whether a bare-key byte (a letter, digit, dash or underscore) or a dot is at j. Neither may follow `inf`, `nan`, or
+-- an integer without a prefix.
 abbrev pub goes_on : List ℕ → ℕ → Bool
 goes_on text j = is_keylike (slice_index text j) || slice_index text j == period
 
@@ -91,7 +92,7 @@ pub record SpecialFloat (word : List ℕ) (text : List ℕ) (i j : ℕ) : Type 0
 
 -- ---- numbers
 
--- The text from i to j is a literal of this number, and the bytes after j do not continue it.
+-- The text from i to j is a literal of this number, and the bytes from j on do not continue it.
 --
 -- `integer = dec-int / hex-int / oct-int / bin-int`, `float = float-int-part ( exp / frac [ exp ] )`,
 -- `float =/ special-float`

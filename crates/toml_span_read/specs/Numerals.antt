@@ -1,10 +1,11 @@
--- How a number is read: functions from a text and an offset to the number there and its end, or to a fault. For a part
--- of a number, only the end is returned. `Numbers` says how numbers are spelled. The standard leaves open which fault
--- an invalid number has, and where; these definitions decide that.
+-- How a number is read. `number`, the last definition, returns the number at an offset and its end, or a fault; the
+-- others do a part of this. `Numbers` says how numbers are spelled. The standard leaves open which fault an invalid
+-- number has, and where; these definitions decide that.
 --
--- A number begins at i. Its first run of letters, digits, dashes and underscores is from a to b, where a is i or the
--- offset after a plus sign. Digits are read from `from` on in a piece, which is from `start` to `end`. A piece is a
--- run, or the rest of a run after a prefix or after the letter of an exponent.
+-- Parameters, unless a comment says otherwise: A number begins at i. Its first run of letters, digits, dashes and
+-- underscores is from a to b, where a is i or the offset after a plus sign. Digits are read from `from` on in a piece,
+-- which is from `start` to `end`. A piece is a run, or the rest of a run after a prefix or after the letter of an
+-- exponent.
 use Rattle.std.specs.Char.{is_ascii_hexdigit, digit_value}
 use Rattle.std.specs.List.{prefix_len, list_all, range_with_len}
 use Rattle.std.specs.Option.{ok_or, option_map_or}
@@ -68,7 +69,7 @@ digits_end radix text start from end =
 
 -- ---- integers
 
--- `[ minus / plus ]`: the offset after a sign, or i
+-- `[ minus / plus ]`: the offset after the sign at i, or i if no sign is there
 abbrev pub after_sign : List ℕ → ℕ → ℕ
 after_sign text i = if slice_index text i == plus || slice_index text i == dash then i + 1 else i
 
@@ -93,12 +94,13 @@ integer_part text start from end =
     then Err (invalid_number (if slice_index text (from + 1) == underscore then from + 2 else from + 1) end)
     else Ok m)
 
--- the number m, negated if the first argument is true, or None if the result does not fit into 64 bits
+-- the number m, negated if the first argument is true, or None if the result does not fit into an `i64`
 unfoldable pub signed : Bool → ℕ → Option ℤ
 signed false m = if nat_lt m (2 ^ 63) then Some (pos m) else None
 signed true m = if nat_le m (2 ^ 63) then Some (neg_ℤ (pos m)) else None
 
--- the integer that the digits spell, or a fault if it is out of range
+-- the integer that the digits from `from` to `end` spell, negated if `negative`, or a fault if it does not fit into an
+-- `i64`
 unfoldable pub integer : ℕ → List ℕ → Bool → ℕ → ℕ → ℕ → Result ℤ Fault
 integer radix text negative start from end =
     ok_or (signed negative (magnitude radix text from end)) (invalid_number start end)
@@ -149,7 +151,7 @@ decimal text i a b =
     else if slice_index text b == period then fraction text i a b >>= (λ j. Ok (numerals.Finite, j))
     else integer 10 text (is_negative text a) a (after_sign text a) b >>= (λ n. Ok (numerals.Integer n, b)))
 
--- `inf / nan`: the number that this word spells, if any
+-- `inf / nan`: the number that this word spells, negated if `negative`, or None for any other word
 unfoldable pub special : Bool → List ℕ → Option Numeral
 special negative word =
     if bytes_eq word (codes "inf") then Some (numerals.Infinite negative)
@@ -165,7 +167,7 @@ special_end text i a b n =
 
 -- ---- numbers
 
--- the number whose first run is from a to b, with its end: an integer with a prefix, `inf`, `nan`, or a decimal number
+-- the number whose first run is from a to b, with its end: `inf`, `nan`, an integer with a prefix, or a decimal number
 unfoldable pub unsigned : List ℕ → ℕ → ℕ → ℕ → Result (Numeral × ℕ) Fault
 unsigned text i a b =
     option_map_or (λ radix. radix_integer radix text (a + 2) b >>= (λ n. Ok (numerals.Integer n, b)))
@@ -189,7 +191,7 @@ abbrev pub cleaned : List ℕ → List ℕ
 cleaned literal =
     map (λ c. if c == 0x65 then 0x45 else c) (filter (λ c. not (c == plus || c == underscore)) literal)
 
--- the number read, given its literal
+-- this number as a `Scalar`, given its literal
 abbrev pub scalar_of : Numeral → List ℕ → Scalar
 scalar_of (numerals.Integer n) literal = scalars.integer n
 scalar_of numerals.Finite literal = float (finite (cleaned literal))

@@ -3,7 +3,7 @@
 -- "Array of Tables").
 --
 -- The standard does not define faults: these definitions say which one a text has, and where. `document`, the last one,
--- reads a whole text; each definition uses those above it. Keys that clash, such as `a = 1` on two lines, are not
+-- reads a whole text; each definition uses only earlier ones. Keys that clash, such as `a = 1` on two lines, are not
 -- faults: see `Clashes` of toml_span. `Grammar` says how each construct is spelled, without faults. A law says that the
 -- two agree: a text is read as sections if and only if it spells them.
 use Rattle.std.specs.Prelude.{◌≡◌, ℕ, zero, suc, ◌+◌, ◌⊎◌, Bool, true, false, ◌||◌, ◌==◌, List, [], ◌∷◌, ◌++◌, length}
@@ -100,8 +100,8 @@ missing expected text i r =
 
 -- `simple-key = quoted-key / unquoted-key`, `unquoted-key = 1*( ALPHA / DIGIT / %x2D / %x5F )`,
 -- `quoted-key = basic-string / literal-string`
--- The simple key that the token at i spells, with the offset after it, or the fault of another token. The fault of a
--- multi-line string begins at its first quote and is as long as its value.
+-- The simple key that the token at i spells, with the offset after it; a fault if anything else is at i. The fault of a
+-- multi-line string begins at the string's first quote and is as long as the string's value.
 abbrev pub key_result : ℕ → NextToken → Result (SimpleKey × ℕ) Fault
 key_result i (token span (keylike name) j) = Ok (record { name = name; span = span }, j)
 key_result i (token span (string source name false) j) = Ok (record { name = name; span = span }, j)
@@ -112,7 +112,8 @@ key_result i next_token = Err (wanted expected_tokens.TableKey i next_token)
 abbrev pub simple_key_at : List ℕ → ℕ → Reading (SimpleKey × ℕ)
 simple_key_at text i r = (next_token : NextToken) × IsNextToken text i next_token × (r ≡ key_result i next_token)
 
--- the fault of a part beyond the limit: in a header it spans the part, elsewhere the first byte of the part
+-- the fault of a part beyond the limit, which begins at i: in a header the fault has the span of the part, elsewhere it
+-- spans the byte at i
 abbrev pub one_too_many : Bool → ℕ → SimpleKey → Fault
 one_too_many in_header i s =
     record { kind = kinds.ExceededDepthLimit; span = if in_header then s.span else from_to i (i + 1) }
@@ -261,10 +262,10 @@ next_pair text limit value (es, i) =
     (after (keyval text limit (MaximalGap text) value i) (λ (e, m).
     after (added es e) (λ fs. separator right_brace expected_tokens.Comma text m (λ p. (fs, p)) (table_end fs))))
 
--- `val = string / boolean / array / inline-table / date-time / float / integer`: the value at i, whose key has n parts.
--- The third argument, `left`, is the number of levels of nesting that are left. A line begins with limit + 1 levels.
--- Each bracket and brace around the value, and each part of its own key and of the keys around it, takes one. If none
--- is left for the value itself, the value is beyond the limit.
+-- `val = string / boolean / array / inline-table / date-time / float / integer`: the value at i. The third argument,
+-- `left`, is the number of levels of nesting that are left. A line begins with limit + 1 levels. Each bracket and brace
+-- around the value, and each part of its own key and of the keys around it, takes one; n parts of its own key have not
+-- taken theirs yet. If no level is left for the value itself, the value is beyond the limit.
 unfoldable pub value : List ℕ → ℕ → ℕ → ℕ → ℕ → Reading ValueEnd
 value text limit zero n i = too_deep text i
 value text limit (suc left) (suc n) i = value text limit left n i
@@ -289,8 +290,8 @@ abbrev pub ends_lines : List ℕ → ℕ → Bool
 ends_lines text i = i == length text || slice_index text i == left_bracket
 
 -- `expression =/ ws keyval ws [ comment ]`: the loop ends at a header or at the end of the text; otherwise it reads
--- another assignment, the rest of its line and the blank lines after it. If the key goes through an earlier value of
--- its section, this fault is found only after faults on the rest of the line.
+-- another assignment, the rest of its line and the gap after that line. If the key goes through an earlier value of its
+-- section, that is a fault, but a fault on the rest of the line comes first.
 abbrev pub next_assignment : List ℕ → ℕ → Pairs → Reading (LoopStep Pairs Pairs)
 next_assignment text limit (es, i) =
     choice (ends_lines text i) (gives (Ok (done (es, i))))
@@ -298,8 +299,8 @@ next_assignment text limit (es, i) =
     after (tail text m) (λ n. after (added es e) (λ fs.
     skipping (MaximalGap text) n (λ k. gives (Ok (on (fs, k))))))))
 
--- the assignments from i up to a header or the end of the text, with the blank lines (`expression = ws [ comment ]`)
--- around them
+-- The assignments from i up to a header or the end of the text. The gaps around them may have blank lines
+-- (`expression = ws [ comment ]`).
 abbrev pub assignment_lines : List ℕ → ℕ → ℕ → Reading Pairs
 assignment_lines text limit i = skipping (MaximalGap text) i (λ k. Loop (next_assignment text limit) ([], k))
 
@@ -364,8 +365,8 @@ next_section text limit (bs, i) =
     choice (i == length text) (gives (Ok (done bs)))
     (after (section text limit i) (λ (b, j). gives (Ok (on (bs ++ (b ∷ []), j)))))
 
--- The assignments before the first header. A byte order mark, for which the grammar has no production, may come before
--- them.
+-- The section of the assignments before the first header, as a list (see `headerless_section`), and the offset after
+-- them. A byte order mark, for which the grammar has no production, may come before them.
 abbrev pub before_headers : List ℕ → ℕ → Reading ParsedSections
 before_headers text limit r =
     (i : ℕ) × FirstPlace text i

@@ -33,7 +33,7 @@ AreRead bs (Ok found) = map parsed_section found.items ≡ bs
 AreRead bs (Err (stops.Memory e)) = Unit {0}
 AreRead bs (Err (stops.Fault error)) = ⊥
 
--- An allocation can fail only if something other than comments and blank lines follows from i on.
+-- An allocation can fail only if the text from i on has more than white space, comments and line ends.
 abbrev pub AllocatesOnlyAfterGap : {A E : Type 0} → List ℕ → ℕ → Result A (Stop E) → Type 0
 AllocatesOnlyAfterGap text i (Err (stops.Memory e)) = (k : ℕ) × MaximalGap text i k × (k < length text)
 AllocatesOnlyAfterGap text i (Err (stops.Fault fault)) = Unit {0}

@@ -1,4 +1,4 @@
--- How the functions share the work. Nothing else in `specs/` cites it.
+-- Definitions for functions that only this project calls. Nothing else in `specs/` cites them.
 pub mod Faults
 pub mod Gaps
 pub mod Strings

@@ -39,7 +39,7 @@ pub fn begins_date(text: &str, at: usize) -> bool
                 && byte_at(text, at + 4) == b'-'))
 }
 
-/// Returns whether the byte can be part of a date or time: a letter, a digit, or one of `-_:.+`.
+/// Returns whether the byte is read as part of a date or time: a letter, a digit, or one of `-_:.+`.
 #[inline]
 fn is_date_byte(byte: u8) -> bool
     ensures { result ≡ spec.is_date_byte byte }

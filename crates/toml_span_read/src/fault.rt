@@ -1,4 +1,4 @@
-//! Faults: what can't be read in a text, and where.
+//! Faults, which say why a text can't be read, and where.
 ghost use Rattle.std.specs.Prelude.{◌≡◌, ◌<◌, ◌≤◌, length};
 ghost use Rattle.toml_span_tree.specs.Error.{kind_of, content_of};
 ghost use Rattle.toml_span_read.specs.Faults as spec;

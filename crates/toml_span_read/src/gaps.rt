@@ -1,5 +1,5 @@
-//! Skips gaps, which are the white space, comments and line ends between tokens. Offsets must be character boundaries,
-//! except for `byte_at`.
+//! Skips gaps, separators and closing brackets. A gap is the white space, comments and line ends between two tokens.
+//! Offsets must be character boundaries, except for `byte_at`.
 ghost use Rattle.std.specs.Prelude.{◌≡◌, ◌+◌, ◌<◌, slice_index};
 ghost use Rattle.std.specs.Str.{IsCharBoundary};
 ghost use Rattle.toml_span_read.specs.code.Gaps.{GapPieceGives, TailGives, DotGives, AfterElementGives, SeparatorGives};

@@ -10,7 +10,7 @@ pub struct Section<'de> {
     pub header: SmallVec<Key<'de>, 3>,
     /// Whether the header has double brackets; `false` without a header.
     pub array: bool,
-    /// The line of the header, from its first bracket to the end of the line, including the line end; 0..0 without a
+    /// The span from the first bracket of the header to the end of its line, including the line end; 0..0 without a
     /// header.
     pub header_span: Span,
     /// The span from the first bracket of the header (without a header, from the first assignment) to the end of the

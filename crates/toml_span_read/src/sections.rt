@@ -326,8 +326,8 @@ fn sections<'de>(
     Ok(found)
 }
 
-/// Reads the sections of a document, in the order of the text. They may clash. `limit` is the limit on the depth of
-/// values and on the number of parts of a key, as in `parse_with_limit`, and must be from 1 to 128.
+/// Reads the sections of `text`, in order. Their keys may clash. `limit` is the limit on the depth of values and on the
+/// number of parts of a key, as in `parse_with_limit`, and must be from 1 to 128.
 ///
 /// Fails with the first fault, or if an allocation fails.
 ///
@@ -342,7 +342,7 @@ pub fn read_sections<'de>(
     // The result is the one that the definition `document` determines: the sections, or the fault.
     ensures document { ReadsDocument text.now limit result }
     ensures placed { RefusedInside text.now result }
-    // Nothing is allocated for a text of comments and blank lines.
+    // No allocation can fail if the text has only white space, comments and line ends.
     ensures memory { (start : ℕ) × FirstPlace text.now start × AllocatesOnlyAfterGap text.now start result }
     // A string or key is borrowed if and only if it equals the text at its span, or is an empty single-line string.
     ensures borrows { IfOk result (λ found. AreWrittenRight text.now (sections_written found.items)) }

@@ -14,7 +14,7 @@ pub struct Val<'de> {
     pub span: Span,
 }
 
-/// The kinds of values.
+/// A value without its span.
 #[cycle(val)]
 #[derive(Debug, Drop)]
 pub enum ValKind<'de> {
@@ -24,7 +24,7 @@ pub enum ValKind<'de> {
     Boolean(bool),
     Datetime(DateText<'de>),
     Array(Vec<Val<'de>>),
-    /// An inline table: its pairs, in the order of the text. They may clash.
+    /// An inline table: its pairs, in the order of the text. Their keys may clash.
     Inline(Vec<Assignment<'de>>),
 }
 

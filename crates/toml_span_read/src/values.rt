@@ -39,8 +39,8 @@ use toml_span_tree::DateText;
 /// Reads the value at the byte offset `at`. Returns the value with the offset after it. `depth` is the number of
 /// brackets and braces around the value, plus the number of parts of its own key and of the keys around it.
 ///
-/// Fails with the first fault in the value, or with `ExceededDepthLimit` if a value is nested more than `limit` levels
-/// deep.
+/// Fails with the first fault. `limit` is the limit on the depth of values and on the number of parts of a key; the
+/// fault of a value or part beyond it is `ExceededDepthLimit`.
 ///
 /// `val = string / boolean / array / inline-table / date-time / float / integer` (TOML 1.1, Key/Value Pair)
 #[cycle(read)]
@@ -299,9 +299,9 @@ fn inline_table<'de>(
     }
 }
 
-/// Reads the pair of an inline table at `at`, which is nested `depth` levels deep. Returns the pair with the offset
-/// after it. Fails with the first fault. `limit` is the limit on the depth of values and on the number of parts of a
-/// key.
+/// Reads the pair at `at` in an inline table. Returns the pair with the offset after it. Fails with the first fault.
+/// `depth` is the number of brackets, braces and parts of keys around the pair. `limit` is the limit on the depth of
+/// values and on the number of parts of a key.
 ///
 /// `keyval = key keyval-sep val` (TOML 1.1, Inline Table)
 #[cycle(read)]
@@ -356,7 +356,7 @@ fn dated<'de>(date: DateText<'de>) -> ValKind<'de>
     ValKind::Datetime(date)
 }
 
-/// Returns a value of this kind, which must not be a string, with the span `start..end`.
+/// Returns the value with this `kind` and the span `start..end`.
 fn scalar_of<'de>(kind: ValKind<'de>, start: usize, end: usize) -> Val<'de>
     ensures parsed_value { parsed_value result ≡ parsed (parsed_kind kind.entry) (record { start = start; end = end }) }
     ensures written { written result ≡ kind_written kind.entry (record { start = start; end = end }) }

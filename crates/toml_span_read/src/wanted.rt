@@ -1,4 +1,4 @@
-//! Faults for a token where another token is expected.
+//! Faults for a token, or the end of the text, where another token is expected.
 ghost use Rattle.std.specs.Prelude.{◌≡◌, if◌then◌else◌, slice_index, false};
 ghost use Rattle.std.specs.Str.{IsCharBoundary};
 ghost use Rattle.toml_span_lex.specs.Tokens.{lexeme};

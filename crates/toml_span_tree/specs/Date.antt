@@ -1,5 +1,5 @@
 -- Date texts: dates and times, with or without offsets (TOML 1.1, "Offset Date-Time" to "Local Time", after RFC 3339).
--- A rule "at i" or "at the front" is about the bytes that begin there, any other rule about the whole text. Bytes after
+-- A rule "at i" or "at the front" is about the bytes from there on, any other rule about the whole text. Bytes after
 -- the end of a text count as 0.
 use Rattle.std.specs.Prelude.{◌≡◌, ◌⊎◌, [], ◌∷◌, ◌++◌, ℕ, ◌+◌, ◌-◌, ◌*◌, ◌%◌, Bool, true, not, ◌&&◌, ◌||◌, ◌==◌, nat_lt}
 use Rattle.std.specs.Prelude.{nat_le, List, length, take, drop, slice_index, if◌then◌else◌}

@@ -3,7 +3,7 @@ use Rattle.std.specs.Prelude.{ℕ, zero, suc, ℤ, List, Bool, cond, Option, Som
 use Rattle.std.specs.Str.{bytes_eq}
 use Rattle.toml_span_lex.specs.declared.span.Span.{Span}
 
--- a float: the text of a literal with digits, or an infinity or NaN with its sign
+-- a float: the text of a finite one, or an infinity or NaN, which is negative if the Bool is true
 pub data FloatValue : Type 0 where
   finite : List ℕ → FloatValue
   infinite : Bool → FloatValue
@@ -21,7 +21,7 @@ mutual
   pub data Node : Type 0 where
     node : Inner → Span → Node
 
-  -- the content of a value, or that it has been taken
+  -- the content of a value; `taken` if the content has been taken
   pub data Inner : Type 0 where
     taken : Inner
     scalar : Scalar → Inner

@@ -26,7 +26,8 @@ Listed = Path × Option (List ℕ × Span) × Node
 abbrev pub seen : Visited → Listed
 seen visited = (map step_of visited.path.items, option_map (λ k. key_of k.now) visited.key, view visited.value.now)
 
--- This value, which is at `path` and has the key k, and all values inside it. Each value comes before those inside it.
+-- The value with its path `path` and its key k, which may be None; then all values inside it, with their paths and
+-- keys. Each value comes before those inside it.
 abbrev mutual
   pub nodes_from : Path → Option (List ℕ × Span) → Node → List Listed
   nodes_from path k (node i span) = (path, k, node i span) ∷ held_nodes path i

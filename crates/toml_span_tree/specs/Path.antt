@@ -15,7 +15,7 @@ pub data Step : Type 0 where
 abbrev pub Path : Type 0
 Path = List Step
 
--- the kind of a value and, for a scalar, its content; or that the content of the value has been taken
+-- the kind of a value and, for a scalar, its content; `shape_taken` if the content of the value has been taken
 pub data Shape : Type 0 where
   shape_taken : Shape
   shape_scalar : Scalar → Shape
@@ -64,19 +64,19 @@ node_at path n = option_map (λ m. m.1) (reached path (None, n))
 abbrev pub child : Step → Node → Option Node
 child s n = option_map (λ m. m.1) (at_step s (inner_of n))
 
--- the entries with another value under this name; keys and their spans are unchanged
+-- the entries after w replaced the value of the entry with this name; keys and their spans are unchanged
 abbrev pub set_entry : List ℕ → Node → Members → Members
 set_entry name w no_members = no_members
 set_entry name w (member other span n ms) =
     cond (bytes_eq name other) (member other span w ms) (member other span n (set_entry name w ms))
 
--- the elements with another one at this position
+-- the elements after w replaced the one at position i
 abbrev pub set_element : ℕ → Node → Items → Items
 set_element i w no_items = no_items
 set_element zero w (item n ns) = item w ns
 set_element (suc i) w (item n ns) = item n (set_element i w ns)
 
--- the same table or array, with another value where the step leads
+-- the table or array after w replaced the value to which the step leads
 abbrev pub set_at_step : Step → Node → Inner → Inner
 set_at_step s w taken = taken
 set_at_step s w (scalar x) = scalar x
@@ -89,8 +89,7 @@ abbrev pub put_where : Option Node → Step → (Node → Node) → Node → Nod
 put_where None s change n = n
 put_where (Some m) s change n = node (set_at_step s (change m) (inner_of n)) (span_of n)
 
--- n with w at the path: w itself if the path is empty, otherwise the same table or array with the change inside the
--- value to which the first step leads. n is unchanged if the path leads nowhere.
+-- n after w replaced the value at the path: w itself if the path is empty, and n itself if the path leads nowhere
 abbrev pub put : Path → Node → Node → Node
 put [] w n = w
 put (s ∷ path) w n = put_where (child s n) s (put path w) n

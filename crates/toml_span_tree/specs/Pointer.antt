@@ -1,4 +1,4 @@
--- Which value of a tree a pointer names.
+-- Which value of a tree a pointer names, and the tree after that value was replaced.
 use Rattle.std.specs.Prelude.{◌≡◌, ⊤, ℕ, ◌&&◌, ◌||◌, ◌==◌, nat_lt, not, length, slice_index, List, [], ◌∷◌, Bool, true}
 use Rattle.std.specs.Prelude.{false, if◌then◌else◌, cond, Option, Some, None, option_map, option_and_then}
 use Rattle.std.specs.Str.{all_ascii_digits, bytes_eq}
@@ -48,7 +48,7 @@ unfoldable pub segments : List ℕ → List (List ℕ)
 segments [] = [] ∷ []
 segments (x ∷ xs) = if x == slash then [] ∷ segments xs else push_front x (segments xs)
 
--- The segments of a pointer: an empty list if it is empty, otherwise the segments after its first slash. None if the
+-- The segments of a pointer: no segments if the pointer is empty, otherwise those after its first slash. None if the
 -- text is not a pointer.
 unfoldable pub pointer_segments : List ℕ → Option (List (List ℕ))
 pointer_segments [] = Some []
@@ -66,7 +66,7 @@ abbrev pub put_where_named : Option Path → Node → Node → Node
 put_where_named None w n = n
 put_where_named (Some path) w n = put path w n
 
--- n with w at the path that the pointer names; n itself if the pointer names no path
+-- n after w replaced the value that the pointer names; n itself if the pointer names no value
 abbrev pub put_pointed : List ℕ → Node → Node → Node
 put_pointed pointer w n = put_where_named (pointed_path pointer n) w n
 
@@ -81,7 +81,7 @@ positions_apart (Some i) (Some j) = not (i == j)
 abbrev pub segments_apart : List ℕ → List ℕ → Bool
 segments_apart segment other = not (bytes_eq segment other) && positions_apart (position_of segment) (position_of other)
 
--- Both lists have a segment at some position, and these two segments differ. Those after them may be anything.
+-- For some n, both lists have an n-th segment, and the two differ. All later segments may be anything.
 abbrev pub paths_diverge : List (List ℕ) → List (List ℕ) → Bool
 paths_diverge [] others = false
 paths_diverge (segment ∷ more) [] = false
@@ -93,7 +93,8 @@ paths_diverge_if_any None o = false
 paths_diverge_if_any (Some names) None = false
 paths_diverge_if_any (Some names) (Some others) = paths_diverge names others
 
--- The two pointers diverge: neither names the value of the other, nor one inside it.
+-- For some n, both pointers have an n-th segment, and the two differ. So neither pointer names the value that the other
+-- names, or a value inside that value.
 abbrev pub pointers_diverge : List ℕ → List ℕ → Bool
 pointers_diverge pointer other = paths_diverge_if_any (pointer_segments pointer) (pointer_segments other)
 
@@ -105,8 +106,8 @@ NamesPath (segment ∷ names) [] = ⊥
 NamesPath (segment ∷ names) (key name ∷ path) = (segment ≡ name) × NamesPath names path
 NamesPath (segment ∷ names) (position i ∷ path) = (position_of segment ≡ Some i) × NamesPath names path
 
--- The pointer names m in n: its segments name a path at which m is, and the content of m has not been taken, unless the
--- path is empty.
+-- The pointer names m in n: its segments name the path of m. Unless the path is empty, the content of m has not been
+-- taken.
 abbrev pub IsPointed : List ℕ → Node → Node → Type 0
 IsPointed pointer n m =
     (names : List (List ℕ)) × (path : Path) × (pointer_segments pointer ≡ Some names) × NamesPath names path

@@ -63,7 +63,7 @@ items_view vs = items_of (map view vs)
 abbrev pub members_view : List (Key × Value) → Members
 members_view es = members_of (map (λ e. (e.0, view e.1)) es)
 
--- the content of a value, or that it has been taken
+-- the content of a value; `taken` if the content has been taken
 abbrev pub inner_of : Node → Inner
 inner_of (node i span) = i
 
@@ -96,7 +96,7 @@ abbrev mutual
   all_members_whole no_members = true
   all_members_whole (member name key n ms) = is_whole n && all_members_whole ms
 
--- The scalar, the elements or the entries. None if the value is of another kind, or its content has been taken.
+-- The scalar, the elements or the entries. None if the value is of another kind, or if its content has been taken.
 abbrev pub scalar_in : Inner → Option Scalar
 scalar_in (scalar s) = Some s
 scalar_in _ = None

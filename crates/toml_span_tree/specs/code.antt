@@ -1,3 +1,3 @@
--- Definitions that only inner functions need. Nothing else in `specs/` cites them.
+-- Definitions for functions that only this project calls. Nothing else in `specs/` cites them.
 pub mod Pointer
 pub mod Lending

@@ -70,7 +70,7 @@ fn is_two_digits(text: &[u8], at: usize, low: u32, high: u32) -> bool
         && number <= high
 }
 
-/// Returns whether a year of the Gregorian calendar has a 29th of February.
+/// Returns whether `year` is a leap year of the Gregorian calendar.
 fn is_leap_year(year: u32) -> bool
     ensures { result ≡ spec.is_leap_year year }
 {

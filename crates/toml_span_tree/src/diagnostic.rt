@@ -27,8 +27,8 @@ pub struct Diagnostic<F> {
 /// A span in a file, and a text to show there.
 #[derive(Debug, Drop)]
 pub struct Label<F> {
-    /// Whether this label is at the error's own span. Other labels mark, for example, the first of two equal keys, or
-    /// an unexpected key.
+    /// Whether this is the primary label, which is at the error's own span. Secondary labels mark, for example, the
+    /// first of two equal keys, or an unexpected key.
     pub primary: bool,
     /// The file, as the caller of `to_diagnostic` identified it.
     pub file: F,
@@ -109,7 +109,7 @@ impl ErrorKind<'_> {
     }
 }
 
-/// Returns `before`, the character and `after` as one string.
+/// Returns one string: `before`, then `c` as it appears in messages (see `Shown`), then `after`.
 fn around(alloc: Global, before: &str, c: char, after: &str) -> Result<String, AllocError>
     ensures { IfOk result (λ text. string_bytes text ≡ before.now ++ char_text c ++ after.now) }
 {
@@ -117,7 +117,7 @@ fn around(alloc: Global, before: &str, c: char, after: &str) -> Result<String, A
     format!(in alloc; "{before}{c}{after}")
 }
 
-/// Returns the message for `count` unexpected keys. It lists the expected names.
+/// Returns the message for `count` unexpected keys. It lists the names in `expected`.
 fn unexpected_keys(alloc: Global, count: usize, expected: &[String]) -> Result<String, AllocError>
     ensures { IfOk result (λ text. string_bytes text
         ≡ unexpected_keys_message count (map string_bytes expected.now)) }
@@ -126,7 +126,7 @@ fn unexpected_keys(alloc: Global, count: usize, expected: &[String]) -> Result<S
     format!(in alloc; "found {count} unexpected keys, expected: {expected}")
 }
 
-/// Returns a secondary label without text at the span of each key.
+/// Returns one secondary label for each of `keys`, at the key's span and without text.
 fn key_labels<F: Copy>(
     alloc: Global,
     file: F,
@@ -147,8 +147,8 @@ fn key_labels<F: Copy>(
     Ok(labels)
 }
 
-/// Returns a primary label without text at `span`, followed by a secondary label for each of `places`, with its text
-/// and its span.
+/// Returns a primary label at `span`, without text, and then one secondary label for each of `places`, with the text
+/// and the span of the place.
 fn marked_labels<F: Copy>(
     alloc: Global,
     file: F,

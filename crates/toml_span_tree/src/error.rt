@@ -18,15 +18,15 @@ pub enum ErrorKind<'s> {
     UnexpectedEof,
     /// A value is nested too deeply, or a header or dotted key has too many parts.
     ExceededDepthLimit,
-    /// A character that may not occur in a string.
+    /// A character that may not occur in the string that contains it, such as a line feed in a single-line string.
     InvalidCharInString(char),
-    /// A character that may not follow a backslash.
+    /// The character after a backslash, if the two do not begin a valid escape.
     InvalidEscape(char),
     /// A character where a hexadecimal digit is expected.
     InvalidHexEscape(char),
     /// The number that an escape spells, which is not a Unicode scalar value.
     InvalidEscapeValue(u32),
-    /// A character that no token begins with.
+    /// A character at which no token begins, such as a carriage return without a line feed after it.
     Unexpected(char),
     /// The input ends inside a string.
     UnterminatedString,
@@ -48,7 +48,8 @@ pub enum ErrorKind<'s> {
         name: String,
         first: Span,
     },
-    /// A key that is defined twice. `first` is the span of the earlier key.
+    /// A key that is defined twice. In typed reads, two keys for the same field, such as its name and an old name.
+    /// `first` is the span of the earlier key.
     DuplicateKey {
         key: String,
         first: Span,
@@ -64,7 +65,7 @@ pub enum ErrorKind<'s> {
     DottedKeyInvalidType {
         first: Span,
     },
-    /// Unknown keys in a table, with their spans, and the names of the type's fields (typed reads).
+    /// Unknown keys in a table, with their spans, and the expected names (typed reads).
     UnexpectedKeys {
         keys: Vec<(String, Span)>,
         expected: Vec<String>,
@@ -73,7 +74,7 @@ pub enum ErrorKind<'s> {
     UnquotedString,
     /// The name of a field that the table lacks (typed reads).
     MissingField(&'s str),
-    /// A field that the input has under its old name (typed reads that warn).
+    /// A field that the input has under the deprecated name `old`; `new` is the current name (typed reads that warn).
     Deprecated {
         old: &'s str,
         new: &'s str,

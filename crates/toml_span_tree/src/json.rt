@@ -68,7 +68,7 @@ fn json_of_elements(alloc: Global, array: &Array<'_>) -> Result<Vec<Json>, Alloc
     Ok(made)
 }
 
-/// Converts the elements, and appends them to `made`. If an allocation fails, `made` has some of them.
+/// Converts the elements, and appends them to `made`. If an allocation fails, some of them may have been appended.
 #[cycle(json)]
 fn push_elements(
     alloc: Global,

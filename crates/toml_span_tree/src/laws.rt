@@ -1,5 +1,5 @@
-//! Laws: facts about the definitions, stated as functions that do nothing. The segments of a pointer are the parts that
-//! its slashes separate.
+//! Laws: facts about the definitions, stated as contracts of functions that do nothing. Each `/` of a pointer begins a
+//! segment: `/a/b` has the segments `a` and `b`.
 ghost use Rattle.std.specs.Prelude.{◌≡◌, ◌↔◌, ◌<◌, ◌^◌, ℕ, List, [], Some, IsTrue, true, false, decimal};
 ghost use Rattle.toml_span_tree.specs.Node.{Node};
 ghost use Rattle.toml_span_tree.specs.Path.{Path, Place, shape_of, place_at, node_at, put, BeginsWith};
@@ -74,8 +74,8 @@ pub fn pointer_names_what_was_put()
         → pointed pointer (put_pointed pointer w n) ≡ Some w }
 {}
 
-/// Replacing the value that one pointer finds changes nothing for another pointer, if the two differ in a segment that
-/// both have: the other pointer finds the same value as before, or again none.
+/// Suppose that, for some n, two pointers have different n-th segments. Then replacing the value that one of the
+/// pointers finds changes nothing for the other: it finds the same value as before, or again none.
 pub fn other_pointers_keep()
     ensures { (pointer other : List ℕ) (n m w : Node) → pointed pointer n ≡ Some m → pointers_diverge pointer other ≡ true
         → pointed other (put_pointed pointer w n) ≡ pointed other n }

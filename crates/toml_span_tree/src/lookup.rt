@@ -1,5 +1,5 @@
-//! Look-ups by strings that need not live as long as the document. The segments of a pointer are the parts that its
-//! slashes separate.
+//! Look-ups by strings that need not live as long as the document. Each `/` of a pointer begins a segment: `/a/b` has
+//! the segments `a` and `b`.
 ghost use Rattle.std.specs.Prelude.{◌≡◌, option_map};
 ghost use Rattle.toml_span_tree.specs.Node.{get_member};
 ghost use Rattle.toml_span_tree.specs.code.Pointer.{entry, value_named, untaken_entry};
@@ -12,8 +12,8 @@ use crate::pointer::{array_entry, cut};
 use crate::value::{Table, Value, ValueInner};
 pub use compiled::Pointer;
 
-/// Returns the value of the entry with this name, or `None` if the table has no such entry. Compares the names one by
-/// one.
+/// Returns the value of the entry with this name, or `None` if the table has no such entry. Compares `name` with the
+/// names of the entries one by one.
 pub fn entry_named<'v, 'de>(table: &'v Table<'de>, name: &str) -> Option<&'v Value<'de>>
     ensures { option_map (λ v. view v.now) result ≡ get_member name.now (members_view table.now.entries) }
 {
@@ -26,7 +26,7 @@ pub fn entry_named<'v, 'de>(table: &'v Table<'de>, name: &str) -> Option<&'v Val
 }
 
 impl<'de> ValueInner<'de> {
-    /// Returns the value that `segment` selects: of a table, the value of the entry with this name; of an array, the
+    /// Returns the value that `segment` selects: in a table, the value of the entry with this name; in an array, the
     /// element at this position. Returns `None` if no such value exists.
     fn entry_of(&self, segment: &str) -> Option<&Value<'de>>
         ensures { option_map (λ v. view v.now) result ≡ entry segment.now (inner_view self.now) }
@@ -67,7 +67,7 @@ impl<'de> Value<'de> {
     /// Returns the value that `pointer` names, or `None` if it names no value. The method `pointer` does the same, but
     /// its string must live as long as the document. Here the string can be built at run time.
     ///
-    /// Takes time linear in the number of entries of the tables on the way, since it compares names one by one. For
+    /// In each table on the way, takes time linear in the number of entries, since it compares names one by one. For
     /// large tables or repeated look-ups, use a `Pointer` and `at`.
     pub fn look_up(&self, pointer: &str) -> Option<&Self>
         ensures { option_map (λ v. view v.now) result ≡ pointed pointer.now (view self.now) }

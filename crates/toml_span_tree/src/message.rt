@@ -1,4 +1,4 @@
-//! The messages of errors.
+//! The codes and messages of errors.
 ghost use Rattle.std.specs.Prelude.{◌≡◌, ◌++◌, codes, map, Some, string_bytes};
 ghost use Rattle.std.specs.Fmt.{WritesOnOk};
 ghost use Rattle.toml_span_tree.specs.Error.{kind_of, marked_keys};
@@ -69,7 +69,7 @@ impl Display for Shown {
     }
 }
 
-/// Writes `text`, which ends with a backtick, then the character and a closing backtick.
+/// Writes `text`, which ends with a backtick, then `c` as it appears in messages (see `Shown`), and a closing backtick.
 fn with_char<W: Write>(f: &mut Formatter<W>, text: &str, c: char) -> fmt::Result
     ensures { WritesOnOk W.write_str_gives f.old result (text.now ++ char_text c ++ codes "`") f.new }
 {
@@ -77,7 +77,7 @@ fn with_char<W: Write>(f: &mut Formatter<W>, text: &str, c: char) -> fmt::Result
     write!(f, "{text}{c}`")
 }
 
-/// Writes the message that the field `old` is now called `new`.
+/// Writes the message that the field name `old` is deprecated, and that `new` has replaced it.
 fn deprecated<W: Write>(f: &mut Formatter<W>, old: &str, new: &str) -> fmt::Result
     ensures { WritesOnOk W.write_str_gives f.old result (deprecated_text old.now new.now) f.new }
 {
@@ -85,7 +85,7 @@ fn deprecated<W: Write>(f: &mut Formatter<W>, old: &str, new: &str) -> fmt::Resu
     write!(f, "' is deprecated, '{new}' has replaced it")
 }
 
-/// Writes the message that a table has unexpected `keys`, and lists the `expected` names.
+/// Writes the message that a table has unexpected keys. The message lists `keys` and the names in `expected`.
 fn unexpected_keys<W: Write>(
     f: &mut Formatter<W>,
     keys: &[(String, Span)],
@@ -100,7 +100,7 @@ fn unexpected_keys<W: Write>(
     write!(f, "`\nexpected: {expected}")
 }
 
-/// Writes the message that a value is unexpected, with the list of the expected values.
+/// Writes the message for an unexpected value. The message lists the expected values.
 fn unexpected_value<W: Write>(f: &mut Formatter<W>, expected: &[&str]) -> fmt::Result
     ensures { WritesOnOk W.write_str_gives f.old result
         (unexpected_value_text (map (λ name. name.now) expected.now)) f.new }

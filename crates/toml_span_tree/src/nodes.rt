@@ -7,15 +7,16 @@ use crate::value::{Table, Value, ValueInner};
 use std::alloc::{AllocError, Global};
 use toml_span_lex::key::Key;
 
-/// A step of a path: the name of an entry of a table, or the position of an element of an array, from 0.
+/// A step of a path: the name of an entry of a table, or the position of an element of an array, counted from 0.
 #[derive(Clone, Copy, Debug, PartialEq, Eq)]
 pub enum Step<'t> {
     Key(&'t str),
     Position(usize),
 }
 
-/// A value that `nodes` lists. `path` leads to it from the value given to `nodes`. `key` is the key of an entry of a
-/// table; it is `None` for an element of an array and for the given value.
+/// A value that `nodes` lists. `path` leads to it from the value given to `nodes`. If it is the value of an entry of a
+/// table, `key` is the key of that entry. For an element of an array, and for the value given to `nodes`, `key` is
+/// `None`.
 #[derive(Drop)]
 pub struct Visited<'t, 'de> {
     pub path: Vec<Step<'t>>,
@@ -73,7 +74,7 @@ fn push_visited<'t, 'de>(
 }
 
 /// Appends `value` and all values inside it to `list`. `key` and `path` are those of `value`. If an allocation fails,
-/// `list` has some of them.
+/// some of these values may have been appended.
 #[cycle(push_node)]
 fn push_node<'t, 'de>(
     alloc: Global,
@@ -96,8 +97,8 @@ fn push_node<'t, 'de>(
     }
 }
 
-/// Appends all `elements` of the array at `path`, and all values inside them, to `list`. If an allocation fails, `list`
-/// has some of them.
+/// Appends each of `elements`, and all values inside it, to `list`. `path` is the path of the array. If an allocation
+/// fails, some of these values may have been appended.
 #[cycle(push_node)]
 fn push_elements<'t, 'de>(
     alloc: Global,
@@ -115,8 +116,8 @@ fn push_elements<'t, 'de>(
     Ok(())
 }
 
-/// Appends the entries of the table at `path`, and all values inside them, to `list`. If an allocation fails, `list`
-/// has some of them.
+/// Appends the value of each entry of `table`, and all values inside it, to `list`. `path` is the path of the table. If
+/// an allocation fails, some of these values may have been appended.
 #[cycle(push_node)]
 fn push_entries<'t, 'de>(
     alloc: Global,

@@ -1,4 +1,4 @@
-//! The entries of a table, sorted by the spans of their keys.
+//! The entries of a table, sorted by the starts of their keys' spans.
 ghost use Rattle.std.specs.Prelude.{◌≡◌, IfOk, map};
 ghost use Rattle.std.specs.List.Sorted.{IsNonDecreasingBy, IsPermutation};
 ghost use Rattle.toml_span_tree.specs.Order.{entry_of, start_of};

@@ -21,8 +21,8 @@ use crate::value::{Array, Table, Value, ValueInner};
 use std::mem;
 use toml_span_lex::key::Key;
 
-/// Returns the position that the segment spells in decimal digits, without a sign and without leading zeros. Returns
-/// `None` for any other segment, and for a number of 2^64 or more.
+/// Returns the position that `segment` spells: decimal digits without a sign, and without a leading zero unless it is
+/// `0`. Returns `None` for any other segment, and for a number of 2^64 or more.
 pub fn position(segment: &str) -> Option<usize>
     ensures { PositionIs result (position_of segment.now) }
 {
@@ -64,7 +64,7 @@ pub fn array_entry<'v, 'de>(array: &'v Array<'de>, segment: &str) -> Option<&'v 
 }
 
 impl<'de> ValueInner<'de> {
-    /// Returns the value that `segment` selects: of a table, the value of the entry with this name; of an array, the
+    /// Returns the value that `segment` selects: in a table, the value of the entry with this name; in an array, the
     /// element at this position. Returns `None` if no such value exists.
     fn entry(&self, segment: &'de str) -> Option<&Value<'de>>
         ensures { option_map (λ v. view v.now) result ≡ entry segment.now (inner_view self.now) }
@@ -241,8 +241,8 @@ impl<'de> Value<'de> {
         }
     }
 
-    /// Replaces the value that `pointer` names with `new`, and returns the old value. `new` keeps its span. Keys, their
-    /// spans and all other values are unchanged.
+    /// Puts `new` in the place of the value that `pointer` names, and returns the old value. `new` keeps its span.
+    /// Keys, their spans and all other values are unchanged.
     ///
     /// If `pointer` names no value, returns `Err(new)`, and nothing changes.
     pub fn replace(&mut self, pointer: &'de str, new: Self) -> Result<Self, Self>
@@ -251,8 +251,8 @@ impl<'de> Value<'de> {
         ensures refused { IfErr result (λ back. (back ≡ new.entry) × (pointed pointer.now (view self.old) ≡ None)
             × (view self.new ≡ view self.old)) }
     {
-        // Toolchain: in its callers, the prover can't follow a write through the `&mut Value<'de>` that `pointer_mut`
-        // returns. So proofs about writes use this function.
+        // Toolchain: if a function calls `pointer_mut`, the prover can't follow a write through the `&mut Value<'de>`
+        // that the call returns. So functions with proofs about writes call `replace`.
         if pointer.is_empty() {
             return Ok(mem::replace(self, new));
         }
@@ -263,7 +263,7 @@ impl<'de> Value<'de> {
     }
 }
 
-/// Returns a mutable reference to the content of a value, which must not have been taken.
+/// Returns a mutable reference to the content of `value`. The content must not have been taken.
 fn inner_of<'v, 'de>(value: &'v mut Value<'de>) -> &'v mut ValueInner<'de>
     requires { IsHeld value.old }
     ensures* writes_back { sem 𝓛 (lends_inner value.entry result) }
@@ -275,7 +275,7 @@ fn inner_of<'v, 'de>(value: &'v mut Value<'de>) -> &'v mut ValueInner<'de>
     }
 }
 
-/// Returns a mutable reference to the value of the entry with the name of `key`, which must exist.
+/// Returns a mutable reference to the value of the entry with the name of `key`. The entry must exist.
 fn member_of<'v, 'de, 'k>(table: &'v mut Table<'de>, key: &'k Key<'de>) -> &'v mut Value<'de>
     requires { IsSome (get_member (cow_str_bytes key.now.name) (members_view table.old.entries)) }
     ensures* writes_back { sem 𝓛 (lends_member table.entry (cow_str_bytes key.now.name) result) }
@@ -287,7 +287,7 @@ fn member_of<'v, 'de, 'k>(table: &'v mut Table<'de>, key: &'k Key<'de>) -> &'v m
     }
 }
 
-/// Returns a mutable reference to the element at a position, which must be below the length of the array.
+/// Returns a mutable reference to the element at `position`, which must be below the length of the array.
 fn item_of<'v, 'de>(array: &'v mut Array<'de>, position: usize) -> &'v mut Value<'de>
     requires { position < vec_len array.old }
     ensures* writes_back { sem 𝓛 (lends_item array.entry position result) }
@@ -296,8 +296,8 @@ fn item_of<'v, 'de>(array: &'v mut Array<'de>, position: usize) -> &'v mut Value
     &mut array[position]
 }
 
-/// Returns a mutable reference to the value that the name of `key` selects: the entry with this name, or the element at
-/// the position that the name spells. The value must exist.
+/// Returns a mutable reference to the value that the name of `key` selects: in a table, the value of the entry with
+/// this name; in an array, the element at the position that the name spells. The selected value must exist.
 fn entry_of<'v, 'de, 'k>(inner: &'v mut ValueInner<'de>, key: &'k Key<'de>) -> &'v mut Value<'de>
     requires { IsSome (entry (cow_str_bytes key.now.name) (inner_view inner.old)) }
     ensures* writes_back { sem 𝓛 (lends_entry inner.entry (cow_str_bytes key.now.name) result) }
@@ -317,7 +317,7 @@ fn entry_of<'v, 'de, 'k>(inner: &'v mut ValueInner<'de>, key: &'k Key<'de>) -> &
     }
 }
 
-/// Returns the position that the name of `key` spells, or 0 if it spells none.
+/// Returns the position that the name of `key` spells, or 0 if `position` returns `None` for the name.
 fn position_named<'k, 'de>(key: &'k Key<'de>) -> usize
     ensures { (n : ℕ) → position_of (cow_str_bytes key.now.name) ≡ Some n → n < 2 ^ 64 → result ≡ n }
 {
@@ -327,8 +327,8 @@ fn position_named<'k, 'de>(key: &'k Key<'de>) -> usize
     }
 }
 
-/// Returns a mutable reference to the entry or element that the name of `key` selects in `value`. It must exist, and
-/// its content and the content of `value` must not have been taken.
+/// Returns a mutable reference to the value that the name of `key` selects in `value`. The selected value must exist.
+/// Neither its content nor the content of `value` may have been taken.
 fn child_of<'v, 'de, 'k>(value: &'v mut Value<'de>, key: &'k Key<'de>) -> &'v mut Value<'de>
     requires { IsSome (untaken_entry (cow_str_bytes key.now.name) (view value.old)) }
     ensures* writes_back { sem 𝓛 (lends_child value.entry (cow_str_bytes key.now.name) result) }
@@ -341,8 +341,8 @@ fn child_of<'v, 'de, 'k>(value: &'v mut Value<'de>, key: &'k Key<'de>) -> &'v mu
 /// Drops a key.
 fn release(key: Key<'_>) {}
 
-/// Returns a mutable reference to the entry or element that `segment` selects in `value`. It must exist, and its
-/// content and the content of `value` must not have been taken.
+/// Returns a mutable reference to the value that `segment` selects in `value`. The selected value must exist. Neither
+/// its content nor the content of `value` may have been taken.
 fn step_to<'v, 'de>(value: &'v mut Value<'de>, segment: &'de str) -> &'v mut Value<'de>
     requires { IsSome (untaken_entry segment.now (view value.old)) }
     ensures* writes_back { sem 𝓛 (lends_child value.entry segment.now result) }
@@ -385,7 +385,7 @@ fn after<'p>(path: &'p str) -> &'p str
 }
 
 /// Returns a mutable reference to the value to which the segments of `path`, a pointer without its first `/`, lead from
-/// `value`. The value must exist.
+/// `value`. There must be such a value: `value.found(path)` must not be `None`.
 fn at_path<'v, 'de>(value: &'v mut Value<'de>, path: &'de str) -> &'v mut Value<'de>
     requires { IsSome (value_named (segments path.now) (view value.old)) }
     ensures* writes_back { sem 𝓛 (lends_named value.entry path.now result) }
@@ -418,7 +418,7 @@ fn after_slash<'p>(pointer: &'p str) -> &'p str
     }
 }
 
-/// Returns a mutable reference to the value that the pointer names, which must exist.
+/// Returns a mutable reference to the value that `pointer` names in `value`. There must be such a value.
 fn at_pointer<'v, 'de>(value: &'v mut Value<'de>, pointer: &'de str) -> &'v mut Value<'de>
     requires { IsSome (pointed pointer.now (view value.old)) }
     ensures* writes_back { sem 𝓛 (lends_at value.entry pointer.now result) }
@@ -431,7 +431,8 @@ fn at_pointer<'v, 'de>(value: &'v mut Value<'de>, pointer: &'de str) -> &'v mut 
     at_path(value, path)
 }
 
-/// Returns whether `pointer` names a value. Takes a mutable reference, like `pointer_mut`, but changes nothing.
+/// Returns whether `pointer` names a value in `value`. Takes a mutable reference, as `pointer_mut` does, but changes
+/// nothing.
 fn is_pointed<'x, 'de>(value: &'x mut Value<'de>, pointer: &'de str) -> bool
     ensures some { result ≡ true → IsSome (pointed pointer.now (view value.old)) }
     ensures none { result ≡ false → pointed pointer.now (view value.old) ≡ None }

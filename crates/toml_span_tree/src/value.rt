@@ -365,7 +365,7 @@ impl<'de> ValueInner<'de> {
 }
 
 #[cycle(whole)]
-/// Returns whether all values, and all values inside them, still have their contents.
+/// Returns whether all `values`, and all values inside them, still have their contents.
 fn all_whole(values: &[Value<'_>]) -> bool
     ensures { result ≡ all_whole_items (items_view values.now) }
 {
@@ -378,7 +378,7 @@ fn all_whole(values: &[Value<'_>]) -> bool
 }
 
 #[cycle(whole)]
-/// Returns whether the values of all entries, and all values inside them, still have their contents.
+/// Returns whether the values of all entries of `table`, and all values inside them, still have their contents.
 fn all_entries_whole(table: &Table<'_>) -> bool
     ensures { result ≡ all_members_whole (members_view table.now.entries) }
 {

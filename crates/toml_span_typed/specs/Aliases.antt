@@ -63,7 +63,7 @@ asked_both name old s = keeping_twice name (newer name s) old (older name old s)
 abbrev pub asked_deprecated : List ℕ → List ℕ → State → State
 asked_deprecated name old s = keeping_twice name (newer name s) old (older name old s) (passed old (noted name s))
 
--- the warning for a key with a deprecated name
+-- the warning for a key with the deprecated name `old`, at the span of the key; nothing without such a key
 abbrev pub outdated_at : List ℕ → List ℕ → Option (Option Span) → List ErrorContent
 outdated_at name old (Some (Some span)) = record { kind = deprecated old name; span = span; line_info = None } ∷ []
 outdated_at name old _ = []
@@ -76,8 +76,8 @@ outdated name old s = outdated_at name old (option_map (λ entry. entry.0) (olde
 abbrev pub lacks : List ℕ → State → State
 lacks name s = keeping (missing name s ∷ []) s
 
--- The value `moved`, which was moved out of the table, is read: the result is the element, or None after all errors of
--- the read were kept. If `moved` is None, the result is None, and the state afterwards is `none` of the state before.
+-- If `moved` is a value, which was moved out of the table, it is read: the result is the read value, or None after all
+-- errors of the read were kept. If `moved` is None, so is the result, and the state afterwards is `none before`.
 abbrev pub ReadsMoved : {T : Type 0} → (Node → Result T Errors → Node → Type 0) → (State → State) → Option Node
     → State → Option T → State → Type 0
 ReadsMoved reads none moved before (Some x) after =
@@ -96,14 +96,14 @@ abbrev pub AfterAllocErrorDeprecated : List ℕ → List ℕ → State → State
 AfterAllocErrorDeprecated name old before after =
     (after ≡ before) ⊎ (after ≡ passed old (noted name before)) ⊎ (after ≡ asked_deprecated name old before)
 
--- `read_either`: the element; or None, after keeping the error of the missing name, or all errors of the read
+-- `read_either`: the read value; or None, after keeping the error of the missing name, or all errors of the read
 abbrev pub AsksEither : {T : Type 0} → (Node → Result T Errors → Node → Type 0) → List ℕ → List ℕ → State
     → Result (Option T) AllocError → State → Type 0
 AsksEither reads name old before (Ok field) after =
     ReadsMoved reads (lacks name) (either name old before) (asked_both name old before) field after
 AsksEither reads name old before (Err error) after = AfterAllocErrorEither name old before after
 
--- `read_optional_either`: the element; or None if both names are missing, or after keeping the errors of the read
+-- `read_optional_either`: the read value; or None, if both names are missing, or after keeping the errors of the read
 abbrev pub TriesEither : {T : Type 0} → (Node → Result T Errors → Node → Type 0) → List ℕ → List ℕ → State
     → Result (Option T) AllocError → State → Type 0
 TriesEither reads name old before (Ok field) after =
@@ -123,7 +123,8 @@ TriesDeprecated reads name old before (Ok field) after =
     ReadsMoved reads (λ s. s) (either name old before) (asked_deprecated name old before) field after
 TriesDeprecated reads name old before (Err error) after = AfterAllocErrorDeprecated name old before after
 
--- The warning about the old name is appended to the earlier ones. If an allocation failed, it may be missing.
+-- The warning about the old name, if there is one, is appended to the earlier warnings. If an allocation failed, it may
+-- be missing.
 abbrev pub Warns : {T : Type 0} → List ErrorContent → List ErrorContent → Result T AllocError → List ErrorContent
     → Type 0
 Warns warnings warning (Ok x) more = more ≡ warnings ++ warning

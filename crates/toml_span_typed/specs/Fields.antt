@@ -1,4 +1,5 @@
--- What `TableHelper` returns for a field if it keeps the errors itself.
+-- Results of the methods in `table_helper/fields.rt`, of `parsed` and `parse_with`, and of reads of a `Parsed`, a `Box`
+-- or an `Option`.
 use Rattle.std.specs.Prelude.{◌≡◌, ◌⊎◌, ℕ, List, [], ◌∷◌, length, Option, Some, None, MatchOption, true, Result, Ok}
 use Rattle.std.specs.Prelude.{Err}
 use Rattle.std.specs.declared.alloc.AllocError.{AllocError}
@@ -14,12 +15,12 @@ use Rattle.toml_span_typed.specs.TableHelper.{Requires, AfterAllocError, State, 
 use Rattle.toml_span_typed.specs.declared.de_helpers.table_helper.Unfinished.{Unfinished}
 use Rattle.toml_span_typed.specs.declared.de_helpers.table_helper.Unfinished.TheVariants as unfinished
 
--- all errors, or the failed allocation
+-- the errors as a `Fault`, or the failed allocation as `Memory`
 abbrev pub stop_of : Unfinished → Stop Errors
 stop_of (unfinished.Faults faults) = stop.Fault faults
 stop_of (unfinished.Memory helper) = stop.Memory (record {})
 
--- `read`: the element; or None, after keeping the error of the missing name, or all errors of the read
+-- `read`: the read value; or None, after keeping the error of the missing name, or all errors of the read
 abbrev pub Asks : {T : Type 0} → (Node → Result T Errors → Node → Type 0) → List ℕ → State
     → Result (Option T) AllocError → State → Type 0
 Asks reads name before (Ok (Some x)) after =
@@ -31,7 +32,7 @@ Asks reads name before (Ok None) after = MatchOption (found name before)
     × (after ≡ keeping (all faults) (noted name before)))
 Asks reads name before (Err error) after = AfterAllocError name before after
 
--- `kept`: the element that was read; or None, after keeping the errors of the read
+-- `kept`: the read value; or None, after keeping the errors of the read
 abbrev pub Keeps : {T : Type 0} → Result T (Stop Errors) → State → Option T → State → Type 0
 Keeps (Ok x) before answer after = (answer ≡ Some x) × (after ≡ before)
 Keeps (Err (stop.Fault faults)) before answer after = (answer ≡ None) × (after ≡ keeping (all faults) before)
@@ -74,13 +75,13 @@ ParsesAll gives output value (Err (stop.Fault faults)) =
     (error : Error) × Parses gives output value (Err (stop.Fault error)) × (faults ≡ one (content_of error))
 ParsesAll gives output value (Err (stop.Memory e)) = Parses gives output value (Err (stop.Memory e))
 
--- the same result, with its error as a fault
+-- the same result, with its error as a `Fault`
 abbrev pub with_fault : {T E : Type 0} → Result T E → Result T (Stop E)
 with_fault (Ok x) = Ok x
 with_fault (Err refusal) = Err (stop.Fault refusal)
 
--- `parse_with`: the element that `makes` allows for the string; or its error, reported as by `parsed`; or a failed
--- allocation
+-- `parse_with`: the value that `makes` allows for the string; or an error that `makes` allows, reported as by `parsed`;
+-- or a failed allocation
 abbrev pub ParsesWith : {T E : Type 0} → (List ℕ → Result T (Stop E) → Type 0) → (E → Option (List ℕ)) → Node
     → Result T (Stop Errors) → Type 0
 ParsesWith makes output value (Ok x) = ParsesAll (λ text r. makes text (with_fault r)) output value (Ok x)
@@ -96,11 +97,11 @@ abbrev pub AsParsed : {T E : Type 0} → (List ℕ → Result T E → Type 0) �
 AsParsed gives output value (Ok x) = ParsesAll gives output value (Ok x)
 AsParsed gives output value (Err faults) = ParsesAll gives output value (Err (stop.Fault faults))
 
--- The read returned an element, which was then dropped.
+-- The read returned a value, which was then dropped.
 abbrev pub AsRead : {T : Type 0} → (Node → Result T Errors → Node → Type 0) → Node → Node → Type 0
 AsRead reads before after = (x : _) × reads before (Ok x) after
 
--- the result of the read, with its element in a Some
+-- the result of the read, with the read value in a Some
 abbrev pub AsSome : {T : Type 0} → (Node → Result T Errors → Node → Type 0) → Node → Result (Option T) Errors → Node
     → Type 0
 AsSome reads before (Ok (Some x)) after = reads before (Ok x) after

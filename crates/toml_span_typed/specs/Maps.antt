@@ -17,11 +17,11 @@ use Rattle.toml_span_typed.specs.Reads.{EachReads, Taken, errors, refused}
 abbrev pub shown_pair : {T : Type 0} → String Global × T → List ℕ × T
 shown_pair entry = (string_bytes entry.0, entry.1)
 
--- the entries of a map after an element was added under a name; entries are sorted by the bytes of their names
+-- the entries of a map after a value was inserted under a name; entries are sorted by the bytes of their names
 abbrev pub holding : {T : Type 0} → List (List ℕ × T) → List ℕ → T → List (List ℕ × T)
 holding entries name element = insert_entry (slice_cmp nat_cmp) entries name element
 
--- the entries of a map after these elements were added under these names; errors are left out
+-- the entries of a map after each read value was inserted under its name; results that are errors are left out
 abbrev pub holding_read : {T : Type 0} → List (List ℕ × T) → List (List ℕ) → List (Result T Errors) → List (List ℕ × T)
 holding_read entries (name ∷ names) (Ok x ∷ answers) = holding_read (holding entries name x) names answers
 holding_read entries (name ∷ names) (Err faults ∷ answers) = holding_read entries names answers
@@ -36,14 +36,14 @@ abbrev pub values_of : Members → List Node
 values_of no_members = []
 values_of (member name span value rest) = value ∷ values_of rest
 
--- The values were read: each element is in the map under its name, and these are the errors.
+-- The values were read: each read value is in the map under its name, and `faults` are the errors.
 abbrev pub EntriesRead : {T : Type 0} → (Node → Result T Errors → Node → Type 0) → List (List ℕ) → List Node
     → List (List ℕ × T) → List ErrorContent → Type 0
 EntriesRead reads names values entries faults =
     (answers : List (Result _ Errors)) × EachReads reads values answers
     × (entries ≡ holding_read [] names answers) × (errors answers ≡ faults)
 
--- A map of the elements if no result is an error, otherwise all errors, in the order of the names.
+-- A map of the read values if no result is an error, otherwise all errors, in the order of the names.
 abbrev pub ReadsEntries : {T : Type 0} → (Node → Result T Errors → Node → Type 0) → Members
     → Result (List (List ℕ × T)) Errors → Type 0
 ReadsEntries reads ms (Ok entries) = EntriesRead reads (names_of ms) (values_of ms) entries []

@@ -1,4 +1,4 @@
--- Strings, read by `FromStr`.
+-- Strings, read by `FromStr` or by the function of `parse_with`.
 use Rattle.std.specs.Prelude.{◌≡◌, ℕ, List, ◌++◌, Option, None, Some, MatchOption, IfSome, Result, Ok, Err, codes}
 use Rattle.toml_span_lex.specs.declared.span.Span.{Span}
 use Rattle.toml_span_lex.specs.declared.stop.Stop.{Stop}
@@ -8,8 +8,8 @@ use Rattle.toml_span_tree.specs.Error.{ErrorContent, custom, content_of}
 use Rattle.toml_span_tree.specs.Node.{Node}
 use Rattle.toml_span_tree.specs.Value.{inner_of, wrong_kind, span_of, text_in}
 
--- The error is `Custom` at the span, and its message ends with the text of the error of `FromStr`. The text is `shown`,
--- or any text if `shown` is None.
+-- The error is `Custom` at the span. Its message ends with the text of the error that `FromStr` or the function of
+-- `parse_with` returned. The text is `shown`, or any text if `shown` is None.
 abbrev pub ReportsRefusal : Option (List ℕ) → Span → ErrorContent → Type 0
 ReportsRefusal shown span fault =
     (text : List ℕ) × (fault ≡ record {

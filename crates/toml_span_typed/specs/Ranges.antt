@@ -20,7 +20,7 @@ out_of_range low high span found = record {
   line_info = None;
 }
 
--- the error, if the integer is below the first number or above the second
+-- the error, if the integer `found` is below `low` or above `high`
 abbrev pub fault_at : ℤ → ℤ → Span → ℤ → Option ErrorContent
 fault_at low high span found =
     if int_lt found low || int_lt high found then Some (out_of_range low high span found) else None

@@ -38,15 +38,15 @@ Never before after = ⊥
 abbrev pub Gives : {T : Type 0} → (Node → Result T Errors) → Node → Result T Errors → Node → Type 0
 Gives read before answer after = (answer ≡ read before) × Taken before after
 
--- a failed read, whose only error is that a value of another kind was expected
+-- a failed read, whose only error is that the value is of another kind than the expected one
 abbrev pub refused : {T : Type 0} → List ℕ → Node → Result T Errors
 refused expected value = Err (one (wrong_kind expected value))
 
--- the error for an integer that the type with this name can't represent
+-- the error for a number that the type with this name can't represent
 abbrev pub beyond_range : List ℕ → Span → ErrorContent
 beyond_range name span = record { kind = out_of_range name; span = span; line_info = None }
 
--- the string's text
+-- the text of a string; a value of another kind is refused, here and in the next three definitions
 abbrev pub read_string : Node → Result (List ℕ) Errors
 read_string (node (scalar (text s)) span) = Ok s
 read_string value = refused (codes "a string") value
@@ -83,7 +83,7 @@ abbrev pub read_integer : {T : Type 0} → List ℕ → (ℤ → Option T) → N
 read_integer name held (node (scalar (integer z)) span) = or_out_of name span (held z)
 read_integer name held value = refused name value
 
--- A read of T allows this result, whose element also has the span of the value.
+-- The result, without its span, is one that `reads` allows. Its span is that of the value.
 abbrev pub spanned : {T S : Type 0} → (Node → Result T Errors → Node → Type 0) → (S → T) → (S → Span) → Node
     → Result S Errors → Node → Type 0
 spanned reads value_in span_in before answer after =
@@ -102,7 +102,7 @@ EachReads reads (value ∷ values) (answer ∷ answers) =
     ((after : Node) × reads value answer after) × EachReads reads values answers
 EachReads reads _ _ = ⊥
 
--- the elements among the results, in order
+-- the read values among the results, in order
 abbrev pub elements : {T : Type 0} → List (Result T Errors) → List T
 elements [] = []
 elements (Ok x ∷ answers) = x ∷ elements answers
@@ -114,7 +114,7 @@ errors [] = []
 errors (Ok x ∷ answers) = errors answers
 errors (Err faults ∷ answers) = all faults ++ errors answers
 
--- All elements if no result is an error, otherwise all errors.
+-- All read values if no result is an error, otherwise all errors.
 abbrev pub Joins : {T : Type 0} → List (Result T Errors) → Result (List T) Errors → Type 0
 Joins answers (Ok xs) = (errors answers ≡ []) × (elements answers ≡ xs)
 Joins answers (Err faults) = errors answers ≡ all faults

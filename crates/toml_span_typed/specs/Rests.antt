@@ -12,7 +12,7 @@ emptied s = record { members = no_members; asked = s.asked; errors = s.errors; s
 abbrev pub remaining : State → Node
 remaining s = node (table s.members) s.span
 
--- `read_rest`: the element; or None, after keeping all errors of the read
+-- `read_rest`: the read value; or None, after keeping all errors of the read
 abbrev pub ReadsRest : {T : Type 0} → (Node → Result T Errors → Node → Type 0) → State → Option T → State → Type 0
 ReadsRest reads before (Some x) after =
     (left : Node) × reads (remaining before) (Ok x) left × (after ≡ emptied before)

@@ -68,7 +68,7 @@ missing name s = record { kind = missing_field name; span = s.span; line_info = 
 abbrev pub fresh : Members → Span → State
 fresh members span = record { members = members; asked = []; errors = []; span = span }
 
--- `new`: a helper for the entries of a table
+-- `new`: a helper for the entries of a table, or the error for any other value
 abbrev pub OpensTable : Node → Result State Errors → Type 0
 OpensTable (node (table members) span) answer = answer ≡ Ok (fresh members span)
 OpensTable value answer = answer ≡ refused (codes "a table") value
@@ -89,7 +89,7 @@ Takes name before (Err error) after = after ≡ before
 abbrev pub AfterAllocError : List ℕ → State → State → Type 0
 AfterAllocError name before after = (after ≡ before) ⊎ (after ≡ noted name before)
 
--- `required`: the element; or, after keeping all errors, the error of the missing name or the last error of the read
+-- `required`: the read value; or, after keeping all errors, the error of the missing name or the last error of the read
 abbrev pub Requires : {T : Type 0} → (Node → Result T Errors → Node → Type 0) → List ℕ → State → Result T (Stop Error)
     → State → Type 0
 Requires reads name before (Ok x) after =
@@ -101,7 +101,7 @@ Requires reads name before (Err (stop.Fault error)) after = MatchOption (found n
     × (content_of error ≡ faults.last) × (after ≡ keeping (all faults) (noted name before)))
 Requires reads name before (Err (stop.Memory error)) after = AfterAllocError name before after
 
--- `optional`: the element; or None if the name is missing, or after keeping the errors of the read
+-- `optional`: the read value; or None, if the name is missing, or after keeping the errors of the read
 abbrev pub Tries : {T : Type 0} → (Node → Result T Errors → Node → Type 0) → List ℕ → State
     → Result (Option T) AllocError → State → Type 0
 Tries reads name before (Ok (Some x)) after =
@@ -153,11 +153,11 @@ abbrev pub Finalizes : {V : Type 0} → State → Option V → Result (Unit {0})
 Finalizes s (Some value) answer = EndsWithErrors s.errors answer
 Finalizes s None answer = Refuses s answer
 
--- The value contains a table of these entries, and its span is the same.
+-- After the call, the value contains a table of the entries `rest`. Its span is the same as before the call.
 abbrev pub HoldsRest : BTreeMap Key Value → Value → Value → Type 0
 HoldsRest rest before after = view after ≡ node (table (members_view rest.entries)) (span_of (view before))
 
--- If there is a reference, P holds for its value before and after the call.
+-- If there is a reference, P relates its value before the call to its value after the call.
 abbrev pub Leaves : {V : Type 0} → (V → V → Type 0) → Option (MutBor V) → Unit {0} ⊎ ((MutBor V × Unit {0}) ⊎ ⊥)
     → Type 0
 Leaves P None exit = Unit {0}

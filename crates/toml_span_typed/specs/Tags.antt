@@ -36,7 +36,7 @@ IsNameOf names value (Err (stop.Fault faults)) =
     (fault : ErrorContent) × (read_tag names value ≡ Err fault) × (faults ≡ one fault)
 IsNameOf names value (Err (stop.Memory error)) = IsUnexpected names value
 
--- the tag that equals the value's string, or its error; this error if the value is None
+-- the result of `read_tag` for the value; without a value, the error `fault`
 abbrev pub read_tag_at : List (List ℕ) → ErrorContent → Option Node → Result (List ℕ) ErrorContent
 read_tag_at tags fault (Some value) = read_tag tags value
 read_tag_at tags fault None = Err fault
@@ -50,7 +50,7 @@ keeping_tag s (Err fault) = (None, keeping (fault ∷ []) s)
 abbrev pub asked_tag : List ℕ → List (List ℕ) → State → Option (List ℕ) × State
 asked_tag name tags s = keeping_tag (noted name s) (read_tag_at tags (missing name s) (found name s))
 
--- the errors in the list or, if it is empty, this one
+-- the errors in the list or, if the list is empty, only `fault`
 abbrev pub first_or : ErrorContent → List ErrorContent → List ErrorContent
 first_or fault [] = fault ∷ []
 first_or fault (first ∷ rest) = first ∷ rest

@@ -42,7 +42,7 @@ StopsWith fault (stop.Memory error) = ⊤
 abbrev pub IsReadAs : {T : Type 0} → (Node → Result T Errors → Node → Type 0) → Node → Result T Errors → Type 0
 IsReadAs reads value answer = (after : Node) × reads value answer after
 
--- both elements, or the errors of both reads
+-- both read values, or the errors of both reads
 abbrev pub JoinsTwo : {A B : Type 0} → Result A Errors → Result B Errors → Result (A × B) Errors → Type 0
 JoinsTwo (Ok a) (Ok b) answer = answer ≡ Ok (a, b)
 JoinsTwo first second (Err faults) = errors (first ∷ []) ++ errors (second ∷ []) ≡ all faults

@@ -11,7 +11,7 @@ use Rattle.toml_span_typed.specs.Errors.{Errors, all}
 use Rattle.toml_span_typed.specs.Reads.{Joins, nodes_of, refused}
 use Rattle.toml_span_typed.specs.TableHelper.{AfterAllocError, State, found, keeping, noted}
 
--- The list begins with the earlier warnings.
+-- The list `more` begins with the earlier warnings, `warnings`.
 abbrev pub Extends : List ErrorContent → List ErrorContent → Type 0
 Extends warnings more = more ≡ warnings ++ drop (length warnings) more
 
@@ -23,8 +23,8 @@ AnswersWithWarnings reads value (Ok x) warnings more = reads value (Ok x) warnin
 AnswersWithWarnings reads value (Err (stop.Fault faults)) warnings more = reads value (Err faults) warnings more
 AnswersWithWarnings reads value (Err (stop.Memory error)) warnings more = ⊤
 
--- The value `moved`, which was moved out of the table, is read: the result is the element, or None after all errors of
--- the read were kept. If `moved` is None, the result is None, and the state afterwards is `none` of the state before.
+-- If `moved` is a value, which was moved out of the table, it is read: the result is the read value, or None after all
+-- errors of the read were kept. If `moved` is None, so is the result, and the state afterwards is `none before`.
 abbrev pub ReadsMovedWithWarnings : {T : Type 0}
     → (Node → Result T Errors → List ErrorContent → List ErrorContent → Type 0) → (State → State) → Option Node
     → State → Option T → State → List ErrorContent → List ErrorContent → Type 0
@@ -34,7 +34,7 @@ ReadsMovedWithWarnings reads none moved before None after warnings more = MatchO
     ((after ≡ none before) × (more ≡ warnings))
     (λ value. (faults : Errors) × reads value (Err faults) warnings more × (after ≡ keeping (all faults) before))
 
--- `read_with_warnings`: the element; or None, after keeping the error of the missing name, or all errors of the read
+-- `read_with_warnings`: the read value; or None, after keeping the error of the missing name, or all errors of the read
 abbrev pub AsksWithWarnings : {T : Type 0}
     → (Node → Result T Errors → List ErrorContent → List ErrorContent → Type 0) → List ℕ → State
     → Result (Option T) AllocError → State → List ErrorContent → List ErrorContent → Type 0
@@ -42,7 +42,8 @@ AsksWithWarnings reads name before (Ok field) after warnings more =
     ReadsMovedWithWarnings reads (lacks name) (found name before) (noted name before) field after warnings more
 AsksWithWarnings reads name before (Err error) after warnings more = AfterAllocError name before after
 
--- `read_optional_with_warnings`: the element; or None if the name is missing, or after keeping the errors of the read
+-- `read_optional_with_warnings`: the read value; or None, if the name is missing, or after keeping the errors of the
+-- read
 abbrev pub TriesWithWarnings : {T : Type 0}
     → (Node → Result T Errors → List ErrorContent → List ErrorContent → Type 0) → List ℕ → State
     → Result (Option T) AllocError → State → List ErrorContent → List ErrorContent → Type 0

@@ -1,4 +1,4 @@
--- Definitions that only inner functions need. Nothing else in `specs/` cites them.
+-- Definitions for functions that only this project calls. Nothing else in `specs/` cites them.
 pub mod Errors
 pub mod Arrays
 pub mod Integers

@@ -12,7 +12,7 @@ use std::{fmt, mem};
 use toml_span_lex::stop::Stop;
 use toml_span_tree::Error;
 
-/// All errors of a typed read, in the order in which they were found. There is at least one.
+/// The errors of a typed read, in the order in which they were found. There is at least one.
 #[derive(Debug, Drop)]
 pub struct DeserError<'s> {
     earlier: Option<Vec<Error<'s>>>,

@@ -27,9 +27,9 @@ use toml_span_tree::{Error, Value};
 
 /// A type that can be read from a value.
 ///
-/// An implementation can state facts about its reads, for proofs about callers. `reads` relates the value before, the
-/// result (the read value or all errors) and the value after. `after_alloc_error` says what is left of the value if an allocation
-/// fails. By default, both say nothing.
+/// An implementation can state facts about its reads, for proofs about callers. `reads` relates the value before the
+/// read, the result (the read value or all errors) and the value after the read. `after_alloc_error` says what is left
+/// of the value if an allocation fails. By default, both say nothing.
 pub trait Deserialize<'de>: Sized + Drop {
     ghost reads: { Node → Result Self Errors → Node → Type 0 } = { λ _ _ _. Unit {0} };
 

@@ -9,13 +9,14 @@
 /// - `port: u16 = "listen-port";`: read from another key;
 /// - `tags: Option<Vec<String>>;`: `None` if the key is absent. If the field has a type alias for this type, write
 ///   `tags: Vec<String>, optional;`
-/// - `port: u16, or(80);`: the value `80` if the key is absent; it is evaluated only then;
+/// - `port: u16, or(80);`: the value `80` if the key is absent. `80` can be any expression, and is not evaluated if the
+///   field has been read;
 /// - `port: u16, range(1..=65535);`: an error for an integer outside this range (`InRange`). The type may also be an
 ///   `Option`, a `Spanned` or an `Option` of a `Spanned`. With any other type, `or(..)` may follow;
 /// - `level: Level, parsed;`: a string that `FromStr` reads. As with `range`, the type may also be an `Option`, a
 ///   `Spanned` or an `Option` of a `Spanned`. With any other type, `or(..)` may follow;
 /// - `max_body: u64 = "max-body", alias("max_body");`: read from the key or from an old name
-///   (`TableHelper::read_either`). Other options may follow;
+///   (`TableHelper::read_either`). Other options may follow, except `flatten` and `with_warnings`;
 /// - `servers: Vec<Server>, unique(name);`: an error for each server whose field `name`, a `Spanned<String>`, equals
 ///   the field `name` of an earlier server (`TableHelper::keep_repeated`);
 /// - `limits: Limits, flatten;`, as the last field: a type that reads the remaining keys (`TableHelper::read_rest`).
@@ -42,6 +43,14 @@ macro_rules! read_table {
         $crate::read_table!(@fields [helper, $value, [gathered $warnings], [$table]] [] $($fields)*)
     }};
 
+    // `flatten` belongs to the last field, which has no key
+    (@fields $read:tt [$($done:tt)*] $field:ident: $ty:ty = $key:literal, flatten; $($rest:tt)*) => {
+        compile_error!(concat!("`read_table!`: `", stringify!($field), "` has `flatten`, so it can't have a key"))
+    };
+    (@fields $read:tt [$($done:tt)*] $field:ident: $ty:ty, flatten; $next:ident $($rest:tt)*) => {
+        compile_error!(concat!("`read_table!`: `", stringify!($field), "` has `flatten`, so it must be the last field"))
+    };
+
     // each field: its name, the form of its type (`Option`, `Spanned`, both or neither), the type inside, its key, and
     // its options
     (@fields $read:tt [$($done:tt)*]
@@ -64,12 +73,6 @@ macro_rules! read_table {
         $crate::read_table!(@fields $read [
             $($done)* $field [spanned] [$ty] [$($key)?] [$($how $(($($word)*))?,)*];
         ] $($rest)*)
-    };
-    (@fields $read:tt [$($done:tt)*] $field:ident: $ty:ty = $key:literal, flatten; $($rest:tt)*) => {
-        compile_error!(concat!("`read_table!`: `", stringify!($field), "` has `flatten`, so it can't have a key"))
-    };
-    (@fields $read:tt [$($done:tt)*] $field:ident: $ty:ty, flatten; $next:ident $($rest:tt)*) => {
-        compile_error!(concat!("`read_table!`: `", stringify!($field), "` has `flatten`, so it must be the last field"))
     };
     (@fields $read:tt [$($done:tt)*]
         $field:ident: $ty:ty $(= $key:literal)? $(, $how:ident $(($($word:tt)*))?)*; $($rest:tt)*
@@ -184,7 +187,7 @@ macro_rules! read_table {
         }
         list
     }};
-    (@words [$helper:ident, $warnings:tt, $field:ident] [] [$ty:ty] $keys:tt flatten,) => {
+    (@words [$helper:ident, $warnings:tt, $field:ident] [] [$ty:ty] [$key:expr] flatten,) => {
         $helper.read_rest::<$ty>()?
     };
 
@@ -220,8 +223,8 @@ macro_rules! read_table {
         }
     };
     (@held [$helper:ident, $warnings:tt, $field:ident] $form:tt $ty:ty, $keys:tt $($words:tt)+) => {
-        compile_error!(concat!("`read_table!`: `", stringify!($field), "`: only `or(value)` can follow `parsed` or ",
-            "`range(..)`, and only if the type is neither a `Spanned` nor an `Option`"))
+        compile_error!(concat!("`read_table!`: `", stringify!($field), "`: only `or(value)` and `optional` can follow ",
+            "`parsed` or `range(..)`, and neither if the type is a `Spanned` or an `Option`"))
     };
 
     // options that are not allowed here
@@ -258,7 +261,7 @@ macro_rules! read_table {
     (@badly [$helper:ident, $warnings:tt, $field:ident] $form:literal) => {
         compile_error!(concat!("`read_table!`: `", stringify!($field), "`: write `", $form, "`"))
     };
-    // the compiler reports an unknown option where it is written, with the name of this module
+    // the compiler reports an unknown option where it is written, and names the module of this path
     (@words $read:tt $form:tt [$ty:ty] $keys:tt $how:ident $($words:tt)*) => {
         $crate::words_are_alias_deprecated_flatten_optional_or_parsed_range_unique_with_warnings::$how
     };

@@ -10,9 +10,9 @@
 /// })
 /// ```
 ///
-/// The fields of a variant are written as in `read_table!`, and cause the same errors. A variant with one value of
-/// another type, such as `Target::Server(Server)`, reads that type from the other keys. A variant without data allows
-/// no other keys.
+/// The fields of a variant are written as in `read_table!`, and cause the same errors. A variant that wraps a type,
+/// such as `Target::Server(Server)`, reads that type from the keys other than the tag. A variant without data allows
+/// only the tag.
 ///
 /// Fails with `Wanted` if the value is not a table or the tag is not a string, with `MissingField` if the tag is
 /// absent, and with `UnexpectedValue`, which lists the expected tags, if no variant has this tag. In these cases, no

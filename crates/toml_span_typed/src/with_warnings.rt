@@ -15,10 +15,11 @@ use std::alloc::{AllocError, Global};
 use toml_span_lex::stop::Stop;
 use toml_span_tree::{Error, Value};
 
-/// A type whose reads can warn. It does not implement `Deserialize`, so that no read loses the warnings.
+/// A type whose reads can warn. It should not also implement `Deserialize`, whose reads would lose the warnings.
 ///
-/// An implementation can state facts about its reads, for proofs about callers: `reads` relates the value before, the
-/// result (the read value or all errors), the warnings before and the warnings after. By default, `reads` says nothing.
+/// An implementation can state facts about its reads, for proofs about callers: `reads` relates the value before the
+/// read, the result (the read value or all errors), and the warnings before and after the read. By default, `reads`
+/// says nothing.
 pub trait DeserializeWithWarnings<'de>: Sized + Drop {
     ghost reads: { Node → Result Self Errors → List ErrorContent → List ErrorContent → Type 0 } = { λ _ _ _ _. Unit {0} };
 

@@ -24,13 +24,13 @@ use Rattle.toml_span.specs.code.Borrowed.{branch_strings}
 use Rattle.toml_span.specs.declared.branch.Branch.TheViews.{out-Branch}
 use Rattle.toml_span.specs.declared.sections.Assembly.{Assembly}
 
--- The section has been placed below the root, or the result is the first clash.
+-- The section has been placed below the root, or the result is the first clash or a failed allocation.
 abbrev pub PlacesAtRoot : ParsedSection → Branch → Branch → Result (Unit {0}) PlaceError → Type 0
 PlacesAtRoot b root new r =
     Places root new r (section_at (counts root) (header_info b) b.header (assignments_claims b.assignments []))
     (counts_after (counts root) (header_info b) b.header)
 
--- The sections `rest`, the last of the sections `all`, have not been placed yet. The root has the claims of the others.
+-- The last sections of `all` are `rest`, which have not been placed yet. The root has the claims of the others.
 pub record Remaining (all rest : List ParsedSection) (root : Branch) : Type 0 where
   pub earlier : List ParsedSection
   pub headers : AreSections rest

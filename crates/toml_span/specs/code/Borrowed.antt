@@ -83,8 +83,8 @@ KeepsBorrows text old new r =
     AreBorrowedRight text (branch_strings old)
     → OnOk r (AreBorrowedRight text (branch_strings new) × (infos new ≡ infos old))
 
--- The name of the branch is written at the span `at`, or the branch is new and its name will be written there, at
--- `next`.
+-- The name of the branch is written at the span `at`, or the branch is new, and `at` is `next`, the span where its name
+-- will be written.
 abbrev pub IsWrittenAt : Span → Span → Branch → Type 0
 IsWrittenAt next at n = (name_span (infos n) ≡ Some at) ⊎ (IsFresh n × (next ≡ at))
 
@@ -100,7 +100,7 @@ KeepsName text next old new r =
 abbrev pub ValueRight : List ℕ → Result Value PlaceError → Type 0
 ValueRight text r = IfOk r (λ v. (at : Option Span) → AreBorrowedRight text (own_held at v))
 
--- If these parts of a key, and the pending value with its last part, are borrowed correctly, then P holds.
+-- If the parts `inner` of a key, and the last part and the value in d, are borrowed correctly, then P holds.
 abbrev pub IfPairRight : List ℕ → List Key → Pending → Type 0 → Type 0
 IfPairRight text inner d P =
     AreWrittenRight text (keys_written inner) → IsWrittenRight text (key_written d.last) → ValueRight text d.value

@@ -1,4 +1,4 @@
--- What a branch of the tree under construction keeps of its claims.
+-- What a branch of the tree under construction keeps of its claims, and how later claims clash with them.
 use Rattle.std.specs.Option.{option_or}
 use Rattle.std.specs.Box.{box_value}
 use Rattle.std.specs.Global.{Box}
@@ -50,7 +50,7 @@ earliest_clash_info [] later = None
 earliest_clash_info (earlier ∷ infos) later =
     option_or (clash_info_between earlier later) (earliest_clash_info infos later)
 
--- why a section could not be placed: a clash, or a failed allocation
+-- why a section, an assignment or a value could not be placed: a clash, or a failed allocation
 abbrev pub PlaceError : Type 0
 PlaceError = Stop (Box code.Clash)
 

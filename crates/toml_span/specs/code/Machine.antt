@@ -100,7 +100,8 @@ OkOrClash (Ok x) o P = (o ≡ None) × P x
 OkOrClash (Err (Fault c)) o P = o ≡ Some (named_clash c)
 OkOrClash (Err (Memory e)) o P = ⊤
 
--- the function f on paths, except that `sub` replaces it below the step s
+-- the function f on paths, except that for a path that begins with the step s, it returns what `sub` returns for the
+-- rest of the path
 unfoldable pub graft : {A : Type 0} → Step → (Path → A) → (Path → A) → Path → A
 graft s f sub [] = f []
 graft s f sub (t ∷ q) = if same_step s t then sub q else f (t ∷ q)

@@ -1,4 +1,5 @@
--- What the functions that place claims return.
+-- What the functions that place claims, convert values and finish branches return. Each result may also be a failed
+-- allocation.
 use Rattle.std.specs.Prelude.{◌≡◌, ⊤, ℕ, ◌⊎◌, false, List, [], ◌∷◌, map, Result, Ok, Err}
 use Rattle.std.specs.Prelude.{Option, Some, None, option_map}
 use Rattle.std.specs.BTreeMap.{BTreeMap}
@@ -75,7 +76,7 @@ Opens kind n = Sound n × ((kind ≡ StandardTable) ⊎ ((kind ≡ TableElement)
 abbrev pub assignment_claims : ParsedAssignment → Path → Claims
 assignment_claims e p = key_claims p e.parts e.value (value_claims e.value)
 
--- the claims of these assignments, as paths below their table
+-- the claims of these assignments, with paths that begin at their table
 abbrev pub claims_of : List Assignment → Claims
 claims_of pairs = assignments_claims (map parsed_assignment pairs) []
 
@@ -143,7 +144,7 @@ abbrev pub ShowsPlain : tree.Inner → CellMap → Type 0
 ShowsPlain i st =
     (s : Step) (p : Path) → value_shows None (tree.node i (record { start = 0; end = 0 })) (s ∷ p) ≡ (st (s ∷ p)).shown
 
--- The result is that for an inline table or array whose scope has these claims: its content, or the first clash in it.
+-- The result for an inline table or array whose scope has these claims is its content, or the first clash in it.
 abbrev pub ScopeGives : {A : Type 0} → Result A PlaceError → (A → tree.Inner) → Claims → Type 0
 ScopeGives r seen cs =
     OkOrClash r (clash_found no_cells cs) (λ x. ShowsPlain (seen x) (show_all no_cells cs) × HoldsOrdered (seen x))
@@ -161,8 +162,8 @@ NamesAscend t =
 abbrev pub Array : Type 0
 Array = Vec Value
 
--- The table of `values` and of the values made from `tables`. Its strings and keys are borrowed correctly if those of
--- the two are.
+-- The result is the table of `values` and of the values made from `tables`. Its strings and keys are borrowed correctly
+-- if those of the two are.
 abbrev pub Finishes : BTreeMap Key (Box Branch) → Table → Result Table AllocError → Type 0
 Finishes tables values (Ok t) =
     (n : Branch) → (out-Branch n).tables ≡ tables → (out-Branch n).values ≡ values → IsScope n
@@ -180,7 +181,7 @@ Becomes n (Ok r) =
     × ShowsBelow (tree_inner (view r.1)) (cells n) × IsOrdered (view r.1) × StaysRight n (strings_and_keys r.1)
 Becomes n (Err e) = ⊤
 
--- The value v is made from the entry n, which has no key.
+-- The value v is made from the branch n, an element of an array of tables.
 abbrev pub BecomesEntry : Branch → Value → Type 0
 BecomesEntry n v = (at : Span) × Becomes n (Ok (at, v))
 

@@ -1,5 +1,5 @@
--- The claims of headers and assignments, as paths below the branch at which a function begins. The entries of a branch
--- are the elements of an array of tables.
+-- The claims of headers and assignments, with paths that begin at the branch with which a function begins, and the
+-- numbers of entries afterwards. The entries of a branch are the elements of an array of tables.
 use Rattle.std.specs.Prelude.{ℕ, zero, suc, if◌then◌else◌, List, [], ◌∷◌}
 use Rattle.toml_span_tree.specs.Path.{Step, key, position, Path}
 use Rattle.toml_span_read.specs.Data.{ParsedValue, SimpleKey}
@@ -26,20 +26,20 @@ unfoldable pub pair_at : List SimpleKey → SimpleKey → ParsedValue → Claims
 pair_at [] last v = under (key last.name) (claimed (assigned [] last v) (value_claims v []))
 pair_at (k ∷ inner) last v = under (key k.name) (claimed (dotted [] k v) (pair_at inner last v))
 
--- the claims of a value that is assigned to the key of k, the parts `inner` and the part `last`, with paths that begin
--- at the branch of k
+-- the claims of a value that is assigned to the key with the parts k, `inner` and `last`; the paths begin at the branch
+-- of k
 abbrev pub through_pair : SimpleKey → List SimpleKey → SimpleKey → ParsedValue → Claims
 through_pair k inner last v = claimed (dotted [] k v) (pair_at inner last v)
 
 -- ---- sections
 
--- the kind of claim that a part of a header makes; the list has the parts after it
+-- the kind of the claim with which a part of a header creates a branch; the list has the parts after it
 abbrev pub part_kind : HeaderInfo → List SimpleKey → ClaimKind
 part_kind h [] = if h.array then ArrayOfTables else StandardTable
 part_kind h (l ∷ more) = Passed
 
--- The claims that f returns, as paths below the latest entry of a branch or, if it has no entries, below the branch
--- itself.
+-- The claims that f returns, whose paths begin at the latest entry of a branch or, if the branch has no entries, at the
+-- branch itself. The paths of the result begin at the branch.
 abbrev pub entered : ℕ → (Path → ℕ) → ((Path → ℕ) → Claims) → Claims
 entered zero e f = f e
 entered (suc latest) e f = under (position latest) (f (λ q. e (position latest ∷ q)))
@@ -52,7 +52,7 @@ opening h kind k tail = claimed (header_claim h kind [] k) tail
 abbrev pub adding : HeaderInfo → SimpleKey → Claims → ℕ → Claims
 adding h k tail n = under (position n) (opening h TableElement k tail)
 
--- the claims of the last part of a header, whose branch has n entries so far
+-- the claims of the last part of a header, and those in its table, if the branch of that part has n entries so far
 abbrev pub ending : HeaderInfo → SimpleKey → Claims → ℕ → Claims
 ending h k tail n = if h.array then array_claims h [] k n (adding h k tail n) else opening h StandardTable k tail
 

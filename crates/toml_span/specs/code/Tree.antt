@@ -1,4 +1,5 @@
--- What the tree under construction has at each path. The entries of a branch are the elements of an array of tables.
+-- What the tree under construction has at each path, and its invariants. The entries of a branch are the elements of an
+-- array of tables.
 use Rattle.std.specs.Prelude.{◌≡◌, ℕ, zero, suc, ◌⊎◌, Bool, true, false, List, [], ◌∷◌, length, Option, Some, None}
 use Rattle.std.specs.Prelude.{option_map}
 use Rattle.std.specs.Box.{box_value}
@@ -69,7 +70,7 @@ abbrev pub by_infos : List ClaimInfo → Option Decided
 by_infos [] = None
 by_infos (m ∷ ms) = option_map (λ x. with_span m.key (by_info x)) (deciding (m ∷ ms))
 
--- the span of the key or, for an element of an array in brackets, which has no key, its own span
+-- the span of a value's key or, if the value has no key, `span`, the value's own span
 abbrev pub span_or : Span → Option Span → Span
 span_or span None = span
 span_or span (Some at) = at
@@ -148,7 +149,7 @@ abbrev pub IsNamed : List ClaimInfo → Type 0
 IsNamed [] = ⊥
 IsNamed (m ∷ ms) = NoEntry (m ∷ ms)
 
--- The claims are those of an entry: the first is its own.
+-- The claims are those of an entry: the first is of the kind `TableElement`.
 abbrev pub IsEntry : List ClaimInfo → Type 0
 IsEntry [] = ⊥
 IsEntry (m ∷ ms) = m.kind ≡ TableElement

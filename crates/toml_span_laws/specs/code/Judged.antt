@@ -14,12 +14,14 @@ use Rattle.toml_span_read.specs.Read as read
 abbrev pub Onto : List ℕ → ℕ → ℕ → Type 0
 Onto text i j = (i ≤ j) × IsCharBoundary text j
 
--- If a form was read, it ends after i, at a character boundary.
+-- If something was read, rather than a fault, it ends after i, at a character boundary.
 abbrev pub EndsPast : {A : Type 0} → List ℕ → ℕ → Result (A × ℕ) Fault → Type 0
 EndsPast text i (Ok found) = Onto text (i + 1) found.1
 EndsPast text i (Err fault) = Unit {0}
 
--- Each form that can be read independently of others is present at i or absent.
+-- What is at i: a token, a fault or the end of the text; a gap, a run of spaces and tabs, and a run of bare-key bytes
+-- (each may be empty); a dot or no dot; the rest of a line or something else; and, if a date or time begins at i, this
+-- date or time, or its fault.
 pub record Judged (text : List ℕ) (i : ℕ) : Type 0 where
   pub stands : HasTokenOrFault text i
   pub gap : (j : ℕ) × MaximalGap text i j × Onto text i j

@@ -10,9 +10,9 @@ ghost use Rattle.toml_span_read.specs.Data.{ParsedSection};
 ghost use Rattle.toml_span_read.specs.Grammar.{SpellsDocument};
 ghost use Rattle.toml_span_laws.specs.Clashing.{IsFirstPair, IsIn, ShareScope};
 
-/// The clash that is reported is the first by its offsets. Its later claim starts before every other claim of the
-/// document that clashes with an earlier one in its scope (the document, an array in brackets or an inline table). Its
-/// earlier claim starts before every other earlier claim that clashes with the later claim.
+/// The clash that is reported is the first by the offsets of its claims. Its later claim starts before every other
+/// claim of the document that clashes with an earlier one in its scope (the document, an array in brackets or an inline
+/// table). Its earlier claim starts before every other earlier claim that clashes with the later claim.
 pub fn reported_is_first_by_place()
     ensures { (text : List ℕ) (limit : ℕ) (sections : List ParsedSection) (reported : NamedClash)
         → SpellsDocument sections text limit

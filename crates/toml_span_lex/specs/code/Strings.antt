@@ -44,7 +44,7 @@ ScanGives text i (Ok j) =
     (span : Span) × (source : List ℕ) × (value : List ℕ) × IsString text i j span source value (opens_multi text i)
 ScanGives text i (Err (e, j)) = IsNoString text i j e
 
--- The content and the string end at character boundaries, inside the text.
+-- The content ends at `to`, and the string at `end`: two character boundaries inside the text.
 pub record Ends (text : List ℕ) (from to end : ℕ) : Type 0 where
   pub forward : from ≤ to
   pub on : to < end

@@ -1,4 +1,4 @@
--- What the function for dates returns.
+-- What the function `date` returns.
 use Rattle.std.specs.Prelude.{ℕ, List, Result, Ok, Err}
 use Rattle.toml_span_tree.specs.declared.date.DateText.{DateText}
 use Rattle.toml_span_tree.specs.Node.{datetime}

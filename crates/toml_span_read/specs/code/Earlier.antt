@@ -1,4 +1,4 @@
--- The tree of earlier values, by which dotted keys are checked.
+-- The tree of earlier values, and the check of dotted keys against it.
 use Rattle.std.specs.Prelude.{◌≡◌, ℕ, ◌<◌, ◌≤◌, List, [], ◌∷◌, ◌++◌, map, take, length, Result, Ok, Err, Option}
 use Rattle.std.specs.Prelude.{Some, None, unwrap_or}
 use Rattle.std.specs.Map.{lookup}
@@ -53,27 +53,28 @@ PutsBelow name under old new =
     × (new [] ≡ old [])
     × ((other : List ℕ) (names : List (List ℕ)) → (other ≡ name → ⊥) → new (other ∷ names) ≡ old (other ∷ names))
 
--- Each key has more than n parts.
+-- The key of each of these assignments has more than n parts.
 abbrev pub EachLonger : ℕ → List ParsedAssignment → Type 0
 EachLonger n [] = Unit {0}
 EachLonger n (e ∷ es) = (n < length e.parts) × EachLonger n es
 
--- No key has fewer inner parts than `fewest`. The tree stores the values of the first `known` assignments.
+-- No key has fewer inner parts than `fewest`. At each path, the tree stores the span that `value_at` returns for the
+-- first `known` assignments.
 pub record Knows (earlier : Earlier) (assignments : List ParsedAssignment) : Type 0 where
   pub fewest : EachLonger earlier.fewest assignments
   pub within : earlier.known ≤ length assignments
   pub tree : holds earlier.tree ≡ value_at (take earlier.known assignments)
 
--- Either the next key goes through no earlier value, and `new` knows its assignment too; or the key goes through one,
--- and this is the fault.
+-- Unless an allocation fails, either the key of `next` goes through no earlier value, and `new` knows `next` too; or
+-- the key goes through one, and this is the fault.
 abbrev pub ChecksNext : Earlier → List ParsedAssignment → ParsedAssignment → Result (Option Fault) AllocError → Type 0
 ChecksNext new assignments next (Ok None) =
     (crossing assignments next ≡ None) × Knows new (assignments ++ (next ∷ []))
 ChecksNext new assignments next (Ok (Some fault)) = crossing assignments next ≡ Some fault
 ChecksNext new assignments next (Err e) = Unit {0}
 
--- Either the assignment is appended to the earlier ones, or its key goes through the value of one of them, and this is
--- the fault.
+-- Unless an allocation fails, either `next` is appended to the assignments `old`, or its key goes through the value of
+-- one of them, and this is the fault.
 abbrev pub AddsClear : List Assignment → List Assignment → Assignment → Result (Unit {0}) (Stop Fault) → Type 0
 AddsClear old new next (Ok done) =
     (new ≡ old ++ (next ∷ [])) × (crossing (map parsed_assignment old) (parsed_assignment next) ≡ None)

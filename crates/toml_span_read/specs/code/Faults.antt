@@ -1,4 +1,4 @@
--- The faults that functions return.
+-- What functions that may fail return, and where their faults are.
 use Rattle.std.specs.Prelude.{◌≡◌, ℕ, ◌+◌, ◌<◌, List, Result, Ok, Err}
 use Rattle.toml_span_lex.specs.declared.stop.Stop.{Stop}
 use Rattle.toml_span_lex.specs.declared.stop.Stop.TheVariants as stops
@@ -10,7 +10,7 @@ use Rattle.toml_span_read.specs.Faults.{StartsInside, token_fault}
 use Rattle.toml_span_read.specs.Read.{Reading}
 use Rattle.toml_span_read.specs.code.Gaps.{Further}
 
--- The function returns what the definition m reads, converted by `view`, or the fault of m, unless an allocation fails.
+-- If the function returns a value, m reads that value, converted by `view`. If it returns a fault, m has that fault.
 abbrev pub MatchesReading : {A B : Type 0} → (A → B) → Reading B → Result A (Stop Fault) → Type 0
 MatchesReading view m (Ok a) = m (Ok (view a))
 MatchesReading view m (Err (stops.Memory e)) = Unit {0}

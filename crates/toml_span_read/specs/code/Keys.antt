@@ -21,7 +21,7 @@ parts_found (key, j) = (parts key, j)
 abbrev pub header_found : SmallVec Key × ℕ → Parts
 header_found (keys, j) = (map simple_key keys.items, j)
 
--- After n parts there is another one, with or without a dot after it, or the fault there.
+-- After n parts of a key, there is another part at i, with or without a dot after it; or e is the fault there.
 abbrev pub PartGives : Bool → List ℕ → ℕ → ℕ → ℕ → Result (Key × ℕ × Option ℕ) (Stop Fault) → Type 0
 PartGives header text limit n i (Ok (key, j, next)) =
     read.simple_key_at text i (Ok (simple_key key, j)) × (n < limit) × Further text i j × DotGives text j next

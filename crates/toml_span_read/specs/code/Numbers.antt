@@ -13,7 +13,7 @@ abbrev pub DigitGives : ℕ → ℕ → Option ℕ → Type 0
 DigitGives radix c None = is_digit_in radix c ≡ false
 DigitGives radix c (Some value) = (is_digit_in radix c ≡ true) × (value ≡ digit_value c)
 
--- The result is the number n, or None if n does not fit into 64 bits.
+-- The result is the number n, or None if n is 2^64 or more.
 abbrev pub WithinGives : ℕ → Option ℕ → Type 0
 WithinGives n None = 2 ^ 64 ≤ n
 WithinGives n (Some m) = m ≡ n
@@ -24,7 +24,7 @@ IsNumeral text i j n = IsNumber (scalar_of n (slice_range text i j)) text i j
 
 -- ---- runs, and where faults are
 
--- From i to j all bytes are those of bare keys, and the byte at j is not.
+-- From i to j there are only letters, digits, dashes and underscores, and no such byte is at j.
 pub record IsRun (text : List ℕ) (i j : ℕ) : Type 0 where
   pub forward : i ≤ j
   pub within : j ≤ length text

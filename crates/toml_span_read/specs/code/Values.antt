@@ -31,7 +31,7 @@ abbrev pub IsScalarKind : Result (ValKind × ℕ) (Stop Fault) → Type 0
 IsScalarKind (Ok found) = is_scalar (parsed_kind found.0) ≡ true
 IsScalarKind (Err stop) = Unit {0}
 
--- The function returns the scalar that the definition reads, or its fault, unless an allocation fails.
+-- If the function returns a value, it is a scalar, and m reads it. If the function returns a fault, m has that fault.
 abbrev pub ScalarGives : Reading (Scalar × ℕ) → Result (ValKind × ℕ) (Stop Fault) → Type 0
 ScalarGives m (Ok (kind, j)) = (s : Scalar) × (parsed_kind kind ≡ scalar s) × m (Ok (s, j))
 ScalarGives m (Err (stops.Memory e)) = Unit {0}
@@ -42,14 +42,14 @@ abbrev pub IsTooDeep : ℕ → Stop Fault → Type 0
 IsTooDeep i (stops.Memory e) = ⊥
 IsTooDeep i (stops.Fault fault) = fault ≡ fault_at kinds.ExceededDepthLimit i
 
--- The run is neither a boolean nor `inf` or `nan`.
+-- The word is neither a boolean nor `inf` or `nan`.
 pub record IsOtherWord (word : List ℕ) : Type 0 where
   pub no_true : word ≡ codes "true" → ⊥
   pub no_false : word ≡ codes "false" → ⊥
   pub no_infinity : word ≡ codes "inf" → ⊥
   pub no_nan : word ≡ codes "nan" → ⊥
 
--- The bytes of the run spell this word.
+-- The `Run` says which word the bytes spell.
 abbrev pub IsRunOf : List ℕ → Run → Type 0
 IsRunOf bytes runs.True = bytes ≡ codes "true"
 IsRunOf bytes runs.False = bytes ≡ codes "false"

@@ -12,7 +12,7 @@ use Rattle.toml_span_read.specs.Read.{NextToken, IsNextToken, wanted, string_val
 use Rattle.toml_span_read.specs.declared.fault.ExpectedToken.{ExpectedToken}
 use Rattle.toml_span_read.specs.code.Faults.{IsTokenFault}
 
--- The text from i to j is a token with this name, or the text ends at i.
+-- `found` says what is at i: a token, which ends at j; or the end of the text, and j is i.
 abbrev pub IsFound : List ℕ → ℕ → ℕ → FoundToken → Type 0
 IsFound text i j found =
     ((i ≡ length text) × (j ≡ i) × (found ≡ found_tokens.EndOfText))

@@ -1,5 +1,5 @@
--- Each step of a pointer returns a mutable reference. These definitions relate its final value to that of the value
--- from which it was lent.
+-- The functions that `pointer_mut` uses return `&mut` references. These definitions say how the final value of such a
+-- reference determines the final value of the tree from which it was lent.
 use Rattle.std.specs.Prelude.{◌≡◌, ℕ, List, [], Some, Vec, ⊤}
 use Rattle.std.specs.Global.{Global}
 use Rattle.std.specs.BTreeMap.{BTreeMap}

@@ -1,4 +1,4 @@
--- Which value a pointer names, segment by segment.
+-- Which value a pointer names, segment by segment, and how that value is replaced.
 use Rattle.std.specs.Prelude.{◌≡◌, ◌≤◌, ⊤, ℕ, ◌^◌, List, [], ◌∷◌, length, ◌<◌, Option, Some, None, Result, Ok, Err}
 use Rattle.std.specs.Prelude.{IfSome, option_map, option_and_then}
 use Rattle.toml_span_tree.specs.declared.value.Value.{Value}
@@ -25,7 +25,7 @@ untaken_entry segment n = option_and_then if_not_taken (entry segment (inner_of 
 abbrev pub value_named : List (List ℕ) → Node → Option Node
 value_named names n = option_and_then (λ path. node_at path n) (path_named names n)
 
--- n with w where the segments lead; n itself if they lead nowhere
+-- n after w replaced the value to which the segments lead; n itself if they lead nowhere
 abbrev pub put_named : List (List ℕ) → Node → Node → Node
 put_named names w n = put_where_named (path_named names n) w n
 
@@ -33,7 +33,7 @@ abbrev pub set_where_named : Option Step → Node → Inner → Inner
 set_where_named None w i = i
 set_where_named (Some s) w i = set_at_step s w i
 
--- the same table or array, with w where the segment leads
+-- the table or array after w replaced the value that the segment selects; unchanged if the segment selects none
 abbrev pub set_named : List ℕ → Node → Inner → Inner
 set_named segment w i = set_where_named (step_named segment i) w i
 

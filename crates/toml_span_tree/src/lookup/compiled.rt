@@ -1,5 +1,5 @@
-//! Pointers that are parsed once and looked up many times. The segments of a pointer are the parts that its slashes
-//! separate.
+//! Pointers that are parsed once and looked up many times. Each `/` of a pointer begins a segment: `/a/b` has the
+//! segments `a` and `b`.
 ghost use Rattle.std.specs.Prelude.{◌≡◌, [], ◌∷◌, ◌++◌, IfOk, OnOk, map, option_map};
 ghost use Rattle.toml_span_tree.specs.Names.{name_in, names_in};
 ghost use Rattle.toml_span_tree.specs.Node.{get_member};
@@ -45,8 +45,8 @@ impl<'de> Pointer<'de> {
     }
 }
 
-/// Appends each segment of `path`, a pointer without its first `/`, to `names`. If an allocation fails, `names` has
-/// some of them.
+/// Appends each segment of `path`, a pointer without its first `/`, to `names`. If an allocation fails, some of the
+/// segments may have been appended.
 fn push_segments<'de>(
     alloc: Global,
     path: &str,
@@ -81,7 +81,7 @@ fn table_at<'v, 'de>(table: &'v Table<'de>, name: &Key<'de>) -> Option<&'v Value
 }
 
 impl<'de> ValueInner<'de> {
-    /// Returns the value that `name` selects: of a table, the value of the entry with this name; of an array, the
+    /// Returns the value that `name` selects: in a table, the value of the entry with this name; in an array, the
     /// element at the position that the name spells in decimal digits. Returns `None` if no such value exists.
     fn entry_at(&self, name: &Key<'de>) -> Option<&Value<'de>>
         ensures { option_map (λ v. view v.now) result ≡ entry (name_in name.now) (inner_view self.now) }
@@ -121,7 +121,7 @@ impl<'de> Value<'de> {
     /// Returns the value that `pointer` names, or `None` if it names no value. The method `pointer` does the same for a
     /// pointer that is a string.
     ///
-    /// Takes logarithmic time in each table on the way. Allocates nothing.
+    /// In each table on the way, takes time logarithmic in the number of entries. Allocates nothing.
     pub fn at(&self, pointer: &Pointer<'de>) -> Option<&Self>
         ensures { option_map (λ v. view v.now) result ≡ value_named (names_in pointer.now.names) (view self.now) }
     {

@@ -1,4 +1,4 @@
--- A read of an array in progress.
+-- Reads that add read values and errors to lists.
 use Rattle.std.specs.Prelude.{◌≡◌, ⊤, List, [], ◌∷◌, ◌++◌, Option, Some, None, Result, Ok, Err}
 use Rattle.toml_span_lex.specs.declared.stop.Stop.{Stop}
 use Rattle.toml_span_lex.specs.declared.stop.Stop.TheVariants as stop
@@ -14,14 +14,14 @@ Answered (Ok x) P = P (Ok x)
 Answered (Err (stop.Fault faults)) P = P (Err faults)
 Answered (Err (stop.Memory error)) P = ⊤
 
--- The values were read, and these are the elements and the errors.
+-- The values were read: xs are the read values, and `faults` are the errors.
 abbrev pub AreRead : {T : Type 0} → (Node → Result T Errors → Node → Type 0) → List Node → List T → List ErrorContent
     → Type 0
 AreRead reads values xs faults =
     (answers : List (Result _ Errors)) × EachReads reads values answers × (elements answers ≡ xs)
     × (errors answers ≡ faults)
 
--- One more value was read: its element was added to the elements, or its errors to the errors.
+-- One more value was read: the read value was added to xs, or the errors of the read to `faults`.
 abbrev pub AddsRead : {T : Type 0} → (Node → Result T Errors → Node → Type 0) → Node → List T → List ErrorContent
     → List T
     → List ErrorContent → Type 0
@@ -29,7 +29,7 @@ AddsRead reads value xs faults ys more =
     (answer : Result _ Errors) × ((after : Node) × reads value answer after)
     × (ys ≡ xs ++ elements (answer ∷ [])) × (more ≡ faults ++ errors (answer ∷ []))
 
--- A value was read: its element is returned, or its errors were added to the errors.
+-- A value was read: the read value is returned, or the errors of the read were added to `faults`.
 abbrev pub ReadsOrKeeps : {T : Type 0} → (Node → Result T Errors → Node → Type 0) → Node → List ErrorContent → Option T
     → List ErrorContent → Type 0
 ReadsOrKeeps reads value faults (Some x) more = IsReadAs reads value (Ok x) × (more ≡ faults)

@@ -6,7 +6,7 @@ use Rattle.toml_span_typed.specs.Errors.{Errors}
 use Rattle.toml_span_typed.specs.Reads.{errors}
 use Rattle.toml_span_typed.specs.Maps.{holding_read}
 
--- One more value was read: its element was added to the entries under the name, or its errors to the errors.
+-- One more value was read: the read value was added to `entries` under the name, or the errors of the read to `faults`.
 abbrev pub AddsEntry : {T : Type 0} → (Node → Result T Errors → Node → Type 0) → List ℕ → Node
     → List (List ℕ × T) → List ErrorContent → List (List ℕ × T) → List ErrorContent → Type 0
 AddsEntry reads name value entries faults more refused =

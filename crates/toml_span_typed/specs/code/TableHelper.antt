@@ -10,7 +10,7 @@ use Rattle.toml_span_tree.specs.Node.{Node}
 use Rattle.toml_span_typed.specs.Errors.{Errors, all}
 use Rattle.toml_span_typed.specs.TableHelper.{State, keeping}
 
--- the element; or the last error of the read, after keeping all its errors
+-- the read value; or the last error of the read, after keeping all errors of the read
 abbrev pub ReadsValue : {T : Type 0} → (Node → Result T Errors → Node → Type 0) → Node → State → Result T (Stop Error)
     → State → Type 0
 ReadsValue reads value before (Ok x) after = (left : Node) × reads value (Ok x) left × (after ≡ before)

@@ -1,4 +1,4 @@
--- Reads of values that warn.
+-- Reads that warn, and that add read values and errors to lists.
 use Rattle.std.specs.Prelude.{◌≡◌, ◌++◌, [], ◌∷◌, List, Option, Some, None, Result, Ok, Err}
 use Rattle.toml_span_tree.specs.Error.{ErrorContent}
 use Rattle.toml_span_tree.specs.Node.{Node}
@@ -6,7 +6,8 @@ use Rattle.toml_span_typed.specs.Errors.{Errors, all}
 use Rattle.toml_span_typed.specs.Reads.{elements, errors}
 use Rattle.toml_span_typed.specs.WithWarnings.{EachWithWarnings}
 
--- A value was read: its element is returned, or its errors were added to the errors. Its warnings were appended.
+-- A value was read: the read value is returned, or the errors of the read were added to `faults`. The warnings of the
+-- read were appended.
 abbrev pub ReadsOrKeepsWithWarnings : {T : Type 0}
     → (Node → Result T Errors → List ErrorContent → List ErrorContent → Type 0) → Node → List ErrorContent
     → Option T → List ErrorContent → List ErrorContent → List ErrorContent → Type 0
@@ -14,7 +15,7 @@ ReadsOrKeepsWithWarnings reads value faults (Some x) kept warnings more = reads 
 ReadsOrKeepsWithWarnings reads value faults None kept warnings more =
     (refused : Errors) × reads value (Err refused) warnings more × (kept ≡ faults ++ all refused)
 
--- The values were read, and these are the elements and the errors.
+-- The values were read: xs are the read values, and `faults` are the errors. The warnings of the reads were appended.
 abbrev pub AreReadWithWarnings : {T : Type 0}
     → (Node → Result T Errors → List ErrorContent → List ErrorContent → Type 0) → List Node → List T
     → List ErrorContent → List ErrorContent → List ErrorContent → Type 0
@@ -22,8 +23,8 @@ AreReadWithWarnings reads values xs faults warnings more =
     (answers : List (Result _ Errors)) × EachWithWarnings reads values answers warnings more
     × (elements answers ≡ xs) × (errors answers ≡ faults)
 
--- One more value was read: its element was added to the elements, or its errors to the errors. Its warnings were
--- appended.
+-- One more value was read: the read value was added to xs, or the errors of the read to `faults`. The warnings of the
+-- read were appended.
 abbrev pub AddsWithWarnings : {T : Type 0}
     → (Node → Result T Errors → List ErrorContent → List ErrorContent → Type 0) → Node → List T → List ErrorContent
     → List T → List ErrorContent → List ErrorContent → List ErrorContent → Type 0

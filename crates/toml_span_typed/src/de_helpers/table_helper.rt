@@ -29,7 +29,7 @@ use toml_span_tree::{Error, ErrorKind, Table, Value, ValueInner};
 /// The helper keeps errors until the end. It records the name of each field that a method reads or takes, even if the
 /// table has no such key; deprecated names are not recorded. The error `UnexpectedKeys` lists the recorded names as
 /// expected. Callers of methods that read values must prove that nothing has been taken from the entries that remain
-/// (`is_whole`).
+/// (`is_whole`); for `required` and `optional`, a proof for the field's value suffices.
 #[derive(Drop)]
 pub struct TableHelper<'de> {
     /// The entries that remain; reading or taking a field moves its entry out.

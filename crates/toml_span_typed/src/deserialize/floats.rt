@@ -1,4 +1,4 @@
-//! Reads of floats as numbers.
+//! Reads of floats as `f64` and `f32`.
 ghost use Rattle.std.specs.Prelude.{◌≡◌, codes};
 ghost use Rattle.std.specs.Float.{binary32, binary64};
 ghost use Rattle.toml_span_typed.specs.Floats.{finite_float, or_beyond, read_number};

@@ -1,4 +1,4 @@
-//! Reads values into a `Box` or an `Option`, and strings with `FromStr`.
+//! Reads of values into a `Box` or an `Option`, and of strings with `FromStr`.
 ghost use Rattle.std.specs.Prelude.{◌⊎◌};
 ghost use Rattle.toml_span_typed.specs.Fields.{AsParsed, AsRead, AsSome};
 ghost use Rattle.toml_span_typed.specs.Reads.{Taken, result_map};

@@ -23,8 +23,8 @@ pub struct InRange<T, const LOW: i64, const HIGH: i64> {
     pub value: T,
 }
 
-/// Reads an integer as a `T`. Fails with `Marked`, with the code `out-of-range`, if the integer is not in the range,
-/// even if `T` can't represent it. The error is at the value, and its message names the range and the integer.
+/// Reads an integer as a `T`. If the integer is not in the range, fails with `Marked`, with the code `out-of-range`, at
+/// the value's span, even if a `T` can't represent the integer. The message names the range and the integer.
 impl<
     'de,
     T: Deserialize<'de> + TryFrom<i64, Error = TryFromIntError>,

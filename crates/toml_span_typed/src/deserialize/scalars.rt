@@ -1,4 +1,4 @@
-//! Reads of strings, booleans, floats and dates.
+//! Reads of strings, booleans, floats, and dates and times.
 ghost use Rattle.std.specs.Prelude.{◌≡◌, IfOk, IsTrue, Some, string_bytes};
 ghost use Rattle.std.specs.Cow.{cow_str_bytes};
 ghost use Rattle.toml_span_tree.specs.Value.{float_value, date_bytes, is_whole, view};

@@ -197,9 +197,9 @@ impl<'de> TableHelper<'de> {
         Ok(value)
     }
 
-    /// Returns the value of `newer`, the entry of `name`, or, if `newer` is `None`, the value of `older`, the entry of
-    /// `old`. Returns `None` if both are `None`. An entry is the span of its key, and its value. If both are `Some`,
-    /// keeps the error `DuplicateKey` at the later key. If an allocation fails, no error is kept.
+    /// Returns the value of `newer` or, if `newer` is `None`, the value of `older`. Returns `None` if both are `None`.
+    /// `newer` is the entry of `name`, and `older` is the entry of `old`, each as the span of its key and its value. If
+    /// both are `Some`, keeps the error `DuplicateKey` at the later key. If an allocation fails, no error is kept.
     fn choose(
         &mut self,
         name: &str,
@@ -274,7 +274,7 @@ impl<'de> TableHelper<'de> {
     }
 }
 
-/// Returns the span of the key of an entry, or `None` if `entry` is `None`.
+/// Returns the span of the key of `entry`, or `None` if `entry` is `None`.
 fn place_of(entry: &Option<(Span, Value)>) -> Option<Span>
     ensures { option_map (λ span. Some span) result ≡ option_map (λ e. e.0) (option_map entry_of entry.now) }
 {
@@ -315,8 +315,8 @@ fn duplicate_key<'s>(
     Ok(Error::from((ErrorKind::DuplicateKey { key, first }, span)))
 }
 
-/// Appends the warning that `old` is deprecated in favor of `name` to `warnings`. `place`, the span of the old key, is
-/// the span of the warning. If `place` is `None`, appends nothing. If an allocation fails, `warnings` is unchanged.
+/// Appends to `warnings` that `old` is deprecated in favor of `name`. `place`, the span of the old key, is the span of
+/// the warning. If `place` is `None`, appends nothing. If an allocation fails, `warnings` is unchanged.
 fn warn<'s>(
     warnings: &mut Vec<Error<'s>>,
     name: &'s str,

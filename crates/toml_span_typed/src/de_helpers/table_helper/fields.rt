@@ -1,4 +1,4 @@
-//! Methods that read fields and keep all errors in the helper.
+//! Methods that read fields and keep all errors in the helper, and methods that end the read.
 ghost use Rattle.std.specs.Prelude.{◌≡◌, ◌+◌, ◌≤◌, IfOk, IfSome, IsTrue, OnErr, OnOk};
 ghost use Rattle.toml_span_tree.specs.Value.{is_whole};
 ghost use Rattle.toml_span_typed.specs.Fields.{Asks, Finishes, FinishesInto, Keeps, RequiresAll, kept, lacking};

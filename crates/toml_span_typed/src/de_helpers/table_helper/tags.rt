@@ -1,4 +1,4 @@
-//! Reads an enum's tag, and the other entries of its table.
+//! Reads an enum's tag, the other entries of its table, and strings that must be one of some names.
 ghost use Rattle.std.specs.Prelude.{◌≡◌, ◌+◌, ◌≤◌, IfOk, OnErr, Result, false, map, option_map};
 ghost use Rattle.toml_span_tree.specs.Error.{content_of};
 ghost use Rattle.toml_span_tree.specs.Value.{is_taken, view};
@@ -101,7 +101,7 @@ impl<'de> TableHelper<'de> {
 }
 
 /// Reads a string that must be one of `names`, and returns that name. `read_name!` calls this. Takes the value in every
-/// case.
+/// case. Callers must prove that it has not been taken already (`is_taken`).
 ///
 /// Fails with `Wanted` if the value is not a string, and with `UnexpectedValue`, which lists the names, if the string
 /// is not one of them. Both errors are at the value's span. Only `UnexpectedValue` needs an allocation. Fails with

@@ -19,8 +19,9 @@ impl<'de> TableHelper<'de> {
         Vec::new(self.alloc)
     }
 
-    /// Reads a field as `read` does, for a type that warns. Appends the warnings of the read to `warnings`, even if the
-    /// read fails. If an allocation fails, some of these warnings may be lost, but none of the earlier warnings.
+    /// Reads a field as `read` does, for a type that implements `DeserializeWithWarnings`. Appends the warnings of the
+    /// read to `warnings`, even if the read fails. If an allocation fails, some of these warnings may be lost, but none
+    /// of the earlier warnings.
     pub fn read_with_warnings<T: DeserializeWithWarnings<'de>>(
         &mut self,
         name: &'de str,
@@ -42,9 +43,9 @@ impl<'de> TableHelper<'de> {
         }
     }
 
-    /// Reads a field as `read_optional` does, for a type that warns. Appends the warnings of the read to `warnings`,
-    /// even if the read fails. If an allocation fails, some of these warnings may be lost, but none of the earlier
-    /// warnings.
+    /// Reads a field as `read_optional` does, for a type that implements `DeserializeWithWarnings`. Appends the
+    /// warnings of the read to `warnings`, even if the read fails. If an allocation fails, some of these warnings may
+    /// be lost, but none of the earlier warnings.
     pub fn read_optional_with_warnings<T: DeserializeWithWarnings<'de>>(
         &mut self,
         name: &'de str,
