@@ -10,7 +10,8 @@ use Rattle.toml_span_tree.specs.Path.{Path, Place, key, position}
 use Rattle.toml_span_tree.specs.Node.{Node, node, table, Members}
 use Rattle.toml_span_tree.specs.declared.error.Error.{Error}
 use Rattle.toml_span_tree.specs.Error.{content_of, ErrorContent, unexpected_keys}
-use Rattle.toml_span_typed.specs.TableHelper.{State, AfterAllocError, keeping, missing, noted, remaining_keys, where_filled}
+use Rattle.toml_span_typed.specs.TableHelper.{AfterAllocError, State, keeping, missing, noted, remaining_keys}
+use Rattle.toml_span_typed.specs.TableHelper.{where_filled}
 use Rattle.toml_span_typed.specs.Errors.{Errors, all}
 use Rattle.toml_span_laws.specs.Document.{IsValueOf, subtree}
 

@@ -57,14 +57,19 @@ assignment_written_step a = dotted_written a.parts ++ a.value
 
 -- the strings and keys in a value and in an assignment, in the order of the text
 abbrev pub written : Val → List Written
-written = fold-Val (Span → List Written) (List Written) (List Written) kind_written_step assignment_written_step val_written_step
+written =
+    fold-Val (Span → List Written) (List Written) (List Written) kind_written_step assignment_written_step
+    val_written_step
 
 abbrev pub kind_written : ValKind → Span → List Written
-kind_written = fold-ValKind (Span → List Written) (List Written) (List Written) kind_written_step assignment_written_step val_written_step
+kind_written =
+    fold-ValKind (Span → List Written) (List Written) (List Written) kind_written_step assignment_written_step
+    val_written_step
 
 abbrev pub assignment_written : Assignment → List Written
 assignment_written =
-    fold-Assignment (Span → List Written) (List Written) (List Written) kind_written_step assignment_written_step val_written_step
+    fold-Assignment (Span → List Written) (List Written) (List Written) kind_written_step assignment_written_step
+    val_written_step
 
 abbrev pub assignments_written : List Assignment → List Written
 assignments_written found = joined (map assignment_written found)

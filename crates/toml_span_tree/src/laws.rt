@@ -77,6 +77,6 @@ pub fn pointer_names_what_was_put()
 /// Suppose that, for some n, two pointers have different n-th segments. Then replacing the value that one of the
 /// pointers finds changes nothing for the other: it finds the same value as before, or again none.
 pub fn other_pointers_keep()
-    ensures { (pointer other : List ℕ) (n m w : Node) → pointed pointer n ≡ Some m → pointers_diverge pointer other ≡ true
-        → pointed other (put_pointed pointer w n) ≡ pointed other n }
+    ensures { (pointer other : List ℕ) (n m w : Node) → pointed pointer n ≡ Some m
+        → pointers_diverge pointer other ≡ true → pointed other (put_pointed pointer w n) ≡ pointed other n }
 {}

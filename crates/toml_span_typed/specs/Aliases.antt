@@ -16,7 +16,8 @@ duplicate_key_error name span first = record { kind = duplicate_key name first; 
 
 -- the error for a field that is present under both names, at the later key
 abbrev pub twice : List ℕ → Span → List ℕ → Span → ErrorContent
-twice name span old other = if nat_lt span.start other.start then duplicate_key_error old other span else duplicate_key_error name span other
+twice name span old other =
+    if nat_lt span.start other.start then duplicate_key_error old other span else duplicate_key_error name span other
 
 -- an entry: the span of its key, and its value
 abbrev pub Entry : Type 0

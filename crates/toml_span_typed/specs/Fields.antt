@@ -11,7 +11,8 @@ use Rattle.toml_span_tree.specs.Node.{Node}
 use Rattle.toml_span_tree.specs.Value.{inner_of, is_filled, text_in}
 use Rattle.toml_span_typed.specs.Errors.{Errors, all, one}
 use Rattle.toml_span_typed.specs.Parse.{Parses}
-use Rattle.toml_span_typed.specs.TableHelper.{Requires, AfterAllocError, State, found, keeping, missing, noted, with_unasked}
+use Rattle.toml_span_typed.specs.TableHelper.{AfterAllocError, Requires, State, found, keeping, missing, noted}
+use Rattle.toml_span_typed.specs.TableHelper.{with_unasked}
 use Rattle.toml_span_typed.specs.declared.de_helpers.table_helper.Unfinished.{Unfinished}
 use Rattle.toml_span_typed.specs.declared.de_helpers.table_helper.Unfinished.TheVariants as unfinished
 

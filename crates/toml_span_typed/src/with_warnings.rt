@@ -47,8 +47,8 @@ pub(crate) fn read_or_keep<'de, T: DeserializeWithWarnings<'de>>(
     warnings: &mut Vec<Error<'de>>,
 ) -> Result<Option<T>, AllocError>
     requires { IsTrue (is_whole (view value)) }
-    ensures ok { IfOk result (λ element. ReadsOrKeepsWithWarnings T.reads (view value.entry) (map content_of faults.old.items)
-        element (map content_of faults.new.items) (map content_of warnings.old.items)
+    ensures ok { IfOk result (λ element. ReadsOrKeepsWithWarnings T.reads (view value.entry)
+        (map content_of faults.old.items) element (map content_of faults.new.items) (map content_of warnings.old.items)
         (map content_of warnings.new.items)) }
     ensures recorded { IfOk result (λ element. length (map content_of faults.old.items) + lacking element
         ≤ length (map content_of faults.new.items)) }

@@ -11,7 +11,8 @@ use Rattle.toml_span_typed.specs.WithWarnings.{EachWithWarnings}
 abbrev pub ReadsOrKeepsWithWarnings : {T : Type 0}
     → (Node → Result T Errors → List ErrorContent → List ErrorContent → Type 0) → Node → List ErrorContent
     → Option T → List ErrorContent → List ErrorContent → List ErrorContent → Type 0
-ReadsOrKeepsWithWarnings reads value faults (Some x) kept warnings more = reads value (Ok x) warnings more × (kept ≡ faults)
+ReadsOrKeepsWithWarnings reads value faults (Some x) kept warnings more =
+    reads value (Ok x) warnings more × (kept ≡ faults)
 ReadsOrKeepsWithWarnings reads value faults None kept warnings more =
     (refused : Errors) × reads value (Err refused) warnings more × (kept ≡ faults ++ all refused)
 

@@ -183,7 +183,8 @@ impl<'de> TableHelper<'de> {
         ensures state { OnOk result (state_of self.new ≡ asked_deprecated name.now old.now (state_of self.old)) }
         ensures warned { OnOk result (map content_of warnings.new.items
             ≡ map content_of warnings.old.items ++ outdated name.now old.now (state_of self.old)) }
-        ensures err { OnErr result (AfterAllocErrorDeprecated name.now old.now (state_of self.old) (state_of self.new)) }
+        ensures err { OnErr result (AfterAllocErrorDeprecated name.now old.now (state_of self.old)
+            (state_of self.new)) }
         ensures unwarned { OnErr result (map content_of warnings.new.items ≡ map content_of warnings.old.items) }
         ensures recorded { OnOk result (kept (state_of self.old) ≤ kept (state_of self.new)) }
         ensures good { IfOk result (λ value. IfSome value (λ v. IsTrue (is_whole (view v)))) }
