@@ -232,16 +232,16 @@ macro_rules! read_table {
         $crate::read_table!(@silent $field with_warnings)
     };
     (@words $read:tt $form:tt [$ty:ty] $keys:tt alias $($words:tt)*) => {
-        $crate::read_table!(@badly $read "alias(\"old-name\")")
+        $crate::read_table!(@badly $read "alias(\"old-name\")`")
     };
     (@words $read:tt $form:tt [$ty:ty] $keys:tt deprecated $($words:tt)*) => {
-        $crate::read_table!(@badly $read "deprecated(\"old-name\")")
+        $crate::read_table!(@badly $read "deprecated(\"old-name\")`")
     };
     (@words $read:tt $form:tt [$ty:ty] $keys:tt range $($words:tt)*) => {
-        $crate::read_table!(@badly $read "range(1..=9)`, with two literals, before `or(..)")
+        $crate::read_table!(@badly $read "range(1..=9)`, with two literals, before `or(..)`")
     };
     (@words $read:tt $form:tt [$ty:ty] $keys:tt or $($words:tt)*) => {
-        $crate::read_table!(@badly $read "or(value)`, as the last option; the field's type can't be `Spanned")
+        $crate::read_table!(@badly $read "or(value)`, as the last option; the field's type can't be `Spanned`")
     };
     (@words $read:tt $form:tt [$ty:ty] $keys:tt unique $($words:tt)*) => {
         $crate::read_table!(@badly $read "unique(field)`, as the last option")
@@ -253,13 +253,13 @@ macro_rules! read_table {
         $crate::read_table!(@badly $read "flatten`, as the only option")
     };
     (@words $read:tt $form:tt [$ty:ty] $keys:tt parsed $($words:tt)*) => {
-        $crate::read_table!(@badly $read "parsed`, once, before `or(..)")
+        $crate::read_table!(@badly $read "parsed`, once, before `or(..)`")
     };
     (@words $read:tt $form:tt [$ty:ty] $keys:tt with_warnings $($words:tt)*) => {
         $crate::read_table!(@badly $read "with_warnings`, as the only option")
     };
     (@badly [$helper:ident, $warnings:tt, $field:ident] $form:literal) => {
-        compile_error!(concat!("`read_table!`: `", stringify!($field), "`: write `", $form, "`"))
+        compile_error!(concat!("`read_table!`: `", stringify!($field), "`: write `", $form))
     };
     // the compiler reports an unknown option where it is written, and names the module of this path
     (@words $read:tt $form:tt [$ty:ty] $keys:tt $how:ident $($words:tt)*) => {
