@@ -83,7 +83,7 @@ pub data NumberFault (text : List ℕ) (i : ℕ) : ℕ → ℕ → Type 0 where
   -- a dot and other characters after `inf` or `nan`: the first run
   fraction_of_word : (a b end : ℕ) → AfterDot text i a b end → b + 1 < end
       → is_some (special (is_negative text a) (slice_range text (after_sign text a) b)) ≡ true → NumberFault text i a b
-  -- nothing after the dot: the whole number, with the dot
+  -- nothing after the dot: everything from i, including a plus, up to and including the dot
   nothing_after_dot : (a b : ℕ) → FirstRun text i a b → slice_index text b ≡ period
       → is_keylike (slice_index text (b + 1)) ≡ false → NumberFault text i i (b + 1)
   -- out of range: the digit part

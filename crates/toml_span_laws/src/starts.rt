@@ -10,15 +10,14 @@ ghost use Rattle.toml_span_read.specs.Grammar.{SpellsDocument};
 ghost use Rattle.toml_span.specs.Parsing.{IsTree};
 ghost use Rattle.toml_span_laws.specs.Places.{section_key_starts, section_starts};
 
-/// The parts of all headers and keys of a document, also of the keys in inline tables, each start after the part
-/// before: no two start at the same offset.
+/// In the order of the text, each part of a header or key of a document, including the keys in inline tables, starts
+/// after the one before, so no two start at the same offset.
 pub fn keys_start_apart()
     ensures { (text : List ℕ) (limit : ℕ) (sections : List ParsedSection) → SpellsDocument sections text limit
         → IsStrictlyIncreasing (section_key_starts sections) }
 {}
 
-/// The headers, parts of headers and keys, arrays and inline tables of a document, in the order of the text, each start
-/// after the one before: no two start at the same offset.
+/// The same holds for these parts together with the headers themselves, the arrays and the inline tables.
 pub fn brackets_start_apart()
     ensures { (text : List ℕ) (limit : ℕ) (sections : List ParsedSection) → SpellsDocument sections text limit
         → IsStrictlyIncreasing (section_starts sections) }

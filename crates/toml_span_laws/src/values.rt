@@ -33,7 +33,8 @@ pub fn spans_within()
         → Inside v i j × (i ≤ j) × (j ≤ length text) }
 {}
 
-/// A value that is spelled within the depth limit `limit` is nested at most `limit` levels deep.
+/// If a value at depth `depth` is spelled within the depth limit `limit`, then its depth and that of each value in it
+/// are at most `limit`, and each key in it has at most `limit` parts.
 pub fn depth_within()
     ensures { (text : List ℕ) (limit depth i j : ℕ) (v : ParsedValue) → Spells v text limit depth i j
         → Within limit depth v }

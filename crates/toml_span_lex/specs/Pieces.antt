@@ -55,9 +55,9 @@ piece_value text i j pieces.Dropped = []
 piece_value text i j _ = slice_range text i j
 
 -- `ml-basic-string-delim = 3quotation-mark`, `ml-literal-string-delim = 3apostrophe`, after `[ mlb-quotes ]` or `[
--- mll-quotes ]`: the quotes at i close the string, and j is the offset after them. One quote closes a single-line
--- string. The first run of at least three quotes closes a multi-line string; at most five of these quotes belong to the
--- string.
+-- mll-quotes ]`: the quotes at i end the string, and j is the offset after them. A single-line string ends with
+-- one quote, a multi-line string with its first run of at least three. It takes at most five of the run: the last three
+-- that it takes are the delimiter, those before them are content.
 abbrev pub IsClose : ℕ → Bool → List ℕ → ℕ → ℕ → Type 0
 IsClose q false text i j = (slice_index text i ≡ q) × (i < length text) × (j ≡ i + 1)
 IsClose q true text i j = (r : ℕ) × MaximalRun (λ c. c == q) text i r × (i + 3 ≤ r) × (j ≡ min r (i + 5))

@@ -1,5 +1,5 @@
--- The characters and line ends of a text, and the folded text, in which CRLF is one line feed. `slice_index` is 0 after
--- the end of a text, so a byte other than 0, such as that of a line end, is inside it.
+-- The characters and line ends of a text, and the folded text, in which CRLF is one line feed. From the end of a text
+-- on, `slice_index` is 0. So an offset with another byte, such as a line feed, is inside the text, and needs no bound.
 use Rattle.std.specs.Prelude.{◌≡◌, ℕ, ◌+◌, ◌⊎◌, Bool, true, false, ◌&&◌, ◌==◌, List, [], ◌∷◌, ◌++◌, if◌then◌else◌, drop}
 use Rattle.std.specs.Prelude.{length, slice_index, encode_utf8}
 use Rattle.std.specs.Char.{len_utf8}

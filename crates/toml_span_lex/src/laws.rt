@@ -26,14 +26,15 @@ pub fn token_or_fault()
     ensures { law.TokenOrFault }
 {}
 
-/// A token is at least one byte long, and ends within the text. The text that is read before a fault is reported also
-/// has at least one byte, and ends within the text.
+/// A token is at least one byte long, and ends within the text. At least one byte is read before a fault is reported,
+/// and all bytes read are within the text.
 pub fn within_the_text()
     ensures tokens { law.TokensWithin }
     ensures faults { law.FaultsWithin }
 {}
 
-/// The value of a string's content, the end of the content, and the end of the string are unique.
+/// The quote, the form (single-line or multi-line) and the start of a string's content determine its value, the end of
+/// the content, and the end of the string.
 pub fn one_content()
     ensures { law.OneContent }
 {}

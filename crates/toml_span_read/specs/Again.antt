@@ -91,7 +91,7 @@ abbrev mutual
   MembersHaveFloatTexts (member name key n ms) = HasFloatTexts n × MembersHaveFloatTexts ms
 
 -- Neither this value nor any value in it is nested deeper than the limit. d is the depth of this value: the number of
--- brackets, braces and parts of keys around it. The key of an entry of a table counts as one part.
+-- brackets and braces around it, plus one for its own key, if it has one, and one for each key around it.
 abbrev mutual
   pub IsWithin : ℕ → ℕ → Node → Type 0
   IsWithin limit d (node i span) = (d ≤ limit) × InnerIsWithin limit d i

@@ -23,7 +23,8 @@ abbrev pub or_beyond : {T : Type 0} → List ℕ → Span → Option T → Resul
 or_beyond name span (Some x) = Ok x
 or_beyond name span None = Err (stop.Fault (one (beyond_range name span)))
 
--- the number nearest to the float, if it is finite in the type with this name
+-- the number of this format that is nearest to the float; if that number is not finite, the error that it is beyond the
+-- range of the type with this name
 abbrev pub read_number : List ℕ → Format → Node → Result Float Errors
 read_number name format (node (scalar (float x)) span) = or_out_of name span (finite_float format (float_text x))
 read_number name format value = refused (codes "a float") value

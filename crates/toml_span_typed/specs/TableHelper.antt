@@ -157,7 +157,8 @@ Finalizes s None answer = Refuses s answer
 abbrev pub HoldsRest : BTreeMap Key Value → Value → Value → Type 0
 HoldsRest rest before after = view after ≡ node (table (members_view rest.entries)) (span_of (view before))
 
--- If there is a reference, P relates its value before the call to its value after the call.
+-- For a parameter of the type `Option<&mut V>`, as it is on entry and on exit: if it is Some, P relates the referenced
+-- value before the call to the value after the call.
 abbrev pub Leaves : {V : Type 0} → (V → V → Type 0) → Option (MutBor V) → Unit {0} ⊎ ((MutBor V × Unit {0}) ⊎ ⊥)
     → Type 0
 Leaves P None exit = Unit {0}

@@ -1,4 +1,4 @@
--- Reads that warn, and that add read values and errors to lists.
+-- What the functions do that read with warnings, and add values, errors and warnings to lists.
 use Rattle.std.specs.Prelude.{◌≡◌, ◌++◌, [], ◌∷◌, List, Option, Some, None, Result, Ok, Err}
 use Rattle.toml_span_tree.specs.Error.{ErrorContent}
 use Rattle.toml_span_tree.specs.Node.{Node}
