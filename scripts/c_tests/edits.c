@@ -146,8 +146,8 @@ static void look_at_faults(void) {
         const char *text;
         uint32_t status, code;
         size_t start;
-    } texts[] = {{"a = 1\na = 2", TOML_SPAN_REFUSED, 13, 6},
-                 {"=", TOML_SPAN_REFUSED, 11, 0},
+    } texts[] = {{"a = 1\na = 2", TOML_SPAN_INVALID, 13, 6},
+                 {"=", TOML_SPAN_INVALID, 11, 0},
                  {"a = '\xff'", TOML_SPAN_UNREAD, 0, 0}};
     for (size_t at = 0; at < sizeof texts / sizeof *texts; at++)
         for (int which = 0; which < 2; which++) {
