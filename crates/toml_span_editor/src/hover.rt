@@ -49,8 +49,8 @@ fn part(text: &str, from: usize, to: usize) -> &str {
 /// number, or if `digits` is not a number.
 fn month_of(digits: &str) -> &'static str {
     match digits.parse::<usize>() {
-        Ok(0) | Err(_) => "",
-        Ok(month) => MONTHS.get(month - 1).copied().unwrap_or(""),
+        Ok(month) if month > 0 => MONTHS.get(month.saturating_sub(1)).copied().unwrap_or(""),
+        _ => "",
     }
 }
 
