@@ -175,7 +175,7 @@ static void put_value(output *out, const toml_span_node *nodes, size_t at, const
     switch (node->kind) {
     case TOML_SPAN_STRING: put_text(out, &node->text, sources); break;
     case TOML_SPAN_INTEGER: put_integer(out, node->integer); break;
-    case TOML_SPAN_BOOLEAN: put(out, node->truth ? "\x88" : "\x89", 1); break;
+    case TOML_SPAN_BOOLEAN: put(out, node->boolean ? "\x88" : "\x89", 1); break;
     case TOML_SPAN_ARRAY: put(out, "](", node->children ? 2 : 1); break;
     case TOML_SPAN_TABLE: put(out, "}(", node->children ? 2 : 1); break;
     default:

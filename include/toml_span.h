@@ -81,7 +81,7 @@ typedef struct {
  * The entries of a table are in the order of their names, by bytes (toml_span_sort changes that). */
 typedef struct {
     uint32_t kind;            /* TOML_SPAN_STRING and so on */
-    uint32_t truth;           /* 1 for `true`; otherwise 0 */
+    uint32_t boolean;         /* 1 for `true`; otherwise 0 */
     toml_span_range span;     /* the bytes of the value; for a string, those between its quotes */
     toml_span_range key_span; /* the bytes of its key; 0..0 for elements and the root */
     toml_span_text key;       /* its name in the table; empty (source 0, at 0) for elements and the root */

@@ -185,7 +185,7 @@ public:
     std::optional<std::string_view> as_datetime() const { return as_text(TOML_SPAN_DATETIME); }
     std::optional<int64_t> as_integer() const { return as(TOML_SPAN_INTEGER, node().integer); }
     std::optional<double> as_float() const { return as(TOML_SPAN_FLOAT, node().number); }
-    std::optional<bool> as_boolean() const { return as(TOML_SPAN_BOOLEAN, node().truth == 1); }
+    std::optional<bool> as_boolean() const { return as(TOML_SPAN_BOOLEAN, node().boolean == 1); }
 
     /* The entries of a table or the elements of an array, in the order of the text. */
     size_t size() const { return node().children; }

@@ -10,7 +10,7 @@
 int main(void) {
     TYPE(toml_span_range), FIELD(toml_span_range, start), FIELD(toml_span_range, end);
     TYPE(toml_span_text), FIELD(toml_span_text, source), FIELD(toml_span_text, at), FIELD(toml_span_text, length);
-    TYPE(toml_span_node), FIELD(toml_span_node, kind), FIELD(toml_span_node, truth), FIELD(toml_span_node, span);
+    TYPE(toml_span_node), FIELD(toml_span_node, kind), FIELD(toml_span_node, boolean), FIELD(toml_span_node, span);
     FIELD(toml_span_node, key_span), FIELD(toml_span_node, key), FIELD(toml_span_node, text);
     FIELD(toml_span_node, parent), FIELD(toml_span_node, position), FIELD(toml_span_node, children);
     FIELD(toml_span_node, next), FIELD(toml_span_node, integer), FIELD(toml_span_node, number);

@@ -12,7 +12,7 @@ STRING, INTEGER, FLOAT, BOOLEAN, DATETIME, ARRAY, TABLE = range(1, 8)
 NONE = (1 << 64) - 1
 LONGEST = 16777216
 
-# a record: kind, truth, span, key span, key and text (source, at and length each), parent, position, children, next,
+# a record: kind, boolean, span, key span, key and text (source, at and length each), parent, position, children, next,
 # integer, number
 NODE = struct.Struct("=II14Qqd")
 FAULT = struct.Struct("=II6Q")
