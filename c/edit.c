@@ -78,15 +78,15 @@ uint32_t toml_span_edit(const char *text, size_t length, const toml_span_change 
     change_record *records = (change_record *)(void *)block;
     pen at = {(segment *)(void *)(records + count), NULL};
     at.bytes = (char *)(at.next + bytes);
-    for (size_t number = 0; number < count; number++) {
-        const char *value = or_empty(changes[number].value);
+    for (size_t index = 0; index < count; index++) {
+        const char *value = or_empty(changes[index].value);
         /* (0 marks a path that is not valid) */
-        uint32_t change = changes[number].change ? changes[number].change : UINT32_MAX;
+        uint32_t change = changes[index].change ? changes[index].change : UINT32_MAX;
         change_record record = {change, {at.next, 0}, {at.next, 0}, value, strlen(value)};
-        int is_read = read_path(or_empty(changes[number].path), &at, &record.path);
+        int is_read = read_path(or_empty(changes[index].path), &at, &record.path);
         if (is_read && change == TOML_SPAN_MOVE) is_read = read_path(value, &at, &record.target);
         if (!is_read) record.change = 0;
-        records[number] = record;
+        records[index] = record;
     }
     uint32_t status = toml_span_edit_paths(text, length, records, count, out, room, needed, refused, fault);
     free(block);

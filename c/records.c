@@ -55,11 +55,11 @@ size_t toml_span_find(const toml_span_node *nodes, size_t count, const char *con
  * its siblings. In the elements after the record whose children are being sorted, `children` is the offset at which a
  * child is first named, and `next` is the child's old index. This function exchanges these two fields. */
 static void exchange(toml_span_node *one, toml_span_node *other) {
-    size_t first = one->children, number = one->next;
+    size_t first = one->children, index = one->next;
     one->children = other->children;
     one->next = other->next;
     other->children = first;
-    other->next = number;
+    other->next = index;
 }
 
 /* Sorts children by the offsets at which they are first named. This is a heap sort, unless they are sorted already. */
@@ -92,7 +92,7 @@ static void find_first(const toml_span_node *nodes, size_t count, toml_span_node
 
 /* Sets the new indices and positions of a record's children. */
 static void number_children(const toml_span_node *nodes, size_t at, toml_span_node *sorted) {
-    size_t held = 0, number = sorted[at].position + 1;
+    size_t held = 0, index = sorted[at].position + 1;
     TOML_SPAN_EACH(nodes, at, child) {
         held++;
         sorted[at + held].children = (size_t)sorted[child].integer;
@@ -101,9 +101,9 @@ static void number_children(const toml_span_node *nodes, size_t at, toml_span_no
     if (nodes[at].kind == TOML_SPAN_TABLE) sort_children(&sorted[at + 1], held);
     for (size_t position = 0; position < held; position++) {
         size_t child = sorted[at + 1 + position].next;
-        sorted[child].position = number;
+        sorted[child].position = index;
         sorted[child].parent = position;
-        number += nodes[child].next - child;
+        index += nodes[child].next - child;
     }
 }
 
@@ -121,11 +121,11 @@ void toml_span_sort(const toml_span_node *nodes, size_t count, toml_span_node *s
         place->integer = (int64_t)sorted[at].parent;
     }
     for (size_t at = 0; at < count; at++) {
-        size_t number = sorted[at].children, parent = sorted[at].next, position = (size_t)sorted[at].integer;
-        sorted[at] = nodes[number];
+        size_t index = sorted[at].children, parent = sorted[at].next, position = (size_t)sorted[at].integer;
+        sorted[at] = nodes[index];
         sorted[at].parent = parent;
         sorted[at].position = position;
-        sorted[at].next = at + (nodes[number].next - number);
+        sorted[at].next = at + (nodes[index].next - index);
     }
 }
 
@@ -175,7 +175,7 @@ static void put_value(output *out, const toml_span_node *nodes, size_t at, const
     switch (node->kind) {
     case TOML_SPAN_STRING: put_text(out, &node->text, sources); break;
     case TOML_SPAN_INTEGER: put_integer(out, node->integer); break;
-    case TOML_SPAN_BOOLEAN: put(out, node->truth ? "\x88" : "\x89", 1); break;
+    case TOML_SPAN_BOOLEAN: put(out, node->boolean ? "\x88" : "\x89", 1); break;
     case TOML_SPAN_ARRAY: put(out, "](", node->children ? 2 : 1); break;
     case TOML_SPAN_TABLE: put(out, "}(", node->children ? 2 : 1); break;
     default:

@@ -35,7 +35,7 @@ extern "C" {
 /* The status that a call returns. */
 enum {
     TOML_SPAN_READ = 0,    /* the text is valid TOML */
-    TOML_SPAN_REFUSED = 1, /* the text is not valid TOML */
+    TOML_SPAN_INVALID = 1, /* the text is not valid TOML */
     TOML_SPAN_UNREAD = 2,  /* the text is not UTF-8, or longer than TOML_SPAN_LONGEST */
     TOML_SPAN_UNMADE = 3,  /* toml_span_edit: a change was refused */
     TOML_SPAN_MEMORY = 4   /* out of memory: malloc failed */
@@ -81,7 +81,7 @@ typedef struct {
  * The entries of a table are in the order of their names, by bytes (toml_span_sort changes that). */
 typedef struct {
     uint32_t kind;            /* TOML_SPAN_STRING and so on */
-    uint32_t truth;           /* 1 for `true`; otherwise 0 */
+    uint32_t boolean;         /* 1 for `true`; otherwise 0 */
     toml_span_range span;     /* the bytes of the value; for a string, those between its quotes */
     toml_span_range key_span; /* the bytes of its key; 0..0 for elements and the root */
     toml_span_text key;       /* its name in the table; empty (source 0, at 0) for elements and the root */
@@ -119,7 +119,7 @@ typedef struct {
  * it again with room for the counts. With room for 2 * length + 1 records and `length` bytes of strings, one call is
  * enough.
  *
- * If the status is READ, it writes the records, the strings and the counts. If it is REFUSED, it writes the fault. It
+ * If the status is READ, it writes the records, the strings and the counts. If it is INVALID, it writes the fault. It
  * writes nothing else; the rest of the arrays is unchanged. */
 uint32_t toml_span_parse(const char *text, size_t length, toml_span_node *nodes, size_t room, char *strings,
                          size_t strings_room, toml_span_counts *counts, toml_span_fault *fault);
@@ -132,7 +132,7 @@ uint32_t toml_span_check(const char *text, size_t length);
 void toml_span_code(uint32_t code, char *out, size_t room, size_t *needed);
 
 /* Writes the message of a text's fault, such as "duplicate key: `port`", as toml_span_code writes a name. It parses the
- * text again, and returns the status; it writes `out` and `needed` only if the status is REFUSED. */
+ * text again, and returns the status; it writes `out` and `needed` only if the status is INVALID. */
 uint32_t toml_span_message(const char *text, size_t length, char *out, size_t room, size_t *needed);
 
 /* Writes the report of a text's fault, as toml_span_message writes the message: source lines with marks, and the name
@@ -141,7 +141,7 @@ uint32_t toml_span_report(const char *text, size_t length, const char *name, siz
                           size_t *needed);
 
 /* ---- The calls that write a new text. If the status is READ, they set `needed` to its length, and write it to `out`
- * if it fits; otherwise call again with that much room. If the status is REFUSED, they write the fault. They write
+ * if it fits; otherwise call again with that much room. If the status is INVALID, they write the fault. They write
  * nothing else, except for the reason of a refused change (see toml_span_edit). */
 
 /* What a change does at its path. A value is written as TOML, such as 8080, "text" with its quotes, or [1, 2]. */

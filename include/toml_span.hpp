@@ -52,7 +52,7 @@ std::optional<std::string> made(std::string_view text, std::string *why, Write w
     if (status == TOML_SPAN_READ) return made;
     if (status == TOML_SPAN_MEMORY) made = "out of memory";
     if (status == TOML_SPAN_UNREAD) made = "the text is not UTF-8, or longer than 16 MiB";
-    if (status == TOML_SPAN_REFUSED)
+    if (status == TOML_SPAN_INVALID)
         made = written(512, [&](char *out, size_t room, size_t *needed) {
             toml_span_message(from, text.size(), out, room, needed);
         });
@@ -156,23 +156,23 @@ public:
         using pointer = const value *;
         using reference = value;
 
-        iterator(const document *of, size_t number) : of_(of), number_(number) {}
-        value operator*() const { return {of_, number_}; }
-        iterator &operator++() { return number_ = of_->nodes()[number_].next, *this; }
-        iterator operator++(int) { return std::exchange(*this, iterator(of_, of_->nodes()[number_].next)); }
-        bool operator==(const iterator &other) const { return number_ == other.number_; }
-        bool operator!=(const iterator &other) const { return number_ != other.number_; }
+        iterator(const document *of, size_t index) : of_(of), index_(index) {}
+        value operator*() const { return {of_, index_}; }
+        iterator &operator++() { return index_ = of_->nodes()[index_].next, *this; }
+        iterator operator++(int) { return std::exchange(*this, iterator(of_, of_->nodes()[index_].next)); }
+        bool operator==(const iterator &other) const { return index_ == other.index_; }
+        bool operator!=(const iterator &other) const { return index_ != other.index_; }
 
     private:
         const document *of_;
-        size_t number_;
+        size_t index_;
     };
 
-    value(const document *of, size_t number)
-        : of_(of), number_(number < of->nodes().size() ? number : TOML_SPAN_NONE) {}
+    value(const document *of, size_t index)
+        : of_(of), index_(index < of->nodes().size() ? index : TOML_SPAN_NONE) {}
 
-    explicit operator bool() const { return number_ != TOML_SPAN_NONE; }
-    const toml_span_node &node() const { return *this ? of_->nodes()[number_] : none(); }
+    explicit operator bool() const { return index_ != TOML_SPAN_NONE; }
+    const toml_span_node &node() const { return *this ? of_->nodes()[index_] : none(); }
     uint32_t kind() const { return node().kind; } /* TOML_SPAN_STRING and so on; 0 if it is missing */
     std::string_view kind_name() const { return toml_span_kind_name(kind()); }
     toml_span_range span() const { return node().span; }
@@ -185,11 +185,11 @@ public:
     std::optional<std::string_view> as_datetime() const { return as_text(TOML_SPAN_DATETIME); }
     std::optional<int64_t> as_integer() const { return as(TOML_SPAN_INTEGER, node().integer); }
     std::optional<double> as_float() const { return as(TOML_SPAN_FLOAT, node().number); }
-    std::optional<bool> as_boolean() const { return as(TOML_SPAN_BOOLEAN, node().truth == 1); }
+    std::optional<bool> as_boolean() const { return as(TOML_SPAN_BOOLEAN, node().boolean == 1); }
 
     /* The entries of a table or the elements of an array, in the order of the text. */
     size_t size() const { return node().children; }
-    iterator begin() const { return {of_, *this ? number_ + 1 : 0}; }
+    iterator begin() const { return {of_, *this ? index_ + 1 : 0}; }
     iterator end() const { return {of_, *this ? node().next : 0}; }
     value operator[](std::string_view name) const {
         if (kind() == TOML_SPAN_TABLE)
@@ -204,7 +204,7 @@ public:
         return {of_, TOML_SPAN_NONE};
     }
     value find(const char *path) const {
-        return {of_, toml_span_find(of_->nodes().data(), of_->nodes().size(), of_->sources(), number_, path)};
+        return {of_, toml_span_find(of_->nodes().data(), of_->nodes().size(), of_->sources(), index_, path)};
     }
 
 private:
@@ -218,7 +218,7 @@ private:
     std::optional<std::string_view> as_text(uint32_t wanted) const { return as(wanted, of_->text(node().text)); }
 
     const document *of_;
-    size_t number_;
+    size_t index_;
 };
 
 inline value document::root() const { return {this, 0}; }

@@ -31,7 +31,7 @@ def library():
         subprocess.run(["bash", script], check=True, stdout=sys.stderr)
         path = os.path.join(HERE, "..", "out", "lib", LIBRARY)
     if not os.path.exists(path):
-        sys.exit(f"there is no {path}: make {LIBRARY} by scripts/c_library.sh, and name it by TOML_SPAN_LIBRARY")
+        sys.exit(f"there is no {path}: build it with scripts/c_library.sh, or set TOML_SPAN_LIBRARY to its path")
     return path
 
 

@@ -19,7 +19,7 @@ int main(int argc, char **argv) {
     uint32_t status = toml_span_edit(text, length, changes, 2, edited, sizeof edited, &needed, &refused, &fault);
     if (status == TOML_SPAN_UNMADE)
         fprintf(stderr, "%s: %.*s\n", changes[refused].path, (int)needed, edited);
-    if (status == TOML_SPAN_REFUSED)
+    if (status == TOML_SPAN_INVALID)
         fprintf(stderr, "%s:%zu:%zu: not valid TOML\n", argv[1], fault.line + 1, fault.column + 1);
     if (status != TOML_SPAN_READ || needed > sizeof edited) return (int)status + 10;
 

@@ -17,7 +17,7 @@ int main(int argc, char **argv) {
     toml_span_node no_node;
     char no_byte;
     uint32_t status = toml_span_parse(text, length, &no_node, 0, &no_byte, 0, &counts, &fault);
-    if (status == TOML_SPAN_REFUSED) {
+    if (status == TOML_SPAN_INVALID) {
         char report[8192];
         size_t needed = 0;
         toml_span_report(text, length, argv[1], strlen(argv[1]), report, sizeof report, &needed);

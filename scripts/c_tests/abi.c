@@ -10,7 +10,7 @@
 int main(void) {
     TYPE(toml_span_range), FIELD(toml_span_range, start), FIELD(toml_span_range, end);
     TYPE(toml_span_text), FIELD(toml_span_text, source), FIELD(toml_span_text, at), FIELD(toml_span_text, length);
-    TYPE(toml_span_node), FIELD(toml_span_node, kind), FIELD(toml_span_node, truth), FIELD(toml_span_node, span);
+    TYPE(toml_span_node), FIELD(toml_span_node, kind), FIELD(toml_span_node, boolean), FIELD(toml_span_node, span);
     FIELD(toml_span_node, key_span), FIELD(toml_span_node, key), FIELD(toml_span_node, text);
     FIELD(toml_span_node, parent), FIELD(toml_span_node, position), FIELD(toml_span_node, children);
     FIELD(toml_span_node, next), FIELD(toml_span_node, integer), FIELD(toml_span_node, number);
@@ -21,7 +21,7 @@ int main(void) {
     TYPE(toml_span_place), FIELD(toml_span_place, line), FIELD(toml_span_place, column);
     TYPE(toml_span_change), FIELD(toml_span_change, change), FIELD(toml_span_change, path);
     FIELD(toml_span_change, value);
-    CONSTANT(TOML_SPAN_READ), CONSTANT(TOML_SPAN_REFUSED), CONSTANT(TOML_SPAN_UNREAD), CONSTANT(TOML_SPAN_UNMADE);
+    CONSTANT(TOML_SPAN_READ), CONSTANT(TOML_SPAN_INVALID), CONSTANT(TOML_SPAN_UNREAD), CONSTANT(TOML_SPAN_UNMADE);
     CONSTANT(TOML_SPAN_MEMORY);
     CONSTANT(TOML_SPAN_STRING), CONSTANT(TOML_SPAN_INTEGER), CONSTANT(TOML_SPAN_FLOAT), CONSTANT(TOML_SPAN_BOOLEAN);
     CONSTANT(TOML_SPAN_DATETIME), CONSTANT(TOML_SPAN_ARRAY), CONSTANT(TOML_SPAN_TABLE), CONSTANT(TOML_SPAN_NONE);

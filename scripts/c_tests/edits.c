@@ -51,9 +51,9 @@ static const struct {
     {"a = 1", {TOML_SPAN_SET, "a[x]", "2"}, "!the path is neither a JSON Pointer nor a dotted key"},
     {"a = 1", {TOML_SPAN_SET, "\"\xff\"", "2"}, "!the path or the value is not valid UTF-8"},
     {"a = 1", {TOML_SPAN_SET, "a", "'\xff'"}, "!the path or the value is not valid UTF-8"},
-    {"a = 1", {0, "a", "2"}, "!there is no change with this number"},
-    {"a = 1", {11, "a", "2"}, "!there is no change with this number"},
-    {"a = 1", {UINT32_MAX, "a", "2"}, "!there is no change with this number"},
+    {"a = 1", {0, "a", "2"}, "!unknown kind of change"},
+    {"a = 1", {11, "a", "2"}, "!unknown kind of change"},
+    {"a = 1", {UINT32_MAX, "a", "2"}, "!unknown kind of change"},
     {"[a]\nb = 1\n", {TOML_SPAN_SET, "a", "2"}, "!headers or dotted keys define this table or array"},
     {"[a]\nb = 1\n", {TOML_SPAN_REPLACE, "a", "2"}, "a = 2\n"},
     {"[a]\nb = 1\n", {TOML_SPAN_SET_OR_ADD, "a.c", "2"}, "[a]\nb = 1\nc = 2\n"},
@@ -146,8 +146,8 @@ static void look_at_faults(void) {
         const char *text;
         uint32_t status, code;
         size_t start;
-    } texts[] = {{"a = 1\na = 2", TOML_SPAN_REFUSED, 13, 6},
-                 {"=", TOML_SPAN_REFUSED, 11, 0},
+    } texts[] = {{"a = 1\na = 2", TOML_SPAN_INVALID, 13, 6},
+                 {"=", TOML_SPAN_INVALID, 11, 0},
                  {"a = '\xff'", TOML_SPAN_UNREAD, 0, 0}};
     for (size_t at = 0; at < sizeof texts / sizeof *texts; at++)
         for (int which = 0; which < 2; which++) {

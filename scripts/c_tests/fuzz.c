@@ -109,7 +109,7 @@ static int is_rewritten(const char *text, size_t length, guarded block, uint32_t
     uint32_t now = is_edit ? toml_span_edit(text, length, changes, count, out, room, &needed, &refused, &fault)
                            : toml_span_format(text, length, pick(90), pick(9), out, room, &needed, &fault);
     if (now == TOML_SPAN_UNMADE) return is_edit && status == TOML_SPAN_READ && refused < count && needed > 0;
-    if (now != status || (now == TOML_SPAN_REFUSED) != (fault.code > 0)) return 0;
+    if (now != status || (now == TOML_SPAN_INVALID) != (fault.code > 0)) return 0;
     return now != TOML_SPAN_READ || needed > room || toml_span_check(out, needed) == TOML_SPAN_READ;
 }
 
@@ -138,7 +138,7 @@ int main(int argc, char **argv) {
         if (status == TOML_SPAN_READ) {
             read++;
             if (counts.nodes <= room && !hangs(nodes, counts, length)) wrong++;
-        } else if (status == TOML_SPAN_REFUSED) {
+        } else if (status == TOML_SPAN_INVALID) {
             refused++;
             if (fault.code < 1 || fault.code > 17 || fault.span.start > length) wrong++;
         } else if (status == TOML_SPAN_UNREAD) {

@@ -69,7 +69,7 @@ static int is_kept(const outcome *out, int fault) {
 /* Returns whether a call with a refused request did the same as one without. */
 static int is_same(const outcome *part, const outcome *whole, uint32_t status) {
     if (status == TOML_SPAN_READ) return is_front(part, whole);
-    return is_kept(part, status == TOML_SPAN_REFUSED) && !memcmp(&part->fault, &whole->fault, sizeof part->fault);
+    return is_kept(part, status == TOML_SPAN_INVALID) && !memcmp(&part->fault, &whole->fault, sizeof part->fault);
 }
 
 static long runs, wrong;
@@ -93,7 +93,7 @@ static void hold(const char *name) {
     part = whole;
     part.nodes = __real_malloc((whole.room + 1) * sizeof *part.nodes);
     part.strings = __real_malloc(whole.strings_room + 1);
-    told(status == TOML_SPAN_READ || is_kept(&whole, status == TOML_SPAN_REFUSED), name, "status", status);
+    told(status == TOML_SPAN_READ || is_kept(&whole, status == TOML_SPAN_INVALID), name, "status", status);
     for (long at = 0; at < requests; at++) {
         asked = 0;
         refused = at;

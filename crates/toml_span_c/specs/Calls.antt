@@ -45,8 +45,8 @@ pub record IsRead (bytes : List ℕ) (nodes nodes' : List Record) (strings strin
     pub counts_are : counts ≡ tree_counts bytes (view root)
 
 -- The bytes are not a document, and P holds for the contents of the error.
-abbrev pub IsRefused : List ℕ → (ErrorContent → Type 0) → Type 0
-IsRefused bytes P = (error : Error) × IsRefusal bytes depth_limit (stops.Fault error) × P (content_of error)
+abbrev pub IsInvalid : List ℕ → (ErrorContent → Type 0) → Type 0
+IsInvalid bytes P = (error : Error) × IsRefusal bytes depth_limit (stops.Fault error) × P (content_of error)
 
 -- The record describes the error.
 abbrev pub IsFaultOf : FaultRecord → ErrorContent → Type 0

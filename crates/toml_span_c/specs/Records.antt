@@ -32,14 +32,14 @@ kind_number (scalar s) = scalar_number s
 kind_number (array ns) = 6
 kind_number (table ms) = 7
 
-abbrev pub scalar_truth : Scalar → ℕ
-scalar_truth (boolean true) = 1
-scalar_truth _ = 0
+abbrev pub scalar_boolean : Scalar → ℕ
+scalar_boolean (boolean true) = 1
+scalar_boolean _ = 0
 
 -- 1 for `true`, and 0 for any other value
-abbrev pub truth_of : Inner → ℕ
-truth_of (scalar s) = scalar_truth s
-truth_of _ = 0
+abbrev pub boolean_of : Inner → ℕ
+boolean_of (scalar s) = scalar_boolean s
+boolean_of _ = 0
 
 abbrev pub scalar_integer : Scalar → ℤ
 scalar_integer (integer z) = z
@@ -175,7 +175,7 @@ range_of span = record { start = span.start; end = span.end }
 abbrev pub record_of : List ℕ → ℕ → Entry → Record
 record_of document after e = record {
   kind = kind_number (inner_of e.value);
-  truth = truth_of (inner_of e.value);
+  boolean = boolean_of (inner_of e.value);
   span = range_of (span_of e.value);
   key_span = range_of e.key_span;
   key = place_of document after e.key_span e.name;

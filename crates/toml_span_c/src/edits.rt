@@ -1,6 +1,6 @@
 //! The call that edits a document.
 ghost use Rattle.std.specs.Prelude.{◌≡◌, ◌≢◌, ◌⊎◌, ℕ, List, IfOk, IfSome, map, string_bytes};
-ghost use Rattle.toml_span_c.specs.Calls.{Fills, Holds, IsDocument, IsEdited, IsFaultOf, IsNewStatus, IsRefused};
+ghost use Rattle.toml_span_c.specs.Calls.{Fills, Holds, IsDocument, IsEdited, IsFaultOf, IsInvalid, IsNewStatus};
 ghost use Rattle.toml_span_edit.specs.Edited.{EditMade};
 ghost use Rattle.toml_span_c.specs.Edits.{ChangeMade, ChangesMade, IsChange, names_of};
 
@@ -169,7 +169,7 @@ fn message_of(alloc: Global, refusal: &Refusal) -> Result<String, AllocError> {
             alloc,
             "the path is neither a JSON Pointer nor a dotted key",
         ),
-        Refusal::NoChange => String::from_str(alloc, "there is no change with this number"),
+        Refusal::NoChange => String::from_str(alloc, "unknown kind of change"),
     }
 }
 
@@ -233,7 +233,7 @@ pub extern "C" fn toml_span_edit_paths(
     ensures status { IsNewStatus text.now result }
     ensures made { result ≡ 0
         → (new : List ℕ) × IsEdited text.now changes.now new × Holds out.old out.new needed.new new }
-    ensures faulty { result ≡ 1 → IsRefused text.now (IsFaultOf fault.new) }
+    ensures faulty { result ≡ 1 → IsInvalid text.now (IsFaultOf fault.new) }
     ensures refused { result ≡ 3
         → IsDocument text.now × ((reason : List ℕ) × Fills out.old out.new needed.new reason) }
     ensures out_kept { result ≢ 0 → result ≢ 3 → (out.new ≡ out.old) × (needed.new ≡ needed.old) }

@@ -7,8 +7,8 @@ ghost use Rattle.toml_span_c.specs.code.Filling.{laid, Fits, IsAt, Puts, PutsByt
 ghost use Rattle.toml_span_c.specs.code.Sites.{begun, entries_at};
 
 use crate::records::{
-    Counts, NONE, Range, Record, Text, children_of, integer_of, kind_of, number_of, text_of,
-    truth_of,
+    Counts, NONE, Range, Record, Text, boolean_of, children_of, integer_of, kind_of, number_of,
+    text_of,
 };
 use toml_span_lex::span::Span;
 use toml_span_tree::{Table, Value};
@@ -129,7 +129,7 @@ fn begin_record(
     let text = put_text(document, value.span, text_of(inner), strings, count);
     Record {
         kind: kind_of(inner),
-        truth: truth_of(inner),
+        boolean: boolean_of(inner),
         span: Range {
             start: value.span.start,
             end: value.span.end,

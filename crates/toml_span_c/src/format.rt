@@ -1,7 +1,7 @@
 //! The call that formats a document.
 ghost use Rattle.std.specs.Prelude.{◌≡◌, ◌≢◌, ◌⊎◌, ℕ, List};
 ghost use Rattle.toml_span_format.specs.Document.{SameDocument};
-ghost use Rattle.toml_span_c.specs.Calls.{Holds, IsDocument, IsFaultOf, IsFormatted, IsNewStatus, IsRefused};
+ghost use Rattle.toml_span_c.specs.Calls.{Holds, IsDocument, IsFaultOf, IsFormatted, IsInvalid, IsNewStatus};
 
 use crate::answer::{Answer, answer_to};
 use crate::faults::{FaultRecord, fault_of};
@@ -61,7 +61,7 @@ pub extern "C" fn toml_span_format(
     ensures status { IsNewStatus text.now result }
     ensures made { result ≡ 0
         → (new : List ℕ) × IsFormatted text.now new × Holds out.old out.new needed.new new }
-    ensures faulty { result ≡ 1 → IsRefused text.now (IsFaultOf fault.new) }
+    ensures faulty { result ≡ 1 → IsInvalid text.now (IsFaultOf fault.new) }
     ensures unmade { result ≡ 3 → IsDocument text.now }
     ensures out_kept { result ≢ 0 → (out.new ≡ out.old) × (needed.new ≡ needed.old) }
     ensures fault_kept { result ≢ 1 → fault.new ≡ fault.old }

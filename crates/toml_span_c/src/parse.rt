@@ -1,6 +1,6 @@
 //! The calls that parse a document.
 ghost use Rattle.std.specs.Prelude.{◌≡◌, ◌≢◌, ⊤};
-ghost use Rattle.toml_span_c.specs.Calls.{IsDocument, IsFaultOf, IsRead, IsRefused, IsStatus};
+ghost use Rattle.toml_span_c.specs.Calls.{IsDocument, IsFaultOf, IsInvalid, IsRead, IsStatus};
 
 use crate::answer::{Answer, answer_to};
 use crate::faults::{FaultRecord, fault_of};
@@ -27,7 +27,7 @@ pub extern "C" fn toml_span_parse(
 ) -> u32
     ensures status { IsStatus text.now result }
     ensures read { result ≡ 0 → IsRead text.now nodes.old nodes.new strings.old strings.new counts.new }
-    ensures refused { result ≡ 1 → IsRefused text.now (IsFaultOf fault.new) }
+    ensures faulty { result ≡ 1 → IsInvalid text.now (IsFaultOf fault.new) }
     ensures kept { result ≢ 0 → (nodes.new ≡ nodes.old) × (strings.new ≡ strings.old) × (counts.new ≡ counts.old) }
     ensures fault_kept { result ≢ 1 → fault.new ≡ fault.old }
 {
@@ -51,7 +51,7 @@ pub extern "C" fn toml_span_parse(
 pub extern "C" fn toml_span_check(alloc: Global, text: &[u8]) -> u32
     ensures status { IsStatus text.now result }
     ensures read { result ≡ 0 → IsDocument text.now }
-    ensures refused { result ≡ 1 → IsRefused text.now (λ error. ⊤) }
+    ensures faulty { result ≡ 1 → IsInvalid text.now (λ error. ⊤) }
 {
     match answer_to(alloc, text) {
         Answer::Tree(_, _) => 0,

@@ -38,7 +38,7 @@ pub struct Record {
     /// 1 string, 2 integer, 3 float, 4 boolean, 5 date or time, 6 array, 7 table.
     pub kind: u32,
     /// 1 for `true`, otherwise 0.
-    pub truth: u32,
+    pub boolean: u32,
     /// The span of the value.
     pub span: Range,
     /// The span of the value's key, or `0..0` if it has none.
@@ -86,8 +86,8 @@ pub(crate) fn kind_of(inner: &ValueInner<'_>) -> u32
 }
 
 /// Returns 1 for `true`, otherwise 0.
-pub(crate) fn truth_of(inner: &ValueInner<'_>) -> u32
-    ensures { result ≡ spec.truth_of (inner_view inner.now) }
+pub(crate) fn boolean_of(inner: &ValueInner<'_>) -> u32
+    ensures { result ≡ spec.boolean_of (inner_view inner.now) }
 {
     match inner {
         ValueInner::Boolean(true) => 1,

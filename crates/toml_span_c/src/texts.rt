@@ -3,7 +3,7 @@ ghost use Rattle.std.specs.Prelude.{◌≡◌, ◌≢◌, ℕ, List, IsUtf8};
 ghost use Rattle.toml_span_tree.specs.Message.{display_text};
 ghost use Rattle.toml_span_report.specs.Errors.{IsReport};
 ghost use Rattle.toml_span_report.specs.declared.colours.Style.TheVariants.{Plain};
-ghost use Rattle.toml_span_c.specs.Calls.{Fills, Holds, IsDocument, IsRefused, IsStatus};
+ghost use Rattle.toml_span_c.specs.Calls.{Fills, Holds, IsDocument, IsInvalid, IsStatus};
 ghost use Rattle.toml_span_c.specs.Faults as spec;
 
 use crate::answer::{Answer, answer_to};
@@ -52,8 +52,8 @@ pub extern "C" fn toml_span_message(
 ) -> u32
     ensures status { IsStatus text.now result }
     ensures read { result ≡ 0 → IsDocument text.now }
-    ensures refused { result ≡ 1
-        → IsRefused text.now (λ error. Fills out.old out.new length.new (display_text error.kind)) }
+    ensures faulty { result ≡ 1
+        → IsInvalid text.now (λ error. Fills out.old out.new length.new (display_text error.kind)) }
     ensures kept { result ≢ 1 → (out.new ≡ out.old) × (length.new ≡ length.old) }
 {
     match answer_to(alloc, text) {
@@ -86,7 +86,7 @@ pub extern "C" fn toml_span_report(
     ensures status { IsUtf8 name.now → IsStatus text.now result }
     ensures name { ¬ IsUtf8 name.now → result ≡ 2 }
     ensures read { result ≡ 0 → IsDocument text.now }
-    ensures refused { result ≡ 1 → IsRefused text.now (λ error. (report : List ℕ)
+    ensures faulty { result ≡ 1 → IsInvalid text.now (λ error. (report : List ℕ)
         × IsReport Plain name.now text.now error report × Fills out.old out.new length.new report) }
     ensures kept { result ≢ 1 → (out.new ≡ out.old) × (length.new ≡ length.old) }
 {

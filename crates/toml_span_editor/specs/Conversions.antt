@@ -2,11 +2,11 @@
 use Rattle.std.specs.Prelude.{ℕ, List, map, string_bytes}
 use Rattle.toml_span_convert.specs.Converted.{IsConverted}
 use Rattle.toml_span_convert.specs.declared.conversions.Conversion.{Conversion}
-use Rattle.toml_span_editor.specs.Edits.{Turns, edit_content}
+use Rattle.toml_span_editor.specs.Edits.{ChangesInto, edit_content}
 use Rattle.toml_span_editor.specs.declared.edits.Rewritten.{Rewritten}
 
 -- The edits of `made` convert a table or an array of `text` as `conversion` says. They keep the tree, except for its
 -- spans, and the comments.
 abbrev pub ConvertsBy : Conversion → List ℕ → Rewritten → Type 0
 ConvertsBy conversion text made = IsConverted conversion text (string_bytes made.text)
-    × Turns text (map edit_content made.edits.items) (string_bytes made.text)
+    × ChangesInto text (map edit_content made.edits.items) (string_bytes made.text)

@@ -10,5 +10,5 @@ edit_content edit = (edit.span, string_bytes edit.text)
 
 -- The edits are in order, do not overlap, and are at character boundaries of the text `old`. Together, they change
 -- `old` into `new`.
-unfoldable pub Turns : List ℕ → List (Span × List ℕ) → List ℕ → Type 0
-Turns old edits new = replaced old edits ≡ Some new
+unfoldable pub ChangesInto : List ℕ → List (Span × List ℕ) → List ℕ → Type 0
+ChangesInto old edits new = replaced old edits ≡ Some new

@@ -4,7 +4,7 @@ use Rattle.toml_span_edit.specs.Edited.{EditsMade}
 use Rattle.toml_span_edit.specs.declared.edits.Change.{Change}
 use Rattle.toml_span_edit.specs.declared.edits.Change.TheVariants as changes
 use Rattle.toml_span_edit.specs.declared.edits.Edit.{Edit}
-use Rattle.toml_span_editor.specs.Edits.{Turns, edit_content}
+use Rattle.toml_span_editor.specs.Edits.{ChangesInto, edit_content}
 use Rattle.toml_span_editor.specs.declared.edits.Rewritten.{Rewritten}
 
 -- the change renames a key to this name
@@ -19,4 +19,4 @@ Renames name text new = (edit : Edit) × IsRenameTo name edit.change × EditsMad
 -- like `Renames`, for the text that the edits make
 abbrev pub RenamesBy : List ℕ → List ℕ → Rewritten → Type 0
 RenamesBy name text made =
-    Renames name text (string_bytes made.text) × Turns text (map edit_content made.edits.items) (string_bytes made.text)
+    Renames name text (string_bytes made.text) × ChangesInto text (map edit_content made.edits.items) (string_bytes made.text)

@@ -1,6 +1,6 @@
 //! Proposes text to write at an offset.
 use crate::document::Document;
-use crate::keys::{is_spelled, value_of};
+use crate::keys::{has_literal, value_of};
 use std::alloc::{AllocError, Global};
 use toml_span::Value;
 use toml_span::value::{Step, nodes};
@@ -24,7 +24,7 @@ pub struct Proposal {
 
 /// The part of a statement that contains an offset.
 #[derive(Clone, Copy, Debug, PartialEq, Eq)]
-pub enum Part {
+pub enum StatementPart {
     Key,
     Value,
     /// A header, a comment, or another part for which nothing is proposed.
@@ -44,13 +44,14 @@ fn is_word(text: &str) -> bool {
 }
 
 /// Returns the part of a statement at an offset. `front` is the text before the offset on the same line.
-fn part_of(front: &str) -> Part {
+fn part_of(front: &str) -> StatementPart {
     let front = front.trim_ascii_start();
     match front.rsplit_once('=') {
-        Some((_, value)) if is_word(value.trim_ascii_start()) => Part::Value,
-        Some(_) => Part::Other,
-        None if front.starts_with('[') || front.contains('#') || front.contains('.') => Part::Other,
-        None => Part::Key,
+        Some((_, value)) if is_word(value.trim_ascii_start()) => StatementPart::Value,
+        Some(_) => StatementPart::Other,
+        None if front.starts_with('[') || front.contains('#') || front.contains('.') =>
+            StatementPart::Other,
+        None => StatementPart::Key,
     }
 }
 
@@ -155,7 +156,7 @@ fn sibling_keys(
 fn is_in_value(alloc: Global, document: &Document<'_>, at: usize) -> Result<bool, AllocError> {
     for node in nodes(alloc, &document.root)? {
         let span = literal_span(document.text, node.value);
-        if span.start < at && at < span.end && is_spelled(document.text, node.value) {
+        if span.start < at && at < span.end && has_literal(document.text, node.value) {
             return Ok(true);
         }
     }
@@ -187,9 +188,9 @@ pub fn proposals(
     at: usize,
 ) -> Result<Vec<Proposal>, AllocError> {
     match part_of(line_front(text, at)) {
-        Part::Key if is_in_value(alloc, document, at)? => Ok(Vec::new(alloc)),
-        Part::Key => sibling_keys(alloc, document, at),
-        Part::Value => booleans(alloc),
-        Part::Other => Ok(Vec::new(alloc)),
+        StatementPart::Key if is_in_value(alloc, document, at)? => Ok(Vec::new(alloc)),
+        StatementPart::Key => sibling_keys(alloc, document, at),
+        StatementPart::Value => booleans(alloc),
+        StatementPart::Other => Ok(Vec::new(alloc)),
     }
 }

@@ -16,7 +16,7 @@ pub(crate) enum Segment {
 
 /// The kind of text that can be written at an offset.
 #[derive(Clone, Copy, Debug, PartialEq, Eq)]
-pub(crate) enum Spot {
+pub(crate) enum ExpectedText {
     /// A part of the key of an assignment.
     Key,
     Value,
@@ -31,7 +31,7 @@ pub(crate) enum Spot {
 /// The text that is being written at an offset: its kind and its place in the tree.
 #[derive(Debug, Drop)]
 pub(crate) struct Context {
-    pub(crate) spot: Spot,
+    pub(crate) expected: ExpectedText,
     /// For a value, its path. For a key or a part of a header, the path of the table that contains it. In a header, the
     /// path begins at the root, otherwise at the table of the section.
     pub(crate) path: Vec<Segment>,
@@ -237,12 +237,12 @@ impl Scanner {
 
     /// Returns what is being written. `typed` is the span that a suggestion replaces.
     fn context(self, alloc: Global, typed: Span) -> Context {
-        let spot = match (self.next, self.is_in_array) {
-            (Next::Key, _) => Spot::Key,
-            (Next::Value, _) => Spot::Value,
-            (Next::Header, false) => Spot::Table,
-            (Next::Header, true) => Spot::TableInArray,
-            _ => Spot::Other,
+        let expected = match (self.next, self.is_in_array) {
+            (Next::Key, _) => ExpectedText::Key,
+            (Next::Value, _) => ExpectedText::Value,
+            (Next::Header, false) => ExpectedText::Table,
+            (Next::Header, true) => ExpectedText::TableInArray,
+            _ => ExpectedText::Other,
         };
         let Scanner {
             path,
@@ -254,7 +254,7 @@ impl Scanner {
             _ => Vec::new(alloc),
         };
         Context {
-            spot,
+            expected,
             path,
             names,
             typed,

@@ -48,8 +48,8 @@ pub struct Repair {
     /// What the repair does: the first help of the report or, without help, its message. "Did you mean `a`?" becomes
     /// "write `a`". For a duplicate key, it is "remove this duplicate key".
     pub title: String,
-    /// The position of the diagnostic in the list that `diagnostics` returns.
-    pub report: usize,
+    /// The index of the diagnostic in the list that `diagnostics` returns.
+    pub diagnostic_index: usize,
     pub edits: Vec<Edit>,
     pub is_safe: bool,
 }
@@ -304,7 +304,7 @@ fn repair_of(
     };
     Ok(Some(Repair {
         title: title_of(alloc, title)?,
-        report: index,
+        diagnostic_index: index,
         edits,
         is_safe: report.replacements.iter().all(|one| one.is_safe),
     }))

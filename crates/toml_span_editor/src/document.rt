@@ -66,13 +66,16 @@ pub fn readable<'t>(alloc: Global, text: &'t str) -> Result<Option<CowStr<'t>>, 
         return Ok(Some(CowStr::Borrowed(text)));
     };
     let mut kept = without_line(alloc, text, at)?;
-    'lines: for _ in 0..MOST {
+    'lines: for _ in 1..MOST {
         let Some(at) = error_place(alloc, kept.as_str())? else {
             return Ok(Some(CowStr::Owned(kept)));
         };
         kept = without_line(alloc, kept.as_str(), at)?;
     }
-    Ok(None)
+    match error_place(alloc, kept.as_str())? {
+        None => Ok(Some(CowStr::Owned(kept))),
+        Some(_) => Ok(None),
+    }
 }
 
 /// Reads a text. Returns `None` if the text is not valid TOML. Fails if an allocation fails.

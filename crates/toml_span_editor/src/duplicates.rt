@@ -6,13 +6,13 @@ use toml_span_check::every::check;
 use toml_span_check::statements::assignment_lines;
 
 /// Returns the repair for the duplicate key at the offset `at`, which removes the lines of its assignment. `count` is
-/// the number of reports on the text, and `report` is the position of this error's report among them. Returns `None` if
-/// `assignment_lines` does, or if the number of reports would not be smaller without the lines.
+/// the number of reports on the text, and `diagnostic_index` is the index of this error's report among them. Returns
+/// `None` if `assignment_lines` does, or if the number of reports would not be smaller without the lines.
 pub(crate) fn without_duplicate(
     alloc: Global,
     text: &str,
     at: usize,
-    report: usize,
+    diagnostic_index: usize,
     count: usize,
 ) -> Result<Option<Repair>, AllocError> {
     let Some(span) = assignment_lines(text, at) else {
@@ -31,7 +31,7 @@ pub(crate) fn without_duplicate(
     }
     Ok(Some(Repair {
         title: String::from_str(alloc, "remove this duplicate key")?,
-        report,
+        diagnostic_index,
         edits,
         is_safe: false,
     }))

@@ -2,7 +2,7 @@
 ghost use Rattle.std.specs.Prelude.{◌≡◌, IfOk, IsTrue, Some, map, option_map, string_bytes};
 ghost use Rattle.toml_span_places.specs.Replace.{edit_of};
 ghost use Rattle.toml_span_places.specs.Replace as places;
-ghost use Rattle.toml_span_editor.specs.Edits.{Turns, edit_content};
+ghost use Rattle.toml_span_editor.specs.Edits.{ChangesInto, edit_content};
 
 use std::alloc::{AllocError, Global};
 use toml_span::Stop;
@@ -53,9 +53,14 @@ pub fn edited(alloc: Global, text: &str, edits: &[Edit]) -> Result<Option<String
 }
 
 /// Returns whether the edits change `old` into `new`.
-#[tactic(auto, unfolding(crate::specs::Edits::Turns))]
-pub(crate) fn turns(alloc: Global, old: &str, edits: &[Edit], new: &str) -> Result<bool, AllocError>
-    ensures { IfOk result (λ does. IsTrue does → Turns old.now (map edit_content edits.now) new.now) }
+#[tactic(auto, unfolding(crate::specs::Edits::ChangesInto))]
+pub(crate) fn changes_into(
+    alloc: Global,
+    old: &str,
+    edits: &[Edit],
+    new: &str,
+) -> Result<bool, AllocError>
+    ensures { IfOk result (λ does. IsTrue does → ChangesInto old.now (map edit_content edits.now) new.now) }
 {
     match edited(alloc, old, edits)? {
         Some(made) => Ok(made.as_str() == new),
@@ -71,7 +76,8 @@ struct Hunk {
     text: String,
 }
 
-/// Returns an edit for each group of lines in which the texts differ. The caller must check the edits with `turns`.
+/// Returns an edit for each group of lines in which the texts differ. The caller must check the edits with
+/// `changes_into`.
 fn guessed(alloc: Global, old: &str, new: &str) -> Result<Vec<Edit>, AllocError> {
     let mut edits = Vec::new(alloc);
     let mut hunk = Hunk {
@@ -109,9 +115,9 @@ fn push_hunk(hunk: Hunk, edits: &mut Vec<Edit>) -> Result<(), AllocError> {
 }
 
 /// Returns the edit that replaces the whole text `old` with `new`.
-#[tactic(auto, using(crate::proofs::EditLemmas::whole_turns))]
+#[tactic(auto, using(crate::proofs::EditLemmas::whole_changes_into))]
 fn whole(alloc: Global, old: &str, new: &str) -> Result<Vec<Edit>, AllocError>
-    ensures { IfOk result (λ edits. Turns old.now (map edit_content edits.items) new.now) }
+    ensures { IfOk result (λ edits. ChangesInto old.now (map edit_content edits.items) new.now) }
 {
     let span = Span {
         start: 0,
@@ -126,10 +132,10 @@ fn whole(alloc: Global, old: &str, new: &str) -> Result<Vec<Edit>, AllocError>
 /// Returns the edits that change `old` into `new`: one for each group of lines that differ. Fails if an allocation
 /// fails.
 pub fn differences(alloc: Global, old: &str, new: &str) -> Result<Vec<Edit>, AllocError>
-    ensures { IfOk result (λ edits. Turns old.now (map edit_content edits.items) new.now) }
+    ensures { IfOk result (λ edits. ChangesInto old.now (map edit_content edits.items) new.now) }
 {
     let edits = guessed(alloc, old, new)?;
-    if turns(alloc, old, edits.as_slice(), new)? {
+    if changes_into(alloc, old, edits.as_slice(), new)? {
         return Ok(edits);
     }
     whole(alloc, old, new)

@@ -1,7 +1,7 @@
 //! Finds the parts of a document that an editor can fold.
 use crate::comments::comment_spans;
 use crate::document::Document;
-use crate::keys::is_spelled;
+use crate::keys::has_literal;
 use std::alloc::{AllocError, Global};
 use toml_span::value::nodes;
 use toml_span_lex::span::Span;
@@ -76,7 +76,7 @@ pub fn folds(alloc: Global, document: &Document<'_>) -> Result<Vec<Fold>, AllocE
         }
     }
     for node in nodes(alloc, &document.root)? {
-        if is_spelled(text, node.value) {
+        if has_literal(text, node.value) {
             push_fold(text, literal_span(text, node.value), false, &mut folds)?;
         }
     }

@@ -45,12 +45,12 @@ fn part(text: &str, from: usize, to: usize) -> &str {
     text.get(from..to).unwrap_or("")
 }
 
-/// Returns the name of the month with the number `digits`, from `01` to `12`. Returns an empty text for a larger
+/// Returns the name of the month with the number `digits`, from `01` to `12`. Returns an empty text for any other
 /// number, or if `digits` is not a number.
 fn month_of(digits: &str) -> &'static str {
     match digits.parse::<usize>() {
-        Ok(month) => MONTHS.get(month.saturating_sub(1)).copied().unwrap_or(""),
-        Err(_) => "",
+        Ok(month) if month > 0 => MONTHS.get(month.saturating_sub(1)).copied().unwrap_or(""),
+        _ => "",
     }
 }
 

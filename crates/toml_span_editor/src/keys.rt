@@ -73,7 +73,7 @@ pub fn definition(
 
 /// Returns whether a value is written as a literal, rather than defined by headers or dotted keys. Also returns `true`
 /// for a table made by dotted keys alone if the first value assigned through it is an inline table.
-pub(crate) fn is_spelled(text: &str, value: &Value<'_>) -> bool {
+pub(crate) fn has_literal(text: &str, value: &Value<'_>) -> bool {
     if value.as_table().is_some() {
         return text.as_bytes().get(value.span.start) == Some(&b'{');
     }

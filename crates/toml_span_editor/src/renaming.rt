@@ -3,7 +3,7 @@ ghost use Rattle.std.specs.Prelude.{IfOk, string_bytes};
 ghost use Rattle.toml_span_editor.specs.Renaming.{Renames, RenamesBy};
 
 use crate::document::Document;
-use crate::edits::{Edit, Rewritten, differences, turns};
+use crate::edits::{Edit, Rewritten, changes_into, differences};
 use crate::keys::{key_at, mentions};
 use std::alloc::{AllocError, Global};
 use toml_span::Stop;
@@ -123,7 +123,7 @@ pub fn rename(
     }
     let text = renamed(alloc, document.text, path.as_slice(), name)?;
     let edits = mention_edits(alloc, document, at, name)?;
-    if turns(alloc, document.text, edits.as_slice(), text.as_str())? {
+    if changes_into(alloc, document.text, edits.as_slice(), text.as_str())? {
         return Ok(Rewritten { edits, text });
     }
     let edits = differences(alloc, document.text, text.as_str())?;

@@ -29,21 +29,21 @@ pub(crate) fn subschemas_at(
 }
 
 /// Returns the values of `enum` and `const` in the subschemas, each once, as TOML.
-pub(crate) fn words_of(
+pub(crate) fn listed_values(
     alloc: Global,
     guide: &Guide,
     found: &Subschemas,
 ) -> Result<Vec<String>, AllocError> {
-    let mut words: Vec<String> = Vec::new(alloc);
+    let mut values: Vec<String> = Vec::new(alloc);
     for note in guide.notes_of(alloc, found)? {
         for value in &note.values {
-            let word = to_toml(alloc, value)?;
-            if !words.iter().any(|other| other.as_str() == word.as_str()) {
-                words.push(word)?;
+            let value = to_toml(alloc, value)?;
+            if !values.iter().any(|other| other.as_str() == value.as_str()) {
+                values.push(value)?;
             }
         }
     }
-    Ok(words)
+    Ok(values)
 }
 
 /// Returns the default value of the first subschema that has one, as TOML, or `None` if none has one.
@@ -74,45 +74,55 @@ pub(crate) fn is_deprecated(
     Ok(false)
 }
 
-/// Appends a paragraph, or nothing if `text` is empty or already in `out`.
-fn push_paragraph(out: &mut String, text: &str) -> Result<(), AllocError> {
-    if text.is_empty() || out.contains(text) {
-        return Ok(());
-    }
-    if !out.is_empty() {
-        out.push_str("\n\n")?;
-    }
-    out.push_str(text)
-}
-
-/// Appends the title of a schema in bold, and the description, each as a paragraph, if the schema has them.
-fn push_text(alloc: Global, note: &Notes, out: &mut String) -> Result<(), AllocError> {
-    if let Some(title) = &note.title {
-        let title = format!(in alloc; "**{title}**")?;
-        push_paragraph(out, title.as_str())?;
-    }
-    if let Some(description) = &note.description {
-        push_paragraph(out, description.as_str().trim_ascii())?;
+/// Appends a paragraph, or nothing if `text` is empty or one of the paragraphs already.
+fn push_paragraph(paragraphs: &mut Vec<String>, text: String) -> Result<(), AllocError> {
+    if !text.is_empty()
+        && !paragraphs
+            .iter()
+            .any(|other| other.as_str() == text.as_str())
+    {
+        paragraphs.push(text)?;
     }
     Ok(())
 }
 
-/// Appends a paragraph that lists the first `MOST` words. Appends nothing if `words` is empty.
-fn push_words(alloc: Global, words: &[String], out: &mut String) -> Result<(), AllocError> {
-    if words.is_empty() {
-        return Ok(());
+/// Appends the title of a schema in bold, and the description, each as a paragraph, if the schema has them.
+fn push_text(alloc: Global, note: &Notes, paragraphs: &mut Vec<String>) -> Result<(), AllocError> {
+    if let Some(title) = &note.title {
+        push_paragraph(paragraphs, format!(in alloc; "**{title}**")?)?;
     }
-    let mut line = String::from_str(alloc, "Values: ")?;
-    for (count, word) in words.iter().enumerate() {
+    if let Some(description) = &note.description {
+        let description = String::from_str(alloc, description.as_str().trim_ascii())?;
+        push_paragraph(paragraphs, description)?;
+    }
+    Ok(())
+}
+
+/// Returns a line that lists the first `MOST` values, or an empty text if there are none.
+fn values_line(alloc: Global, values: &[String]) -> Result<String, AllocError> {
+    let mut line = String::new(alloc);
+    for (count, value) in values.iter().enumerate() {
         if count >= MOST {
             line.push_str(", …")?;
             break;
         }
-        line.push_str(if count == 0 { "`" } else { ", `" })?;
-        line.push_str(word.as_str())?;
+        line.push_str(if count == 0 { "Values: `" } else { ", `" })?;
+        line.push_str(value.as_str())?;
         line.push('`')?;
     }
-    push_paragraph(out, line.as_str())
+    Ok(line)
+}
+
+/// Returns the paragraphs with a blank line between each two.
+fn joined(alloc: Global, paragraphs: &[String]) -> Result<String, AllocError> {
+    let mut out = String::new(alloc);
+    for paragraph in paragraphs {
+        if !out.is_empty() {
+            out.push_str("\n\n")?;
+        }
+        out.push_str(paragraph.as_str())?;
+    }
+    Ok(out)
 }
 
 /// Returns the documentation of a value in Markdown, from the subschemas `found` for the value: `Deprecated.` if one of
@@ -123,18 +133,17 @@ pub(crate) fn documentation(
     guide: &Guide,
     found: &Subschemas,
 ) -> Result<String, AllocError> {
-    let mut out = String::new(alloc);
+    let mut paragraphs = Vec::new(alloc);
     if is_deprecated(alloc, guide, found)? {
-        out.push_str("Deprecated.")?;
+        push_paragraph(&mut paragraphs, String::from_str(alloc, "Deprecated.")?)?;
     }
     for note in guide.notes_of(alloc, found)? {
-        push_text(alloc, note, &mut out)?;
+        push_text(alloc, note, &mut paragraphs)?;
     }
     if let Some(default) = default_of(alloc, guide, found)? {
-        let line = format!(in alloc; "Default: `{default}`")?;
-        push_paragraph(&mut out, line.as_str())?;
+        push_paragraph(&mut paragraphs, format!(in alloc; "Default: `{default}`")?)?;
     }
-    let words = words_of(alloc, guide, found)?;
-    push_words(alloc, words.as_slice(), &mut out)?;
-    Ok(out)
+    let values = listed_values(alloc, guide, found)?;
+    push_paragraph(&mut paragraphs, values_line(alloc, values.as_slice())?)?;
+    joined(alloc, paragraphs.as_slice())
 }

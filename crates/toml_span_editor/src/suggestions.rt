@@ -1,9 +1,9 @@
 //! Suggests what can be written at an offset, according to a schema.
 use crate::completion::{has_key, table_path};
-use crate::context::{Context, Segment, Spot, context_at, push_step};
+use crate::context::{Context, ExpectedText, Segment, context_at, push_step};
 use crate::document::Document;
 use crate::keys::{child, value_of};
-use crate::schemas::{default_of, documentation, is_deprecated, subschemas_at, words_of};
+use crate::schemas::{default_of, documentation, is_deprecated, listed_values, subschemas_at};
 use crate::snippets::{push_place, push_text};
 use std::alloc::{AllocError, Global};
 use toml_span::Value;
@@ -17,7 +17,7 @@ const MOST: usize = 500;
 
 /// The kind of a suggestion.
 #[derive(Clone, Copy, Debug, PartialEq, Eq)]
-pub enum Nature {
+pub enum SuggestionKind {
     Key,
     /// The name of a table, in a header.
     Table,
@@ -27,7 +27,7 @@ pub enum Nature {
 /// A key, table or value that can be written at an offset, according to a schema.
 #[derive(Debug, Drop)]
 pub struct Suggestion {
-    pub nature: Nature,
+    pub kind: SuggestionKind,
     /// The key or value as TOML.
     pub label: String,
     /// For a key or table, the kinds of its values, as in `string or table, required`. For a value, `default` if it is
@@ -49,7 +49,7 @@ pub struct Suggestion {
 /// The place for which suggestions are made.
 #[derive(Clone, Copy)]
 struct Site<'t> {
-    spot: Spot,
+    expected: ExpectedText,
     /// The span that a suggestion replaces.
     typed: Span,
     /// The text from the offset to the end of its line.
@@ -110,17 +110,21 @@ fn detail_of(alloc: Global, kinds: Kinds, is_required: bool) -> Result<String, A
     Ok(out)
 }
 
-/// Appends the brackets that close the header at `site`, except for brackets that already follow the key there. Appends
-/// nothing outside a header, or if a period follows the key.
-fn push_brackets(out: &mut String, site: Site<'_>) -> Result<(), AllocError> {
-    let needed = match site.spot {
-        Spot::Table => 1,
-        Spot::TableInArray => 2,
+/// Appends what follows a key in the header at `site`: the brackets that close the header if `ends` is set, otherwise a
+/// period. Leaves out brackets that already follow the key there. Appends nothing outside a header, or if a period
+/// follows the key.
+fn push_header_rest(out: &mut String, site: Site<'_>, ends: bool) -> Result<(), AllocError> {
+    let needed = match site.expected {
+        ExpectedText::Table => 1,
+        ExpectedText::TableInArray => 2,
         _ => 0,
     };
     let rest = after_key(site.rest).trim_ascii_start();
     if rest.starts_with('.') {
         return Ok(());
+    }
+    if !ends {
+        return out.push('.');
     }
     for at in 0..needed {
         if rest.as_bytes().get(at) != Some(&b']') {
@@ -136,32 +140,71 @@ fn element_kinds(alloc: Global, guide: &Guide, inner: &Subschemas) -> Result<Kin
     Ok(guide.kinds_of(&elements))
 }
 
-/// Returns whether a key can be written at `spot`. `inner` are the subschemas for the value of the key. In a header,
-/// they must allow a table or, in double brackets, an array of tables.
-fn is_possible(
+/// Returns whether the key of a value can be written as a whole key or at the end of a header. `inner` are the
+/// subschemas for the value. In a header, they must allow a table or, in double brackets, an array of tables.
+fn can_end(
     alloc: Global,
     guide: &Guide,
     inner: &Subschemas,
-    spot: Spot,
+    expected: ExpectedText,
 ) -> Result<bool, AllocError> {
     let kinds = guide.kinds_of(inner);
-    match spot {
-        Spot::Table => Ok(kinds.table),
-        Spot::TableInArray => Ok(kinds.array && element_kinds(alloc, guide, inner)?.table),
+    match expected {
+        ExpectedText::Table => Ok(kinds.table),
+        ExpectedText::TableInArray => Ok(kinds.array && element_kinds(alloc, guide, inner)?.table),
         _ => Ok(true),
     }
 }
 
-/// Returns the nature of a key that is suggested at a spot.
-fn nature_of(spot: Spot) -> Nature {
-    if spot == Spot::Key {
-        Nature::Key
-    } else {
-        Nature::Table
+/// Returns whether a schema names a key of a table whose value can be a table or an array of tables. `table` are the
+/// subschemas for the table.
+fn has_tables(alloc: Global, guide: &Guide, table: &Subschemas) -> Result<bool, AllocError> {
+    for name in guide.keys_of(alloc, table)? {
+        let inner = guide.subschemas_inside(alloc, table, Step::Key(name), None)?;
+        let kinds = guide.kinds_of(&inner);
+        if kinds.table || (kinds.array && element_kinds(alloc, guide, &inner)?.table) {
+            return Ok(true);
+        }
+    }
+    Ok(false)
+}
+
+/// Returns whether a longer header can lead through a value at whose key a header can't end. `inner` are the subschemas
+/// for the value, and `value` is the value if it exists. A header in double brackets can lead through a table, and one
+/// in single brackets through the last element of an array in the document.
+fn can_go_on(
+    alloc: Global,
+    guide: &Guide,
+    inner: &Subschemas,
+    value: Option<&Value<'_>>,
+    expected: ExpectedText,
+) -> Result<bool, AllocError> {
+    match expected {
+        ExpectedText::TableInArray => has_tables(alloc, guide, inner),
+        ExpectedText::Table => match value.and_then(|value| value.as_array()) {
+            Some(array) => {
+                let last = array.len().saturating_sub(1);
+                let step = Step::Position(last);
+                let element = guide.subschemas_inside(alloc, inner, step, array.get(last))?;
+                has_tables(alloc, guide, &element)
+            }
+            None => Ok(false),
+        },
+        _ => Ok(false),
     }
 }
 
-/// Returns the suggestion of the key `name`. `inner` are the subschemas for the value of the key.
+/// Returns the kind of the suggestion of a key.
+fn key_kind(expected: ExpectedText) -> SuggestionKind {
+    if expected == ExpectedText::Key {
+        SuggestionKind::Key
+    } else {
+        SuggestionKind::Table
+    }
+}
+
+/// Returns the suggestion of the key `name`. `inner` are the subschemas for the value of the key. `ends` says whether a
+/// header can end after the key. If it can't, the text of the suggestion ends with a period.
 fn key_suggestion(
     alloc: Global,
     guide: &Guide,
@@ -169,25 +212,26 @@ fn key_suggestion(
     site: Site<'_>,
     name: &str,
     is_required: bool,
+    ends: bool,
 ) -> Result<Suggestion, AllocError> {
     let kinds = guide.kinds_of(inner);
     let mut text = quote_key(alloc, name)?;
     let label = text.clone()?;
     let mut snippet = None;
-    if site.spot != Spot::Key {
-        push_brackets(&mut text, site)?;
+    if site.expected != ExpectedText::Key {
+        push_header_rest(&mut text, site, ends)?;
     } else if !is_assigned(site.rest) {
         text.push_str(" = ")?;
         snippet = Some(snippet_of(
             alloc,
             text.as_str(),
             kinds,
-            words_of(alloc, guide, inner)?,
+            listed_values(alloc, guide, inner)?,
             default_of(alloc, guide, inner)?,
         )?);
     }
     Ok(Suggestion {
-        nature: nature_of(site.spot),
+        kind: key_kind(site.expected),
         label,
         detail: detail_of(alloc, kinds, is_required)?,
         documentation: documentation(alloc, guide, inner)?,
@@ -204,12 +248,12 @@ fn snippet_of(
     alloc: Global,
     front: &str,
     kinds: Kinds,
-    words: Vec<String>,
+    values: Vec<String>,
     default: Option<String>,
 ) -> Result<String, AllocError> {
     let mut borrowed = Vec::new(alloc);
-    for word in &words {
-        borrowed.push(word.as_str())?;
+    for value in &values {
+        borrowed.push(value.as_str())?;
     }
     let mut out = String::new(alloc);
     push_text(&mut out, front)?;
@@ -219,8 +263,8 @@ fn snippet_of(
 }
 
 /// Returns at most `MOST` suggestions of keys for a table. `outer` are the subschemas for the table, and `own` is the
-/// table if it can be read. Leaves out keys that are not possible (see `is_possible`) and, for an assignment, keys of
-/// `own` and keys in `written`.
+/// table if it can be read. Leaves out keys that are not possible in a header (see `can_end` and `can_go_on`) and, for
+/// an assignment, keys of `own` and keys in `written`.
 fn key_suggestions(
     alloc: Global,
     guide: &Guide,
@@ -232,41 +276,42 @@ fn key_suggestions(
     let mut found = Vec::new(alloc);
     for name in guide.keys_of(alloc, outer)? {
         let is_written = has_key(own, name) || written.iter().any(|other| other.as_str() == name);
-        let is_new = site.spot != Spot::Key || !is_written;
+        let is_new = site.expected != ExpectedText::Key || !is_written;
         if is_new && found.len() < MOST {
             let step = Step::Key(name);
             let value = own.and_then(|own| child(own, step));
             let inner = guide.subschemas_inside(alloc, outer, step, value)?;
-            if is_possible(alloc, guide, &inner, site.spot)? {
+            let ends = can_end(alloc, guide, &inner, site.expected)?;
+            if ends || can_go_on(alloc, guide, &inner, value, site.expected)? {
                 let is_required = guide.is_required(outer, name);
-                found.push(key_suggestion(alloc, guide, &inner, site, name, is_required)?)?;
+                found.push(key_suggestion(alloc, guide, &inner, site, name, is_required, ends)?)?;
             }
         }
     }
     Ok(found)
 }
 
-/// Appends the suggestion of the value `word`. Appends nothing if `word` is suggested already, or if there are `MOST`
-/// suggestions.
+/// Appends the suggestion of the value `literal`. Appends nothing if `literal` is suggested already, or if there are
+/// `MOST` suggestions.
 fn push_value(
     alloc: Global,
     found: &mut Vec<Suggestion>,
     site: Site<'_>,
-    word: &str,
+    literal: &str,
     detail: &str,
 ) -> Result<(), AllocError> {
-    if found.len() >= MOST || found.iter().any(|other| other.label.as_str() == word) {
+    if found.len() >= MOST || found.iter().any(|other| other.label.as_str() == literal) {
         return Ok(());
     }
     found.push(Suggestion {
-        nature: Nature::Value,
-        label: String::from_str(alloc, word)?,
+        kind: SuggestionKind::Value,
+        label: String::from_str(alloc, literal)?,
         detail: String::from_str(alloc, detail)?,
         documentation: String::new(alloc),
         is_required: false,
         is_deprecated: false,
         span: site.typed,
-        text: String::from_str(alloc, word)?,
+        text: String::from_str(alloc, literal)?,
         snippet: None,
     })?;
     Ok(())
@@ -286,8 +331,8 @@ fn value_suggestions(
     if let Some(default) = default_of(alloc, guide, inner)? {
         push_value(alloc, &mut found, site, default.as_str(), "default")?;
     }
-    for word in &words_of(alloc, guide, inner)? {
-        push_value(alloc, &mut found, site, word.as_str(), "")?;
+    for value in &listed_values(alloc, guide, inner)? {
+        push_value(alloc, &mut found, site, value.as_str(), "")?;
     }
     if kinds.boolean {
         push_value(alloc, &mut found, site, "true", "")?;
@@ -331,7 +376,10 @@ fn steps_of<'p>(
     context: &'p Context,
 ) -> Result<Vec<Step<'p>>, AllocError> {
     let segments = context.path.as_slice();
-    if matches!(context.spot, Spot::Table | Spot::TableInArray) {
+    if matches!(
+        context.expected,
+        ExpectedText::Table | ExpectedText::TableInArray
+    ) {
         return header_steps(alloc, &document.root, segments);
     }
     let mut steps = table_path(alloc, document, at)?;
@@ -354,18 +402,18 @@ pub fn suggestions(
     at: usize,
 ) -> Result<Option<Vec<Suggestion>>, AllocError> {
     let context = context_at(alloc, text, at)?;
-    if context.spot == Spot::Other {
+    if context.expected == ExpectedText::Other {
         return Ok(Some(Vec::new(alloc)));
     }
     let steps = steps_of(alloc, document, at, &context)?;
     let steps = steps.as_slice();
     let found = subschemas_at(alloc, guide, &document.root, steps)?;
     let site = Site {
-        spot: context.spot,
+        expected: context.expected,
         typed: context.typed,
         rest: rest_of_line(text, at),
     };
-    if context.spot == Spot::Value {
+    if context.expected == ExpectedText::Value {
         return value_suggestions(alloc, guide, &found, site);
     }
     let own = value_of(&document.root, steps);

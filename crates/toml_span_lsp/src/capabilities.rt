@@ -93,7 +93,7 @@ fn root_of(alloc: Global, params: &Value<'_>) -> Result<String, AllocError> {
 }
 
 /// Stores in `state` the capabilities, the folder and the settings of the client, from the parameters of `initialize`.
-pub(crate) fn learn(
+pub(crate) fn store_client(
     alloc: Global,
     state: &mut State,
     params: &Value<'_>,
@@ -107,9 +107,9 @@ pub(crate) fn learn(
     state.root = root_of(alloc, params)?;
     match params.get("initializationOptions") {
         Some(options) => {
-            let given = settings_in(alloc, state, options)?;
-            state.initial = given.clone()?;
-            use_settings(alloc, state, given);
+            let settings = settings_in(alloc, state, options)?;
+            state.initial = settings.clone()?;
+            use_settings(alloc, state, settings);
             Ok(())
         }
         None => Ok(()),

@@ -2,7 +2,7 @@
 use crate::incoming::Id;
 use crate::outgoing::{finished, request, text};
 use crate::publish::publish;
-use crate::settings::{Given, read_settings};
+use crate::settings::{AllSettings, read_settings};
 use crate::state::State;
 use json::Value;
 use std::alloc::{AllocError, Global};
@@ -61,19 +61,19 @@ pub(crate) fn settings_in(
     alloc: Global,
     state: &mut State,
     value: &Value<'_>,
-) -> Result<Given, AllocError> {
+) -> Result<AllSettings, AllocError> {
     let read = read_settings(alloc, state.root.as_str(), value)?;
     if !read.faults.is_empty() {
         state.notices.push_str(read.faults.as_str())?;
         state.notices.push_str("\n")?;
     }
-    Ok(read.given)
+    Ok(read.all)
 }
 
 /// Replaces the settings in `state`, and `state.lookup` with a `Lookup` that has read no schemas.
-pub(crate) fn use_settings(alloc: Global, state: &mut State, given: Given) {
-    state.settings = given.settings;
-    state.lookup = Lookup::new(alloc, given.options);
+pub(crate) fn use_settings(alloc: Global, state: &mut State, settings: AllSettings) {
+    state.settings = settings.settings;
+    state.lookup = Lookup::new(alloc, settings.options);
 }
 
 /// Returns `value`, or `None` if it is missing, null or an empty object.
@@ -97,13 +97,13 @@ fn change_settings<D: Disk>(
     out: &mut Vec<Vec<u8>>,
 ) -> Result<(), AllocError> {
     let value = not_empty(value);
-    let given = match value {
+    let settings = match value {
         Some(value) => settings_in(alloc, state, value)?,
         None if state.has_later_settings => state.initial.clone()?,
         None => return Ok(()),
     };
     state.has_later_settings = value.is_some();
-    use_settings(alloc, state, given);
+    use_settings(alloc, state, settings);
     let mut uris = Vec::new(alloc);
     for (uri, open) in state.documents.iter() {
         state

@@ -1,16 +1,15 @@
 //! Writes answers that are edits: renames and formatting.
-use crate::incoming::{range_of, text_in};
+use crate::actions::span_of;
+use crate::incoming::text_in;
 use crate::outgoing::{range, text, write_edits, write_workspace_edit};
 use crate::refusal::{INVALID_PARAMS, REQUEST_FAILED, Refusal, refused};
 use json::{Value, Writer};
 use std::alloc::{AllocError, Global};
 use toml_span_editor::document::read;
 use toml_span_editor::formatting::{formatting, formatting_of};
-use toml_span_editor::positions::offset_at;
 use toml_span_editor::renaming::{renamable_at, rename};
 use toml_span_editor::table::PositionTable;
 use toml_span_format::Options;
-use toml_span_lex::span::Span;
 use toml_span_lex::stop::Stop;
 
 /// Writes the edits that rename the key at the offset `at` to the `newName` in `params`. Fails with a `Refusal` if
@@ -24,11 +23,11 @@ pub(crate) fn write_rename(
     params: &Value<'_>,
 ) -> Result<(), Stop<Refusal>> {
     let Some(name) = text_in(params, &["newName"]) else {
-        return Err(refused(alloc, INVALID_PARAMS, "`newName` must be a text"));
+        return Err(refused(alloc, INVALID_PARAMS, "`newName` must be a string"));
     };
     let Some(document) = read(alloc, table.text)? else {
-        let words = "the document has errors: correct them first";
-        return Err(refused(alloc, REQUEST_FAILED, words));
+        let message = "the document has errors: correct them first";
+        return Err(refused(alloc, REQUEST_FAILED, message));
     };
     match rename(alloc, &document, at, name) {
         Ok(made) => Ok(write_workspace_edit(out, uri, table, made.edits.as_slice())?),
@@ -83,15 +82,9 @@ pub(crate) fn write_formatting(
     params: &Value<'_>,
 ) -> Result<(), AllocError> {
     let options = options_of(width, params);
-    let made = match params.get("range").and_then(|range| range_of(range)) {
+    let made = match span_of(table, params) {
         None => formatting(alloc, table.text, options)?,
-        Some(range) => {
-            let span = Span {
-                start: offset_at(table.encoding, table.text, range.start),
-                end: offset_at(table.encoding, table.text, range.end),
-            };
-            formatting_of(alloc, table.text, options, span)?
-        }
+        Some(span) => formatting_of(alloc, table.text, options, span)?,
     };
     match made {
         Some(made) => write_edits(out, table, made.edits.as_slice()),

@@ -92,22 +92,22 @@ pub(crate) fn request(alloc: Global, id: &str, method: &str) -> Result<Writer, A
     Ok(out)
 }
 
-/// Returns the notification that shows the warning `words` to the user.
-pub(crate) fn show_message(alloc: Global, words: &str) -> Result<Vec<u8>, AllocError> {
+/// Returns the notification that shows the warning `message` to the user.
+pub(crate) fn show_message(alloc: Global, message: &str) -> Result<Vec<u8>, AllocError> {
     let mut out = notification(alloc, "window/showMessage")?;
     out.begin_object()?;
     number(&mut out, "type", 2)?;
-    text(&mut out, "message", words)?;
+    text(&mut out, "message", message)?;
     out.end_object()?;
     finished(out)
 }
 
-/// Returns the notification that adds the warning `words` to the client's log.
-pub(crate) fn log_message(alloc: Global, words: &str) -> Result<Vec<u8>, AllocError> {
+/// Returns the notification that adds the warning `message` to the client's log.
+pub(crate) fn log_message(alloc: Global, message: &str) -> Result<Vec<u8>, AllocError> {
     let mut out = notification(alloc, "window/logMessage")?;
     out.begin_object()?;
     number(&mut out, "type", 2)?;
-    text(&mut out, "message", words)?;
+    text(&mut out, "message", message)?;
     out.end_object()?;
     finished(out)
 }

@@ -23,7 +23,7 @@ use toml_span_schema::Guide;
 
 /// The client's capabilities and settings that answers depend on.
 #[derive(Clone, Copy)]
-struct Wishes {
+struct AnswerOptions {
     /// Whether the client supports snippets.
     has_snippets: bool,
     /// The maximum number of columns of an array on one line, or `None` if the client has not set one.
@@ -64,7 +64,11 @@ fn write_selections(
     out.begin_array()?;
     for position in positions {
         let Some(position) = position_of(position) else {
-            return Err(refused(alloc, INVALID_PARAMS, "`positions` must have positions"));
+            return Err(refused(
+                alloc,
+                INVALID_PARAMS,
+                "each of `positions` must have a `line` and a `character`",
+            ));
         };
         let at = offset_at(table.encoding, table.text, position);
         write_selection(alloc, out, table, document, at)?;
@@ -89,7 +93,7 @@ fn write_at(
     table: &PositionTable<'_>,
     document: &Document<'_>,
     guide: Option<&Guide>,
-    wishes: Wishes,
+    options: AnswerOptions,
     params: &Value<'_>,
 ) -> Result<(), Stop<Refusal>> {
     let at = offset_of(alloc, table, params)?;
@@ -102,7 +106,7 @@ fn write_at(
         Method::Definition => write_definition(alloc, out, uri, table, document, at)?,
         Method::Hover => write_hover(alloc, out, table, document, guide, at)?,
         _ => {
-            let has_snippets = wishes.has_snippets;
+            let has_snippets = options.has_snippets;
             write_completion(alloc, out, table, document, guide, has_snippets, at)?;
         }
     }
@@ -118,7 +122,7 @@ fn write_of(
     table: &PositionTable<'_>,
     document: &Document<'_>,
     guide: Option<&Guide>,
-    wishes: Wishes,
+    options: AnswerOptions,
     params: &Value<'_>,
 ) -> Result<(), Stop<Refusal>> {
     match method {
@@ -127,7 +131,7 @@ fn write_of(
         Method::Tokens => write_tokens(alloc, out, table, document)?,
         Method::Selections => return write_selections(alloc, out, table, document, params),
         _ => return write_at(
-            alloc, method, out, uri, table, document, guide, wishes, params,
+            alloc, method, out, uri, table, document, guide, options, params,
         ),
     }
     Ok(())
@@ -142,12 +146,12 @@ fn write_readable(
     uri: &str,
     table: &PositionTable<'_>,
     guide: Option<&Guide>,
-    wishes: Wishes,
+    options: AnswerOptions,
     params: &Value<'_>,
 ) -> Result<(), Stop<Refusal>> {
     if let Some(document) = read(alloc, table.text)? {
         return write_of(
-            alloc, method, out, uri, table, &document, guide, wishes, params,
+            alloc, method, out, uri, table, &document, guide, options, params,
         );
     }
     let Some(kept) = readable(alloc, table.text)? else {
@@ -155,7 +159,7 @@ fn write_readable(
     };
     match read(alloc, kept.as_ref())? {
         Some(document) => write_of(
-            alloc, method, out, uri, table, &document, guide, wishes, params,
+            alloc, method, out, uri, table, &document, guide, options, params,
         ),
         None => Ok(out.null()?),
     }
@@ -193,12 +197,12 @@ fn write_answer(
     uri: &str,
     table: &PositionTable<'_>,
     guide: Option<&Guide>,
-    wishes: Wishes,
+    options: AnswerOptions,
     params: &Value<'_>,
 ) -> Result<(), Stop<Refusal>> {
     match method {
         Method::Format | Method::FormatRange => {
-            Ok(write_formatting(alloc, out, table, wishes.width, params)?)
+            Ok(write_formatting(alloc, out, table, options.width, params)?)
         }
         Method::Rename => {
             let at = offset_of(alloc, table, params)?;
@@ -208,7 +212,7 @@ fn write_answer(
             let at = offset_of(alloc, table, params)?;
             Ok(write_renamable(alloc, out, table, at)?)
         }
-        _ => write_readable(alloc, method, out, uri, table, guide, wishes, params),
+        _ => write_readable(alloc, method, out, uri, table, guide, options, params),
     }
 }
 
@@ -241,9 +245,9 @@ pub(crate) fn write_result(
         return write_actions_of(alloc, out, uri, &table, version, name, lookup, params);
     }
     let guide = state.lookup.guide_of(alloc, name, open.text.as_str())?;
-    let wishes = Wishes {
+    let options = AnswerOptions {
         has_snippets: state.client.has_snippets,
         width: settings.width,
     };
-    write_answer(alloc, method, out, uri, &table, guide, wishes, params)
+    write_answer(alloc, method, out, uri, &table, guide, options, params)
 }

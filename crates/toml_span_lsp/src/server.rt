@@ -26,8 +26,8 @@ pub struct Ended {
 /// Returns the reason why a frame can't be read.
 fn reason_of(fault: FrameFault) -> &'static str {
     match fault {
-        FrameFault::Headers => "the input has no headers of messages",
-        FrameFault::Length => "a message has no header `Content-Length` with a number",
+        FrameFault::Headers => "the input does not begin with message headers",
+        FrameFault::Length => "no valid `Content-Length` header",
         FrameFault::TooLong => "a message is longer than 64 MiB",
     }
 }

@@ -24,16 +24,16 @@ impl Settings {
 
 /// All settings of a client.
 #[derive(Clone, Drop)]
-pub(crate) struct Given {
+pub(crate) struct AllSettings {
     pub settings: Settings,
     /// The settings about schemas.
     pub options: Options,
 }
 
-impl Given {
+impl AllSettings {
     /// Returns the settings of a client that has set none.
-    pub(crate) fn usual(alloc: Global) -> Given {
-        Given {
+    pub(crate) fn usual(alloc: Global) -> AllSettings {
+        AllSettings {
             settings: Settings::USUAL,
             options: Options::new(alloc, Place::Settings),
         }
@@ -42,22 +42,22 @@ impl Given {
 
 /// The settings of a client, and what is wrong with them.
 #[derive(Drop)]
-pub(crate) struct Read {
-    pub given: Given,
-    /// A sentence about the settings that have a wrong value, or an empty text. These settings are not used, except for
+pub(crate) struct ReadSettings {
+    pub all: AllSettings,
+    /// A line about the settings that have a wrong value, or an empty text. These settings are not used, except for
     /// the copies that `read_copies` keeps.
     pub faults: String,
 }
 
-/// Appends `words`, which say what value a setting must have, to the sentence about wrong settings.
-fn push_fault(faults: &mut String, words: &str) -> Result<(), AllocError> {
+/// Appends `fault`, which says what value a setting must have, to the line about invalid settings.
+fn push_fault(faults: &mut String, fault: &str) -> Result<(), AllocError> {
     let front = if faults.is_empty() {
-        "wrong settings are not used: "
+        "ignoring invalid settings: "
     } else {
         "; "
     };
     faults.push_str(front)?;
-    faults.push_str(words)
+    faults.push_str(fault)
 }
 
 /// Returns the value of the setting `name`, or `None` if the value is missing or null.
@@ -69,13 +69,13 @@ fn set_in<'v, 'j>(value: &'v Value<'j>, name: &str) -> Option<&'v Value<'j>> {
 }
 
 /// Reads the setting `width`, an integer from 0 to 65535. Adds a fault if the value is wrong.
-fn read_width(value: &Value<'_>, read: &mut Read) -> Result<(), AllocError> {
+fn read_width(value: &Value<'_>, read: &mut ReadSettings) -> Result<(), AllocError> {
     let Some(width) = set_in(value, "width") else {
         return Ok(());
     };
     match width.as_u64() {
         Some(width) if width <= 65_535 => {
-            read.given.settings.width = Some(width as usize);
+            read.all.settings.width = Some(width as usize);
             Ok(())
         }
         _ => push_fault(
@@ -96,13 +96,13 @@ fn version_named(name: &str) -> Option<Version> {
 }
 
 /// Reads the setting `toml`, a version of TOML. Adds a fault if the value is wrong.
-fn read_version(value: &Value<'_>, read: &mut Read) -> Result<(), AllocError> {
+fn read_version(value: &Value<'_>, read: &mut ReadSettings) -> Result<(), AllocError> {
     let Some(version) = set_in(value, "toml") else {
         return Ok(());
     };
     match version.as_str().and_then(|name| version_named(name)) {
         Some(version) => {
-            read.given.settings.version = version;
+            read.all.settings.version = version;
             Ok(())
         }
         None => push_fault(
@@ -113,11 +113,11 @@ fn read_version(value: &Value<'_>, read: &mut Read) -> Result<(), AllocError> {
 }
 
 /// Reads the setting `formats`, which says whether the keyword `format` is checked. Adds a fault if the value is wrong.
-fn read_formats(value: &Value<'_>, read: &mut Read) -> Result<(), AllocError> {
+fn read_formats(value: &Value<'_>, read: &mut ReadSettings) -> Result<(), AllocError> {
     match set_in(value, "formats") {
         None => Ok(()),
         Some(Value::Bool(has_formats)) => {
-            read.given.options.has_formats = *has_formats;
+            read.all.options.has_formats = *has_formats;
             Ok(())
         }
         Some(_) => push_fault(&mut read.faults, "`formats` must be true or false"),
@@ -139,12 +139,12 @@ fn read_paths(
     alloc: Global,
     root: &str,
     value: &Value<'_>,
-    read: &mut Read,
+    read: &mut ReadSettings,
 ) -> Result<(), AllocError> {
     match set_in(value, "schema") {
         None => {}
         Some(Value::String(schema)) => {
-            read.given.options.schema = address_in(alloc, root, *schema)?;
+            read.all.options.schema = address_in(alloc, root, *schema)?;
         }
         Some(_) => push_fault(&mut read.faults, "`schema` must be a path or a URL")?,
     }
@@ -152,7 +152,7 @@ fn read_paths(
         None => Ok(()),
         Some(Value::String("")) => Ok(()),
         Some(Value::String(catalog)) => {
-            read.given.options.catalog = rooted(alloc, root, *catalog)?;
+            read.all.options.catalog = rooted(alloc, root, *catalog)?;
             Ok(())
         }
         Some(_) => push_fault(&mut read.faults, "`catalog` must be a path"),
@@ -166,9 +166,9 @@ fn read_copies(
     alloc: Global,
     root: &str,
     value: &Value<'_>,
-    read: &mut Read,
+    read: &mut ReadSettings,
 ) -> Result<(), AllocError> {
-    let fault = "`schemaMap` must be an object of paths by URLs";
+    let fault = "`schemaMap` must be an object that maps URLs to paths";
     let members = match set_in(value, "schemaMap") {
         None => return Ok(()),
         Some(Value::Object(members)) => members,
@@ -178,7 +178,7 @@ fn read_copies(
         let Some(path) = member.1.as_str() else {
             return push_fault(&mut read.faults, fault);
         };
-        read.given.options.copies.push(LocalCopy {
+        read.all.options.copies.push(LocalCopy {
             address: String::from_str(alloc, member.0)?,
             path: rooted(alloc, root, path)?,
         })?;
@@ -192,9 +192,9 @@ pub(crate) fn read_settings(
     alloc: Global,
     root: &str,
     value: &Value<'_>,
-) -> Result<Read, AllocError> {
-    let mut read = Read {
-        given: Given::usual(alloc),
+) -> Result<ReadSettings, AllocError> {
+    let mut read = ReadSettings {
+        all: AllSettings::usual(alloc),
         faults: String::new(alloc),
     };
     match value {

@@ -1,7 +1,7 @@
 //! The state of the server between messages.
 ghost use Rattle.std.specs.Prelude.{◌≤◌, IfSome};
 
-use crate::settings::{Given, Settings};
+use crate::settings::{AllSettings, Settings};
 use std::alloc::Global;
 use std::collections::BTreeMap;
 use toml_span_editor::positions::Encoding;
@@ -16,8 +16,8 @@ pub(crate) enum Phase {
     Running,
     /// After `shutdown`.
     Shut,
-    /// After `exit`. `is_right` says whether `shutdown` came before `exit`.
-    Ended { is_right: bool },
+    /// After `exit`. `after_shutdown` says whether `shutdown` came before `exit`.
+    Ended { after_shutdown: bool },
 }
 
 /// The capabilities of the client.
@@ -69,7 +69,7 @@ pub struct State {
     pub(crate) settings: Settings,
     pub(crate) lookup: Lookup,
     /// The settings of `initializationOptions`.
-    pub(crate) initial: Given,
+    pub(crate) initial: AllSettings,
     /// Whether the current settings are not those of `initializationOptions`, but came later.
     pub(crate) has_later_settings: bool,
     /// Lines to show to the user, each with a line end.
@@ -87,8 +87,8 @@ impl State {
             client: Client::PLAIN,
             root: String::new(alloc),
             settings: Settings::USUAL,
-            lookup: Lookup::new(alloc, Given::usual(alloc).options),
-            initial: Given::usual(alloc),
+            lookup: Lookup::new(alloc, AllSettings::usual(alloc).options),
+            initial: AllSettings::usual(alloc),
             has_later_settings: false,
             notices: String::new(alloc),
             documents: BTreeMap::new(alloc),
@@ -100,8 +100,12 @@ impl State {
         ensures { IfSome result (λ status. status ≤ 1) }
     {
         match self.phase {
-            Phase::Ended { is_right: true } => Some(0),
-            Phase::Ended { is_right: false } => Some(1),
+            Phase::Ended {
+                after_shutdown: true,
+            } => Some(0),
+            Phase::Ended {
+                after_shutdown: false,
+            } => Some(1),
             _ => None,
         }
     }

@@ -1,5 +1,5 @@
 //! One step of the server: takes a message, and returns the messages to send.
-use crate::capabilities::{learn, write_capabilities};
+use crate::capabilities::{store_client, write_capabilities};
 use crate::configuration::{initialized, settings_came, settings_changed};
 use crate::incoming::{Call, Id, Message, message_of};
 use crate::methods::method_named;
@@ -43,7 +43,7 @@ fn write_phased(
 ) -> Result<(), Stop<Refusal>> {
     match (state.phase, call.method) {
         (Phase::New, "initialize") => {
-            learn(alloc, state, call.params)?;
+            store_client(alloc, state, call.params)?;
             write_capabilities(out, state.encoding)?;
             state.phase = Phase::Running;
             Ok(())
@@ -87,11 +87,15 @@ fn note<D: Disk>(
 ) -> Result<(), AllocError> {
     match (state.phase, call.method) {
         (Phase::Shut, "exit") => {
-            state.phase = Phase::Ended { is_right: true };
+            state.phase = Phase::Ended {
+                after_shutdown: true,
+            };
             Ok(())
         }
         (_, "exit") => {
-            state.phase = Phase::Ended { is_right: false };
+            state.phase = Phase::Ended {
+                after_shutdown: false,
+            };
             Ok(())
         }
         (Phase::Running, "initialized") => initialized(alloc, state, out),
@@ -148,8 +152,8 @@ fn push_notices(
     let notices = mem::replace(&mut state.notices, String::new(alloc));
     for line in notices.as_str().split('\n') {
         if !line.is_empty() {
-            let words = line.strip_prefix("error: ").unwrap_or(line);
-            out.push(show_message(alloc, words)?)?;
+            let message = line.strip_prefix("error: ").unwrap_or(line);
+            out.push(show_message(alloc, message)?)?;
         }
     }
     Ok(())

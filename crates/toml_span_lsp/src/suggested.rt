@@ -2,15 +2,15 @@
 use crate::outgoing::{flag, number, range, text};
 use json::Writer;
 use std::alloc::{AllocError, Global};
-use toml_span_editor::suggestions::{Nature, Suggestion};
+use toml_span_editor::suggestions::{Suggestion, SuggestionKind};
 use toml_span_editor::table::PositionTable;
 
 /// Returns the number for the kind of a suggestion (LSP 3.17, CompletionItemKind).
-fn kind_of(nature: Nature) -> usize {
-    match nature {
-        Nature::Key => 10,
-        Nature::Table => 22,
-        Nature::Value => 20,
+fn kind_of(kind: SuggestionKind) -> usize {
+    match kind {
+        SuggestionKind::Key => 10,
+        SuggestionKind::Table => 22,
+        SuggestionKind::Value => 20,
     }
 }
 
@@ -68,7 +68,7 @@ fn write_suggestion(
 ) -> Result<(), AllocError> {
     out.begin_object()?;
     text(out, "label", suggestion.label.as_str())?;
-    number(out, "kind", kind_of(suggestion.nature))?;
+    number(out, "kind", kind_of(suggestion.kind))?;
     if !suggestion.detail.is_empty() {
         text(out, "detail", suggestion.detail.as_str())?;
     }

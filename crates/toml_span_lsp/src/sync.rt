@@ -54,7 +54,7 @@ fn read_schema<D: Disk>(
 
 /// Reads the schema of the open document `uri`, as `read_schema` does. Then appends the notification with the
 /// document's diagnostics, as `publish` does.
-fn judge<D: Disk>(
+fn check_and_publish<D: Disk>(
     alloc: Global,
     state: &mut State,
     disk: &mut D,
@@ -90,7 +90,7 @@ pub(crate) fn open<D: Disk>(
         String::from_str(alloc, text)?,
         version_of(params),
     )?;
-    judge(alloc, state, disk, uri, out)
+    check_and_publish(alloc, state, disk, uri, out)
 }
 
 /// Returns the range of a change, or `None` if the change replaces the whole text. Fails if the range is not valid.
@@ -156,8 +156,8 @@ pub(crate) fn change(
     };
     let new = new_text(alloc, state, uri, params)?;
     let (Some(open), Some(text)) = (state.documents.get_mut(uri), new) else {
-        let words = "didChange: the document is not open, or a change is not valid";
-        out.push(log_message(alloc, words)?)?;
+        let message = "didChange: the document is not open, or a change is not valid";
+        out.push(log_message(alloc, message)?)?;
         return Ok(());
     };
     open.text = text;
@@ -175,7 +175,7 @@ pub(crate) fn save<D: Disk>(
     out: &mut Vec<Vec<u8>>,
 ) -> Result<(), AllocError> {
     match text_in(params, &["textDocument", "uri"]) {
-        Some(uri) => judge(alloc, state, disk, uri, out),
+        Some(uri) => check_and_publish(alloc, state, disk, uri, out),
         None => Ok(()),
     }
 }

@@ -1,6 +1,6 @@
 //! `cuts`: for each character of a text, parses the text before it. Each result must be a tree, or an error that begins
 //! in this part of the text or at its end.
-use crate::told::Out;
+use crate::output::Out;
 use std::alloc::Global;
 use toml_span::{line_and_byte, parse};
 
@@ -14,7 +14,7 @@ fn is_right(alloc: Global, text: &str, out: &mut Out) -> bool {
             is_whole
         }
         Err(stop) => {
-            let Some(fault) = out.kept(stop.fault()) else {
+            let Some(fault) = out.ok(stop.fault()) else {
                 return false;
             };
             let (span, line_info) = (fault.span, fault.line_info);
@@ -34,10 +34,10 @@ pub fn push_cuts(alloc: Global, text: &str, out: &mut Out) {
             continue;
         };
         if !is_right(alloc, front, out) {
-            return out.told(front);
+            return out.debug(front);
         }
         count = count.saturating_add(1);
     }
-    out.told(count);
+    out.debug(count);
     out.push_str(" right");
 }

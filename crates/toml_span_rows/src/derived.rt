@@ -7,7 +7,7 @@
 //!
 //! If an allocation fails, `settings`, `device`, `tagged` and `attributes` read the document once more.
 use crate::Row;
-use crate::told::Out;
+use crate::output::Out;
 use device::{Attributes, Device, Tagged};
 use serde::Deserialize;
 use settings::{Settings, shown};
@@ -71,13 +71,13 @@ fn push_answer<T: Debug + Drop>(
     out: &mut Out,
 ) -> bool {
     match read {
-        Ok(value) => out.told(value),
+        Ok(value) => out.debug(value),
         Err(Stop::Fault(error)) => {
             push_error(alloc, &error, out);
             drop(error);
         }
         Err(Stop::Memory(refused)) => {
-            out.told_line(refused);
+            out.debug_line(refused);
             return false;
         }
     }
@@ -86,16 +86,16 @@ fn push_answer<T: Debug + Drop>(
 
 /// Prints an error: the code, the span, the line and column, and the message.
 fn push_error(alloc: Global, error: &Error<'_>, out: &mut Out) {
-    if let Some(shown) = out.kept(error.to_diagnostic(alloc, ())) {
-        out.push_str(shown.code.as_str());
+    if let Some(diagnostic) = out.ok(error.to_diagnostic(alloc, ())) {
+        out.push_str(diagnostic.code.as_str());
     }
     out.push_str(" ");
     out.span(error.span());
     let (line, column) = error.line_info().unwrap_or((0, 0));
     out.push_str(" ");
-    out.told(line);
+    out.debug(line);
     out.push_str(":");
-    out.told(column);
+    out.debug(column);
     out.push_str(" ");
-    out.shown(error);
+    out.display(error);
 }

@@ -6,8 +6,8 @@
 //! - `copied` of a text or of a typed read: clones of the error's kind and of the error, and the diagnostic, each made
 //!   twice, and then the error.
 use crate::Row;
-use crate::told::Out;
-use crate::trees::shown::push_stand;
+use crate::output::Out;
+use crate::trees::shown::push_error_head;
 use std::alloc::Global;
 use std::borrow::CowStr;
 use toml_span::{Error, ErrorKind, Span};
@@ -17,17 +17,17 @@ const FILE: u8 = 7;
 
 /// Prints an error: the code, the span, the line and column, the message, and the diagnostic.
 fn push_error(alloc: Global, error: &Error<'_>, out: &mut Out) {
-    push_stand(error, out);
+    push_error_head(error, out);
     out.push_str(" ");
-    out.shown(error);
+    out.display(error);
     out.push_str("\n");
-    out.told(error.to_diagnostic(alloc, FILE));
+    out.debug(error.to_diagnostic(alloc, FILE));
 }
 
 /// Prints an error as `push_error` does, and one more line if the error's clone prints differently.
 pub fn push_twice(alloc: Global, error: &Error<'_>, out: &mut Out) {
     push_error(alloc, error, out);
-    let Some(copy) = out.kept(error.clone(alloc)) else {
+    let Some(copy) = out.ok(error.clone(alloc)) else {
         return;
     };
     let mut again = Out::new(alloc);
@@ -35,17 +35,17 @@ pub fn push_twice(alloc: Global, error: &Error<'_>, out: &mut Out) {
     if !out.text.ends_with(again.text.as_str()) {
         out.push_str("\nthe clone is another");
     }
-    out.is_short = out.is_short || again.is_short;
+    out.out_of_memory = out.out_of_memory || again.out_of_memory;
 }
 
 /// Prints clones of an error's kind and of the error, and the error's diagnostic, each twice, and then the error.
 pub fn push_copies(alloc: Global, error: &Error<'_>, out: &mut Out) {
     for _ in 0..2 {
-        out.told_line(error.kind.clone(alloc));
-        out.told_line(error.clone(alloc));
-        out.told_line(error.to_diagnostic(alloc, FILE));
+        out.debug_line(error.kind.clone(alloc));
+        out.debug_line(error.clone(alloc));
+        out.debug_line(error.to_diagnostic(alloc, FILE));
     }
-    out.told(error);
+    out.debug(error);
 }
 
 /// Returns the kind of error that `word` names, or `None` for any other word. `text` has the names for the kind,

@@ -16,22 +16,22 @@ mod cuts;
 mod derived;
 mod escapes;
 mod faults;
+mod output;
 mod places;
 mod reports;
 mod runs;
 mod sections;
 mod spans;
 mod tokens;
-mod told;
 mod trees;
 mod typed;
 mod uses;
 
 use escapes::{push_text, push_words};
+use output::Out;
 use std::alloc::{AllocError, Global};
 use std::io;
 use std::process::ExitCode;
-use told::Out;
 use toml_span::from_str;
 use typed::owned::push_file;
 use typed::structs::Holders;
@@ -77,10 +77,10 @@ fn push_caller(alloc: Global, row: Row<'_>, out: &mut Out) -> bool {
     let text = row.text;
     match row.call {
         "cuts" => cuts::push_cuts(alloc, text, out),
-        "span_at" => out.told(span_at(alloc, text, row.word(0))),
-        "port_of" => out.told(port_of(alloc, text)),
+        "span_at" => out.debug(span_at(alloc, text, row.word(0))),
+        "port_of" => out.debug(port_of(alloc, text)),
         "describe_port" => out.made(describe_port(alloc, text)),
-        "holders" => out.told(from_str::<Holders>(alloc, text)),
+        "holders" => out.debug(from_str::<Holders>(alloc, text)),
         "warned" => return push_warned(alloc, row.word(0), text, out),
         _ => return false,
     }
@@ -128,7 +128,7 @@ fn push_answered(
 fn push_row(rt: &HostRuntime, alloc: Global, line: &str, out: &mut Out) -> bool {
     let mut answer = Out::new(alloc);
     let answered = push_answered(rt, alloc, line, &mut answer);
-    let known = out.kept(answered).unwrap_or(false);
+    let known = out.ok(answered).unwrap_or(false);
     if !known {
         answer.text.clear();
         answer.push_str(NO_SUCH_ROW);
@@ -138,7 +138,7 @@ fn push_row(rt: &HostRuntime, alloc: Global, line: &str, out: &mut Out) -> bool 
         out.push_str(line);
         out.push_str("\n");
     }
-    out.is_short = out.is_short || answer.is_short;
+    out.out_of_memory = out.out_of_memory || answer.out_of_memory;
     known
 }
 
@@ -162,7 +162,7 @@ fn main(rt: HostRuntime) -> io::Result<ExitCode> {
     let input = io::read_to_string(alloc, rt.stdin())?;
     let mut out = Out::new(alloc);
     let readable = push_lines(&rt, alloc, input.as_str(), &mut out);
-    if out.is_short {
+    if out.out_of_memory {
         return Err(AllocError.into());
     }
     let written = out.text.as_str();

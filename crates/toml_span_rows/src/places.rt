@@ -7,7 +7,7 @@
 //!
 //! A word that is a number is a position. Any other word is a key.
 use crate::Row;
-use crate::told::Out;
+use crate::output::Out;
 use std::alloc::{AllocError, Global};
 use toml_span::Span;
 use toml_span::value::{Step, Value};
@@ -30,8 +30,8 @@ fn steps_of<'r>(alloc: Global, words: &'r [String]) -> Result<Vec<Step<'r>>, All
 fn push_steps(steps: &[Step<'_>], out: &mut Out) {
     for step in steps {
         match step {
-            Step::Key(name) => out.told(name),
-            Step::Position(position) => out.told(position),
+            Step::Key(name) => out.debug(name),
+            Step::Position(position) => out.debug(position),
         }
         out.push_str(" ");
     }
@@ -39,48 +39,48 @@ fn push_steps(steps: &[Step<'_>], out: &mut Out) {
 
 /// Prints the answer to `key_places`.
 pub fn push_keys(alloc: Global, text: &str, sections: &[Section<'_>], out: &mut Out) {
-    if let Some(places) = out.kept(key_places(alloc, text, sections)) {
+    if let Some(places) = out.ok(key_places(alloc, text, sections)) {
         for place in &places {
             push_steps(place.path.as_slice(), out);
-            out.told_line((place.role, place.span, place.whole));
+            out.debug_line((place.role, place.span, place.whole));
         }
     }
 }
 
 /// Prints the answer to `table_forms`.
 pub fn push_forms(alloc: Global, row: Row<'_>, sections: &[Section<'_>], out: &mut Out) {
-    let Some(steps) = out.kept(steps_of(alloc, row.words)) else {
+    let Some(steps) = out.ok(steps_of(alloc, row.words)) else {
         return;
     };
-    let Some(forms) = out.kept(table_forms(alloc, sections, steps.as_slice())) else {
+    let Some(forms) = out.ok(table_forms(alloc, sections, steps.as_slice())) else {
         return;
     };
     if forms.is_empty() {
         out.push_str("none");
     }
     for form in &forms {
-        out.told_line(*form);
+        out.debug_line(*form);
     }
 }
 
 /// Prints the answer to `insertion_point`.
 pub fn push_point(alloc: Global, row: Row<'_>, sections: &[Section<'_>], out: &mut Out) {
-    let Some(steps) = out.kept(steps_of(alloc, row.words)) else {
+    let Some(steps) = out.ok(steps_of(alloc, row.words)) else {
         return;
     };
     let made = insertion_point(alloc, row.text, sections, steps.as_slice());
-    let Some(Some(point)) = out.kept(made) else {
+    let Some(Some(point)) = out.ok(made) else {
         return out.push_str("none");
     };
-    out.told_line((point.offset, point.needs_line_end));
+    out.debug_line((point.offset, point.needs_line_end));
     let line = if point.needs_line_end {
         "\nnew = 0\n"
     } else {
         "new = 0\n"
     };
     let spans = [Span::new(point.offset, point.offset)];
-    if let Some(Some(new)) = out.kept(replaced(alloc, row.text, &spans, line)) {
-        out.told(new);
+    if let Some(Some(new)) = out.ok(replaced(alloc, row.text, &spans, line)) {
+        out.debug(new);
     }
 }
 
@@ -89,13 +89,13 @@ pub fn push_node_at(alloc: Global, row: Row<'_>, root: &Value<'_>, out: &mut Out
     let Ok(offset) = row.word(0).parse::<usize>() else {
         return false;
     };
-    match out.kept(node_at(alloc, root, row.text, offset)) {
+    match out.ok(node_at(alloc, root, row.text, offset)) {
         Some(Some(place)) => {
             push_steps(place.path.as_slice(), out);
-            out.told((place.part, place.span));
+            out.debug((place.part, place.span));
             out.push_str(" ");
             let span = place.span;
-            out.told_line(row.text.get(span.start..span.end).unwrap_or("no place"));
+            out.debug_line(row.text.get(span.start..span.end).unwrap_or("no place"));
         }
         _ => out.push_str("none"),
     }

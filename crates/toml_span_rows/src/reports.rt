@@ -5,7 +5,7 @@
 //!   all together, one line each, and as JSON.
 //! - `quoted`: the text as a JSON string. `quote_key`, `quote_string`: the text as a key and as a string of TOML.
 use crate::Row;
-use crate::told::Out;
+use crate::output::Out;
 use std::alloc::{AllocError, Global};
 use toml_span::Span;
 use toml_span_places::{quote_key, quote_string};
@@ -20,8 +20,8 @@ pub fn answer(alloc: Global, row: Row<'_>, out: &mut Out) -> bool {
     match row.call {
         "nearest" => {
             let made: Result<Vec<&str>, AllocError> = row.text.split(' ').collect(alloc);
-            if let Some(names) = out.kept(made) {
-                out.told(nearest(alloc, row.word(0), names.as_slice()));
+            if let Some(names) = out.ok(made) {
+                out.debug(nearest(alloc, row.word(0), names.as_slice()));
             }
         }
         "without_labels" => push_without_labels(alloc, row, out),
@@ -29,7 +29,7 @@ pub fn answer(alloc: Global, row: Row<'_>, out: &mut Out) -> bool {
         "quote_string" => out.made(quote_string(alloc, row.text)),
         "quoted" => {
             let pushed = push_quoted(alloc, &mut out.text, row.text);
-            out.kept(pushed);
+            out.ok(pushed);
         }
         _ => return false,
     }
@@ -55,7 +55,7 @@ fn reports_of(alloc: Global, message: &str) -> Result<Vec<Report>, AllocError> {
 
 /// Prints the answer to `without_labels`.
 fn push_without_labels(alloc: Global, row: Row<'_>, out: &mut Out) {
-    let Some(reports) = out.kept(reports_of(alloc, row.word(0))) else {
+    let Some(reports) = out.ok(reports_of(alloc, row.word(0))) else {
         return;
     };
     out.made(render_all(alloc, Style::Plain, reports.as_slice(), FILE, row.text));

@@ -14,7 +14,7 @@
 ghost use Rattle.std.specs.Prelude.{◌≤◌};
 
 use crate::Row;
-use crate::told::Out;
+use crate::output::Out;
 use crate::trees::limit_of;
 use std::alloc::Global;
 use std::io;
@@ -167,7 +167,7 @@ fn run_on(alloc: Global, limit: usize, bytes: &[u8], ends: Ends) -> Ended<'_>
 fn push_front(ended: &Ended<'_>, whole: &[u8], out: &mut Out) {
     let bytes = ended.writer.bytes.as_slice();
     if !whole.starts_with(bytes) {
-        return out.told_line(bytes);
+        return out.debug_line(bytes);
     }
     let counts = [
         (usize::from(ended.status), ", "),
@@ -178,7 +178,7 @@ fn push_front(ended: &Ended<'_>, whole: &[u8], out: &mut Out) {
     ];
     out.push_str("status ");
     for (count, of) in counts {
-        out.told(count);
+        out.debug(count);
         out.push_str(of);
     }
 }
@@ -212,7 +212,7 @@ pub fn answer(alloc: Global, row: Row<'_>, out: &mut Out) -> bool {
     };
     let whole = run_on(alloc, limit, row.text.as_bytes(), ends);
     out.push_str("status ");
-    out.told_line(whole.status);
+    out.debug_line(whole.status);
     out.push_str(str::from_utf8(whole.writer.bytes.as_slice()).unwrap_or("no text"));
     if row
         .word(row.words.len().saturating_sub(1))

@@ -3,7 +3,7 @@
 //! - `read LIMIT`: the sections, one per line. After each key, value and header there is `@` and its span, and after
 //!   each section and assignment `@` and its extent.
 //! - `key_places`, `insertion_point` and `table_forms`: see `places`.
-use crate::told::Out;
+use crate::output::Out;
 use crate::trees::limit_of;
 use crate::trees::shown::push_fault;
 use crate::{Row, places};
@@ -32,7 +32,7 @@ fn push_assignment(assignment: &Assignment<'_>, out: &mut Out) {
         push_key(key, ".", out);
     }
     push_key(&assignment.parts.last, "=", out);
-    out.told(&assignment.value.kind);
+    out.debug(&assignment.value.kind);
     push_place(assignment.value.span, out);
     push_place(assignment.extent, out);
 }
@@ -81,7 +81,7 @@ pub fn answer(alloc: Global, row: Row<'_>, out: &mut Out) -> bool {
     match read_sections(alloc, row.text, limit) {
         Ok(sections) => push_call(alloc, row, sections.as_slice(), out),
         Err(stop) => {
-            if let Some(fault) = out.kept(stop.fault()) {
+            if let Some(fault) = out.ok(stop.fault()) {
                 push_fault(&fault, out);
                 drop(fault);
             }

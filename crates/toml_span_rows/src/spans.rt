@@ -1,6 +1,6 @@
 //! The calls `span` and `copies`: spans, and clones of keys and of spanned texts.
 use crate::Row;
-use crate::told::Out;
+use crate::output::Out;
 use std::alloc::Global;
 use std::borrow::CowStr;
 use std::ops::Range;
@@ -10,18 +10,18 @@ use toml_span::{Span, Spanned};
 
 /// Prints two clones of a key with the name `text`, and two clones of `text`, all with this span.
 fn push_copies(alloc: Global, span: Span, text: &str, out: &mut Out) {
-    let Some(name) = out.kept(String::from_str(alloc, text)) else {
+    let Some(name) = out.ok(String::from_str(alloc, text)) else {
         return;
     };
     let name = CowStr::Owned(name);
     let key = Key { name, span };
-    let Some(text) = out.kept(String::from_str(alloc, text)) else {
+    let Some(text) = out.ok(String::from_str(alloc, text)) else {
         return;
     };
     let placed = Spanned::with_span(text, span);
     for _ in 0..2 {
-        out.told_line(key.clone(alloc));
-        out.told_line(placed.clone(alloc));
+        out.debug_line(key.clone(alloc));
+        out.debug_line(placed.clone(alloc));
     }
 }
 
@@ -36,10 +36,10 @@ pub fn answer(alloc: Global, row: Row<'_>, out: &mut Out) -> bool {
         "span" => {
             let pair: (usize, usize) = span.into();
             let range: Range<usize> = span.into();
-            out.told((span.is_empty(), pair, range.start, range.end));
+            out.debug((span.is_empty(), pair, range.start, range.end));
             if span.start <= span.end && span.end <= row.text.len() {
                 out.push_str(" at ");
-                out.told(Tokenizer::new(row.text).substr_offset(span));
+                out.debug(Tokenizer::new(row.text).substr_offset(span));
             }
         }
         "copies" => push_copies(alloc, span, row.text, out),

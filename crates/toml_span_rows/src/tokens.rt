@@ -8,7 +8,7 @@
 //! content, `Keylike(a)`, in which escapes may be used. `describe` prints the name of the next token, `clone` keeps a
 //! copy of the tokenizer, and `swap` continues with the copy.
 use crate::Row;
-use crate::told::Out;
+use crate::output::Out;
 use std::alloc::{AllocError, Global};
 use std::borrow::CowStr;
 use std::mem;
@@ -50,9 +50,9 @@ fn push_stop(out: &mut Out, stop: &Stop<Error>) {
     match stop {
         Stop::Fault(error) => {
             out.push_str("error ");
-            out.told(error);
+            out.debug(error);
         }
-        _ => out.told(AllocError),
+        _ => out.debug(AllocError),
     }
 }
 
@@ -76,7 +76,7 @@ fn push_step(
         Ok(Some((span, token))) => {
             out.span(*span);
             out.push_str(" ");
-            out.told(token);
+            out.debug(token);
             if let Token::String { val, .. } = token {
                 push_holder(out, val);
             }
@@ -92,7 +92,7 @@ fn push_key(out: &mut Out, answer: Result<Key<'_>, Stop<Error>>) {
         Ok(key) => {
             out.span(key.span);
             out.push_str(" ");
-            out.shown(key);
+            out.display(key);
             push_holder(out, &key.name);
         }
         Err(stop) => push_stop(out, stop),
@@ -117,10 +117,10 @@ impl<'t> Tokenizers<'t> {
         out: &mut Out,
     ) -> bool {
         match name {
-            "eat" => out.told(self.used.eat(alloc, token)),
-            "eat_spanned" => out.told(self.used.eat_spanned(alloc, token)),
-            "expect" => out.told(self.used.expect(alloc, token)),
-            "expect_spanned" => out.told(self.used.expect_spanned(alloc, token)),
+            "eat" => out.debug(self.used.eat(alloc, token)),
+            "eat_spanned" => out.debug(self.used.eat_spanned(alloc, token)),
+            "expect" => out.debug(self.used.expect(alloc, token)),
+            "expect_spanned" => out.debug(self.used.expect_spanned(alloc, token)),
             _ => return false,
         }
         true
@@ -133,10 +133,10 @@ impl<'t> Tokenizers<'t> {
             "peek" => push_step(out, self.used.peek(alloc), false),
             "describe" => push_step(out, self.used.step(alloc), true),
             "table_key" => push_key(out, self.used.table_key(alloc)),
-            "eat_newline_or_eof" => out.told(self.used.eat_newline_or_eof(alloc)),
-            "eat_comment" => out.told(self.used.eat_comment()),
-            "one" => out.told(self.used.one()),
-            "current" => out.told(self.used.current()),
+            "eat_newline_or_eof" => out.debug(self.used.eat_newline_or_eof(alloc)),
+            "eat_comment" => out.debug(self.used.eat_comment()),
+            "one" => out.debug(self.used.one()),
+            "current" => out.debug(self.used.current()),
             _ => return self.push_quiet_call(name, out),
         }
         true
@@ -148,7 +148,7 @@ impl<'t> Tokenizers<'t> {
             "eat_whitespace" => self.used.eat_whitespace(),
             "skip_to_newline" => self.used.skip_to_newline(),
             "clone" => {
-                if let Some(copy) = out.kept(self.used.clone()) {
+                if let Some(copy) = out.ok(self.used.clone()) {
                     self.copy = copy;
                 }
             }
@@ -192,7 +192,7 @@ fn push_tokens(alloc: Global, text: &str, out: &mut Out) {
         push_step(out, answer, false);
         if failed {
             out.push_str(" then ");
-            out.told(tokenizer.current());
+            out.debug(tokenizer.current());
         }
         out.push_str("\n");
         if !more {

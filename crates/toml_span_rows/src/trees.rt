@@ -9,8 +9,8 @@
 ghost use Rattle.std.specs.Prelude.{◌≤◌, IfSome};
 
 use crate::faults::{push_copies, push_twice};
+use crate::output::Out;
 use crate::places::push_node_at;
-use crate::told::Out;
 use crate::{Row, typed};
 use shown::{push_fault, push_lines};
 use std::alloc::Global;
@@ -46,10 +46,10 @@ fn push_json(alloc: Global, root: &Value<'_>, out: &mut Out) {
     }
     let mut made = root.to_json(alloc);
     if let Err(refused) = &made {
-        out.told_line(refused);
+        out.debug_line(refused);
         made = root.to_json(alloc);
     }
-    if let Some(json) = out.kept(made) {
+    if let Some(json) = out.ok(made) {
         out.made(json.to_string(alloc));
     }
 }
@@ -98,7 +98,7 @@ pub fn answer(alloc: Global, row: Row<'_>, out: &mut Out) -> bool {
             known
         }
         Err(stop) => {
-            if let Some(fault) = out.kept(stop.fault()) {
+            if let Some(fault) = out.ok(stop.fault()) {
                 push_refused(alloc, row.call, &fault, out);
                 drop(fault);
             }

@@ -15,7 +15,7 @@ pub mod warned;
 
 use crate::Row;
 use crate::faults::{push_copies, push_twice};
-use crate::told::Out;
+use crate::output::Out;
 use crate::trees::shown::push_lines;
 use crate::typed::odd::Never;
 use crate::typed::reads::{errors_at, push_read};
@@ -55,14 +55,14 @@ fn push_call<'de>(alloc: Global, row: Row<'_>, value: &mut Value<'de>, out: &mut
         return false;
     }
     match row.call {
-        "parse_string" if row.word(0) == "u8" => out.told(parse::<u8, _>(alloc, value)),
-        "parse_string" => out.told(parse::<Never, _>(alloc, value)),
+        "parse_string" if row.word(0) == "u8" => out.debug(parse::<u8, _>(alloc, value)),
+        "parse_string" => out.debug(parse::<Never, _>(alloc, value)),
         "open" => match TableHelper::new(alloc, value) {
             Ok(helper) => {
                 drop(helper);
                 out.push_str("opened");
             }
-            Err(errors) => out.told(errors),
+            Err(errors) => out.debug(errors),
         },
         _ => return false,
     }
@@ -98,9 +98,9 @@ fn push_merge<'de>(
     out: &mut Out,
 ) {
     let merged = errors.merge(alloc, more);
-    out.told_line(&merged);
+    out.debug_line(&merged);
     if let Err(unmerged) = merged {
-        out.told_line(errors.merge(alloc, unmerged.other));
+        out.debug_line(errors.merge(alloc, unmerged.other));
     }
 }
 
@@ -108,13 +108,13 @@ fn push_merge<'de>(
 /// one, the errors of `iter`, the last error, and the text of all errors.
 fn push_lists(errors: &DeserError<'_>, out: &mut Out) {
     let len = errors.len();
-    out.told_line(len);
+    out.debug_line(len);
     for index in 0..=len {
-        out.told_line(errors.get(index));
+        out.debug_line(errors.get(index));
     }
     for error in errors.iter() {
-        out.told_line(error);
+        out.debug_line(error);
     }
-    out.told_line(errors.last());
-    out.shown(errors);
+    out.debug_line(errors.last());
+    out.display(errors);
 }

@@ -116,7 +116,7 @@ class Document:
             status = native.lib.toml_span_parse(
                 data, size, at + nodes, room, at + strings, size, at, at + _COUNTS.size
             )
-            if status == native.REFUSED:
+            if status == native.INVALID:
                 raise _error(text, data, block[_COUNTS.size : nodes], name)
             if status == native.MEMORY:
                 raise MemoryError
@@ -133,9 +133,9 @@ class Document:
         self.sources = _Sources(data, self.strings)
         native.lib.toml_span_sort(at + nodes, count, self.address)
 
-    def record(self, number: int) -> Tuple[Any, ...]:
+    def record(self, index: int) -> Tuple[Any, ...]:
         """Returns all fields of the record with this index."""
-        fields: Tuple[Any, ...] = native.NODE.unpack_from(self.records, number * native.NODE.size)
+        fields: Tuple[Any, ...] = native.NODE.unpack_from(self.records, index * native.NODE.size)
         return fields
 
     def moment(self, start: int, end: int) -> Moment:
@@ -147,19 +147,19 @@ class Document:
             msg = f"Python has no such date or time: {error}"
             raise TOMLDecodeError(msg, self.text, pos, None, (start, end)) from None
 
-    def value(self, number: int, parse_float: Callable[[str], Any] = float) -> Any:
+    def value(self, index: int, parse_float: Callable[[str], Any] = float) -> Any:
         """Returns the value of the record with this index, with all values inside it."""
-        arguments = self.address, number, self.sources, parse_float is not float
+        arguments = self.address, index, self.sources, parse_float is not float
         room, needed = len(self.data) + 16 * self.count + 64, ctypes.c_size_t()
-        if number > 0:
-            record = self.record(number)
+        if index > 0:
+            record = self.record(index)
             if record[0] == native.INTEGER:
                 return record[16]
             if record[0] == native.STRING:
                 source, at, length = record[9:12]
                 return (self.strings if source else self.data)[at : at + length].decode()
             # (enough for most values: names in headers are not in the span of a table)
-            room = record[3] - record[2] + 16 * (record[15] - number) + 64
+            room = record[3] - record[2] + 16 * (record[15] - index) + 64
         while True:
             out = bytearray(room)
             native.lib.toml_span_pickle(*arguments, _address(out), room, ctypes.byref(needed))
@@ -187,8 +187,8 @@ class _Builder(pickle.Unpickler):
     def find_class(self, module: str, name: str) -> Any:
         raise pickle.UnpicklingError(name)
 
-    def persistent_load(self, number: int) -> Any:
-        kind, _, start, end = _HEAD.unpack_from(self.document.records, number * native.NODE.size)
+    def persistent_load(self, index: int) -> Any:
+        kind, _, start, end = _HEAD.unpack_from(self.document.records, index * native.NODE.size)
         if kind == native.DATETIME:
             return self.document.moment(start, end)
         value = self.parse_float(self.document.data[start:end].decode())

@@ -43,7 +43,7 @@ def _made(text: AnyStr, room: int, call: Callable[..., int], refused: Callable[[
         status = call(data, len(data), out, room, ctypes.byref(needed), fault)
         if status == native.MEMORY:
             raise MemoryError
-        if status in (native.REFUSED, native.UNREAD):
+        if status in (native.INVALID, native.UNREAD):
             # (raises the error)
             parse(text)
             raise AssertionError("a text is refused and read")
@@ -68,13 +68,13 @@ class Edits(Generic[AnyStr]):
         self._text = _checked(text)
         self._changes: List[Tuple[int, bytes, bytes]] = []
 
-    def _add(self, number: int, path: Path, value: Optional[str]) -> Edits[AnyStr]:
+    def _add(self, change: int, path: Path, value: Optional[str]) -> Edits[AnyStr]:
         texts = [path if isinstance(path, str) else path_text(path), "" if value is None else value]
         if not isinstance(texts[1], str):
             raise TypeError(f"a name must be a str, not '{type(value).__qualname__}'")
         if any("\0" in text for text in texts):
             raise ValueError("a path or a name must not have a null character")
-        self._changes.append((number, texts[0].encode(), texts[1].encode()))
+        self._changes.append((change, texts[0].encode(), texts[1].encode()))
         return self
 
     def set(self, path: Path, value: Any) -> Edits[AnyStr]:

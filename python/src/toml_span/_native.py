@@ -7,12 +7,12 @@ import os
 import struct
 from typing import Any
 
-READ, REFUSED, UNREAD, UNMADE, MEMORY = range(5)
+READ, INVALID, UNREAD, UNMADE, MEMORY = range(5)
 STRING, INTEGER, FLOAT, BOOLEAN, DATETIME, ARRAY, TABLE = range(1, 8)
 NONE = (1 << 64) - 1
 LONGEST = 16777216
 
-# a record: kind, truth, span, key span, key and text (source, at and length each), parent, position, children, next,
+# a record: kind, boolean, span, key span, key and text (source, at and length each), parent, position, children, next,
 # integer, number
 NODE = struct.Struct("=II14Qqd")
 FAULT = struct.Struct("=II6Q")
@@ -22,7 +22,7 @@ NAME = "libtoml_span.so.0"
 class Change(ctypes.Structure):
     """A change of a text: its kind, its path and its value."""
 
-    _fields_ = [("number", ctypes.c_uint32), ("path", ctypes.c_char_p), ("value", ctypes.c_char_p)]
+    _fields_ = [("change", ctypes.c_uint32), ("path", ctypes.c_char_p), ("value", ctypes.c_char_p)]
 
 
 def _library() -> ctypes.CDLL:
@@ -33,7 +33,8 @@ def _library() -> ctypes.CDLL:
     try:
         library = ctypes.CDLL(named or next((place for place in places if os.path.exists(place)), NAME))
     except OSError as error:
-        raise ImportError(f"{error} (scripts/c_library.sh makes it; TOML_SPAN_LIBRARY may name it)") from None
+        message = f"{error} (build it with scripts/c_library.sh, or set TOML_SPAN_LIBRARY to its path)"
+        raise ImportError(message) from None
     size, pointer, text = ctypes.c_size_t, ctypes.c_void_p, ctypes.c_char_p
     for name, result, arguments in (
         ("parse", ctypes.c_uint32, [text, size, pointer, size, pointer, size, pointer, pointer]),

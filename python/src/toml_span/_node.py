@@ -23,24 +23,24 @@ class _Source(Document):
         self.starts: Optional[Tuple[List[int], List[int]]] = None
         self.held: Dict[int, Dict[Key, int]] = {}
 
-    def name(self, number: int) -> Key:
+    def name(self, index: int) -> Key:
         """Returns the name, or the position, that the record with this index has in its parent."""
-        record = self.record(number)
+        record = self.record(index)
         if self.record(record[12])[0] == ARRAY:
             position: int = record[13]
             return position
         source, at, length = record[6:9]
         return (self.strings if source else self.data)[at : at + length].decode()
 
-    def children(self, number: int) -> Dict[Key, int]:
+    def children(self, index: int) -> Dict[Key, int]:
         """Returns the indices of the records of the children of a table or array, by their names or positions."""
-        found = self.held.get(number)
+        found = self.held.get(index)
         if found is None:
-            found, child, end = {}, number + 1, self.record(number)[15]
+            found, child, end = {}, index + 1, self.record(index)[15]
             while child < end:
                 found[self.name(child)] = child
                 child = self.record(child)[15]
-            self.held[number] = found
+            self.held[index] = found
         return found
 
     def place(self, offset: int) -> Tuple[int, int, int]:
@@ -63,15 +63,15 @@ class Node:
     the text; ``sorted(node)`` returns the names in order.
     """
 
-    __slots__ = ("_source", "_number")
+    __slots__ = ("_source", "_index")
     __hash__ = None  # type: ignore[assignment]
 
-    def __init__(self, source: _Source, number: int) -> None:
-        self._source, self._number = source, number
+    def __init__(self, source: _Source, index: int) -> None:
+        self._source, self._index = source, index
 
     @property
     def _record(self) -> Tuple[Any, ...]:
-        return self._source.record(self._number)
+        return self._source.record(self._index)
 
     @property
     def kind(self) -> str:
@@ -81,28 +81,28 @@ class Node:
     @property
     def value(self) -> Any:
         """The value as ``loads`` returns it."""
-        return self._source.value(self._number)
+        return self._source.value(self._index)
 
     @property
     def key(self) -> Optional[str]:
         """The name of the value's key; None for elements and for the root."""
-        name = None if self._number == 0 else self._source.name(self._number)
+        name = None if self._index == 0 else self._source.name(self._index)
         return name if isinstance(name, str) else None
 
     @property
     def parent(self) -> Optional[Node]:
         """The table or array that contains the value; None for the root."""
-        number = self._record[12]
-        return None if number == NONE else Node(self._source, number)
+        index = self._record[12]
+        return None if index == NONE else Node(self._source, index)
 
     @property
     def path(self) -> Tuple[Key, ...]:
         """The path from the root: names and positions."""
         steps: List[Key] = []
-        number = self._number
-        while number != 0:
-            steps.append(self._source.name(number))
-            number = self._source.record(number)[12]
+        index = self._index
+        while index != 0:
+            steps.append(self._source.name(index))
+            index = self._source.record(index)[12]
         return tuple(reversed(steps))
 
     @property
@@ -145,8 +145,8 @@ class Node:
         source, name = self._source, path.encode("utf-8", "surrogatepass")
         if b"\0" in name:
             return None
-        number: int = lib.toml_span_find(source.address, source.count, source.sources, self._number, name)
-        return None if number == NONE else Node(source, number)
+        index: int = lib.toml_span_find(source.address, source.count, source.sources, self._index, name)
+        return None if index == NONE else Node(source, index)
 
     def pointer(self, pointer: str) -> Optional[Node]:
         """Returns the value at a JSON Pointer, such as ``/server/ports/0``, or None if there is no such value."""
@@ -159,17 +159,17 @@ class Node:
                 if not (step.isascii() and step.isdigit()) or (step[0] == "0" and step != "0"):
                     return None
                 name = int(step)
-            number = node._source.children(node._number).get(name)
-            if number is None:
+            index = node._source.children(node._index).get(name)
+            if index is None:
                 return None
-            node = Node(node._source, number)
+            node = Node(node._source, index)
         return node
 
     def _children(self, *kinds: int) -> Dict[Key, int]:
         if self._record[0] not in (kinds or (ARRAY, TABLE)):
             expected = {(): "neither a table nor an array", (TABLE,): "not a table"}[kinds]
             raise TypeError(f"the {self.kind} at line {self.line} is {expected}")
-        return self._source.children(self._number)
+        return self._source.children(self._index)
 
     def __len__(self) -> int:
         return len(self._children())
@@ -180,7 +180,7 @@ class Node:
     def __iter__(self) -> Iterator[Any]:
         """The names of a table, the elements of an array."""
         held = self._children()
-        return iter(held if self._record[0] == TABLE else [Node(self._source, number) for number in held.values()])
+        return iter(held if self._record[0] == TABLE else [Node(self._source, index) for index in held.values()])
 
     def __contains__(self, item: object) -> bool:
         """Whether a table has this name, or an array an element with this value."""
@@ -210,8 +210,8 @@ class Node:
 
     def get(self, name: str, default: Any = None) -> Any:
         """The value of a table's entry with this name, or the default if there is none."""
-        number = self._children(TABLE).get(name)
-        return default if number is None else Node(self._source, number)
+        index = self._children(TABLE).get(name)
+        return default if index is None else Node(self._source, index)
 
     def keys(self) -> List[str]:
         """The names of a table."""
@@ -219,7 +219,7 @@ class Node:
 
     def values(self) -> List[Node]:
         """The values of a table."""
-        return [Node(self._source, number) for number in self._children(TABLE).values()]
+        return [Node(self._source, index) for index in self._children(TABLE).values()]
 
     def items(self) -> List[Tuple[str, Node]]:
         """The names of a table with their values."""

@@ -1,5 +1,5 @@
 //! `again`: parses numbers, booleans, dates, arrays and inline tables of a document again, each after `x =`.
-use crate::told::Out;
+use crate::output::Out;
 use crate::trees::shown::push_lines;
 use std::alloc::Global;
 use toml_span::parse;
@@ -9,7 +9,7 @@ use toml_span::value::{Value, nodes};
 /// the piece make the spans the same as in the document, if `start` is at least 3.
 fn push_reread(alloc: Global, piece: &str, start: usize, out: &mut Out) {
     let width = start.saturating_sub(3);
-    let Some(text) = out.kept(format!(in alloc; "x ={:1$}{piece}", "", width)) else {
+    let Some(text) = out.ok(format!(in alloc; "x ={:1$}{piece}", "", width)) else {
         return;
     };
     match parse(alloc, text.as_str()) {
@@ -19,7 +19,7 @@ fn push_reread(alloc: Global, piece: &str, start: usize, out: &mut Out) {
             }
             drop(root);
         }
-        Err(stop) => drop(out.kept(stop.fault())),
+        Err(stop) => drop(out.ok(stop.fault())),
     }
 }
 
@@ -29,7 +29,7 @@ fn is_read_again(alloc: Global, piece: &str, value: &Value<'_>, out: &mut Out) -
     push_lines(alloc, value, &mut lines);
     let mut again = Out::new(alloc);
     push_reread(alloc, piece, value.span.start, &mut again);
-    out.is_short = out.is_short || lines.is_short || again.is_short;
+    out.out_of_memory = out.out_of_memory || lines.out_of_memory || again.out_of_memory;
     lines.text == again.text
 }
 
@@ -51,7 +51,7 @@ fn is_piece(text: &str, value: &Value<'_>) -> bool {
 
 /// Prints each piece of a document, and whether it has the same lines when it is parsed again.
 pub fn push_again(alloc: Global, text: &str, root: &Value<'_>, out: &mut Out) {
-    let Some(list) = out.kept(nodes(alloc, root)) else {
+    let Some(list) = out.ok(nodes(alloc, root)) else {
         return;
     };
     for visited in list.iter() {
@@ -63,7 +63,7 @@ pub fn push_again(alloc: Global, text: &str, root: &Value<'_>, out: &mut Out) {
             return out.push_str("no place of the text\n");
         };
         let is_read = is_read_again(alloc, piece, value, out);
-        out.told(piece);
+        out.debug(piece);
         out.push_str(if is_read { " the same\n" } else { " another\n" });
     }
 }

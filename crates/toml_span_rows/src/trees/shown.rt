@@ -1,5 +1,5 @@
 //! Prints the lines of trees and of errors.
-use crate::told::Out;
+use crate::output::Out;
 use std::alloc::Global;
 use std::borrow::CowStr;
 use toml_span::Error;
@@ -18,10 +18,10 @@ fn push_path(steps: &[Step<'_>], out: &mut Out) {
                     } else {
                         write!(out.text, "%{byte:02X}")
                     };
-                    out.kept(pushed);
+                    out.ok(pushed);
                 }
             }
-            Step::Position(position) => out.told(position),
+            Step::Position(position) => out.debug(position),
         }
     }
 }
@@ -47,7 +47,7 @@ pub fn push_owned(text: &CowStr<'_>, out: &mut Out) {
 /// Prints a string, and whether it is owned.
 pub fn push_string(text: &CowStr<'_>, out: &mut Out) {
     out.push_str(" ");
-    out.told(text);
+    out.debug(text);
     push_owned(text, out);
 }
 
@@ -65,9 +65,9 @@ fn push_scalar(value: &Value<'_>, out: &mut Out) {
     }
     out.push_str(" ");
     match inner {
-        ValueInner::Integer(number) => out.told(number),
+        ValueInner::Integer(number) => out.debug(number),
         ValueInner::Float(float) => out.push_str(float.text()),
-        ValueInner::Boolean(truth) => out.told(truth),
+        ValueInner::Boolean(truth) => out.debug(truth),
         ValueInner::Datetime(date) => out.push_str(date.text()),
         _ => {}
     }
@@ -75,7 +75,7 @@ fn push_scalar(value: &Value<'_>, out: &mut Out) {
 
 /// Prints the lines of a value and of all values inside.
 pub fn push_lines(alloc: Global, value: &Value<'_>, out: &mut Out) {
-    let Some(list) = out.kept(nodes(alloc, value)) else {
+    let Some(list) = out.ok(nodes(alloc, value)) else {
         return;
     };
     for visited in list.iter() {
@@ -112,16 +112,16 @@ pub fn push_back(said: &str, value: Value<'_>, out: &mut Out) {
 }
 
 /// Prints an error: the code, the span, and the line and column.
-pub fn push_stand(fault: &Error<'_>, out: &mut Out) {
-    out.shown(&fault.kind);
+pub fn push_error_head(fault: &Error<'_>, out: &mut Out) {
+    out.display(&fault.kind);
     out.push_str(" ");
     out.span(fault.span);
     match fault.line_info {
         Some((line, column)) => {
             out.push_str(" ");
-            out.told(line);
+            out.debug(line);
             out.push_str(":");
-            out.told(column);
+            out.debug(column);
         }
         None => out.push_str(" no line"),
     }
@@ -130,7 +130,7 @@ pub fn push_stand(fault: &Error<'_>, out: &mut Out) {
 /// Prints an error of `parse`: the code, the span, the line and column, and the kind.
 pub fn push_fault(fault: &Error<'_>, out: &mut Out) {
     out.push_str("error ");
-    push_stand(fault, out);
+    push_error_head(fault, out);
     out.push_str(" ");
-    out.told(&fault.kind);
+    out.debug(&fault.kind);
 }

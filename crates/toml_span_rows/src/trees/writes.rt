@@ -12,7 +12,7 @@
 //! | `replace=POINTER=INTEGER` | `replace` with a `Value::new` |
 //! | `taken=POINTER` | `is_taken` on what `pointer` returns |
 //! | `has_key=NAME`, `has_keys`, `whole` | `has_key`, `has_keys` and `is_whole` on the root |
-use crate::told::Out;
+use crate::output::Out;
 use crate::trees::shown::{push_back, push_lines, push_named, push_string};
 use std::alloc::Global;
 use toml_span::value::{Pointer, Value, ValueInner};
@@ -35,7 +35,7 @@ fn push_taken(value: &mut Value<'_>, operation: Operation<'_>, out: &mut Out) ->
         return true;
     }
     if operation.name == "take" {
-        out.told(value.take());
+        out.debug(value.take());
         return true;
     }
     match value.take_string(operation.rest) {
@@ -43,7 +43,7 @@ fn push_taken(value: &mut Value<'_>, operation: Operation<'_>, out: &mut Out) ->
             push_string(&text, out);
             drop(text);
         }
-        Err(fault) => out.told(fault),
+        Err(fault) => out.debug(fault),
     }
     operation.name == "take_string"
 }
@@ -73,7 +73,7 @@ fn push_at(alloc: Global, root: &Value<'_>, text: &str, out: &mut Out) {
     match Pointer::new(alloc, text) {
         Ok(Some(pointer)) => push_named(root.at(&pointer), out),
         Ok(None) => out.push_str("no pointer"),
-        Err(_) => out.is_short = true,
+        Err(_) => out.out_of_memory = true,
     }
 }
 
@@ -91,12 +91,12 @@ fn push_operation<'t>(
         "look" => push_named(root.look_up(place), out),
         "at" => push_at(alloc, root, place, out),
         "taken" => match root.pointer(place) {
-            Some(value) => out.told(Some(value.is_taken())),
-            None => out.told(None::<bool>),
+            Some(value) => out.debug(Some(value.is_taken())),
+            None => out.debug(None::<bool>),
         },
-        "has_key" => out.told(root.has_key(place)),
-        "has_keys" => out.told(root.has_keys()),
-        "whole" => out.told(root.is_whole()),
+        "has_key" => out.debug(root.has_key(place)),
+        "has_keys" => out.debug(root.has_keys()),
+        "whole" => out.debug(root.is_whole()),
         "replace" => match root.replace(place, Value::new(ValueInner::Integer(number))) {
             Ok(old) => push_back("gives ", old, out),
             Err(back) => push_back("gives back ", back, out),

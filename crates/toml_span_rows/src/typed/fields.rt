@@ -6,7 +6,7 @@
 ghost use Rattle.std.specs.Prelude.{IfSome};
 ghost use Rattle.toml_span_typed.specs.TableHelper.{AllWhole, state_of};
 
-use crate::told::Out;
+use crate::output::Out;
 use crate::trees::shown::push_back;
 use crate::typed::push_lists;
 use std::alloc::{AllocError, Global};
@@ -70,7 +70,7 @@ fn push_call<'de>(helper: &mut TableHelper<'de>, call: &'de str, out: &mut Out) 
         return false;
     };
     match name {
-        "contains" => out.told(helper.contains(arguments)),
+        "contains" => out.debug(helper.contains(arguments)),
         "take" => push_entry(helper.take(arguments), out),
         _ => return push_field(helper, name, arguments, out),
     }
@@ -81,7 +81,7 @@ fn push_call<'de>(helper: &mut TableHelper<'de>, call: &'de str, out: &mut Out) 
 fn push_entry(entry: Result<Option<(Key<'_>, Value<'_>)>, AllocError>, out: &mut Out) {
     match entry {
         Ok(Some((key, value))) => {
-            out.told((&key, key.span));
+            out.debug((&key, key.span));
             drop(key);
             push_back(" ", value, out);
         }
@@ -125,10 +125,10 @@ fn push_as<'de, T: Deserialize<'de> + Debug>(
     ensures { AllWhole (state_of helper.new) }
 {
     match how {
-        "required" => out.told(helper.required::<T>(name)),
+        "required" => out.debug(helper.required::<T>(name)),
         "required_s" => push_spanned(helper.required_s::<T>(name), out),
-        "optional" => out.told(helper.optional::<T>(name)),
-        "optional_s" => out.told(helper.optional_s::<T>(name)),
+        "optional" => out.debug(helper.optional::<T>(name)),
+        "optional_s" => out.debug(helper.optional_s::<T>(name)),
         _ => return false,
     }
     true
@@ -139,9 +139,9 @@ fn push_spanned<T: Debug + Drop>(read: Result<Spanned<T>, Stop<Error<'_>>>, out:
     match read {
         Ok(found) => {
             let span = found.span;
-            out.told((found, span));
+            out.debug((found, span));
         }
-        other => out.told(other),
+        other => out.debug(other),
     }
 }
 
@@ -173,7 +173,7 @@ fn push_ended<'de>(ended: Result<(), Unfinished<'de>>, out: &mut Out) -> Option<
             drop(errors);
         }
         Err(Unfinished::Memory(helper)) => {
-            out.told_line(AllocError);
+            out.debug_line(AllocError);
             return Some(helper);
         }
     }

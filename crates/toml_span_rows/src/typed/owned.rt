@@ -2,7 +2,7 @@
 //!
 //! - `load_file NAME`: reads a listener from this file in `data`, and drops the file's text. Prints the listener, or
 //!   the text of the errors and the number of reports.
-use crate::told::Out;
+use crate::output::Out;
 use std::alloc::Global;
 use toml_span::de_helpers::parse_with;
 use toml_span::{DeserError, Deserialize, Stop, Value, read_table};
@@ -58,14 +58,14 @@ fn load(rt: &HostRuntime, name: &str) -> Result<Listener, LoadError> {
 /// Prints the answer to `load_file`.
 pub fn push_file(rt: &HostRuntime, name: &str, out: &mut Out) {
     match load(rt, name) {
-        Ok(listener) => out.told(listener),
+        Ok(listener) => out.debug(listener),
         Err(LoadError::Reported(reported)) => {
             let count = reported.reports.len();
-            out.shown(reported);
-            out.told_line(count);
+            out.display(reported);
+            out.debug_line(count);
         }
         Err(other) => {
-            out.shown(other);
+            out.display(other);
             out.push_str("\n");
         }
     }

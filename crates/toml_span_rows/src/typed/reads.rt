@@ -1,5 +1,5 @@
 //! Reads values as the type that a row names.
-use crate::told::Out;
+use crate::output::Out;
 use crate::trees::shown::push_owned;
 use crate::typed::odd::Odd;
 use crate::typed::owned::Name;
@@ -23,10 +23,10 @@ fn push_as<'de, T: Deserialize<'de> + Debug>(
     }
     let read = T::deserialize(alloc, value);
     let is_told = matches!(&read, Ok(_) | Err(Stop::Fault(_)));
-    out.told(read);
+    out.debug(read);
     if !is_told && value.is_whole() {
         out.push_str("\n");
-        out.told(T::deserialize(alloc, value));
+        out.debug(T::deserialize(alloc, value));
     }
     true
 }
@@ -80,11 +80,11 @@ fn push_cow(alloc: Global, value: &mut Value<'_>, out: &mut Out) -> bool {
     }
     match CowStr::deserialize(alloc, value) {
         Ok(text) => {
-            out.told(&text);
+            out.debug(&text);
             push_owned(&text, out);
             drop(text);
         }
-        other => out.told(other),
+        other => out.debug(other),
     }
     true
 }
@@ -101,7 +101,7 @@ fn errors_as<'de, T: Deserialize<'de>>(
     }
     match T::deserialize(alloc, value) {
         Ok(_) => None,
-        Err(stop) => out.kept(stop.fault()),
+        Err(stop) => out.ok(stop.fault()),
     }
 }
 

@@ -2,7 +2,7 @@
 //!
 //! - `warned TYPE` reads the document with `from_str_with_warnings`, and prints the result and each warning, one per
 //!   line.
-use crate::told::Out;
+use crate::output::Out;
 use std::alloc::Global;
 use toml_span::{
     DeserError, DeserializeWithWarnings, Error, Stop, Value, from_str_with_warnings, read_table,
@@ -57,15 +57,15 @@ pub fn push_warned(alloc: Global, name: &str, text: &str, out: &mut Out) -> bool
     let mut warnings = Vec::new(alloc);
     match name {
         "Limits" => {
-            out.told_line(from_str_with_warnings::<Limits>(alloc, text, &mut warnings));
+            out.debug_line(from_str_with_warnings::<Limits>(alloc, text, &mut warnings));
         }
         "Service" => {
-            out.told_line(from_str_with_warnings::<Service>(alloc, text, &mut warnings));
+            out.debug_line(from_str_with_warnings::<Service>(alloc, text, &mut warnings));
         }
         _ => return false,
     }
     for warning in warnings.iter() {
-        out.told_line(warning);
+        out.debug_line(warning);
     }
     true
 }

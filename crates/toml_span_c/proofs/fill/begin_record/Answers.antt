@@ -18,7 +18,7 @@ returns-clause-begins c m e fits =
     let after = (c.put_text-key.ensures.put m e (omega (arith, all, long))).count in
     let text = c.put_text-text.ensures.place _ after in
     let integer = to_z-of_z w64 c.integer_of.result (search rules) ∙ c.integer_of.ensures in
-    rw (c.as_ref-inner.ensures, c.kind_of.ensures, c.truth_of.ensures, c.children_of.ensures, c.number_of.ensures, key, text, c.text_of.ensures, integer) refl
+    rw (c.as_ref-inner.ensures, c.kind_of.ensures, c.boolean_of.ensures, c.children_of.ensures, c.number_of.ensures, key, text, c.text_of.ensures, integer) refl
 
 pub returns-clause-put : goal.returns-clause-put
 returns-clause-put c m e =

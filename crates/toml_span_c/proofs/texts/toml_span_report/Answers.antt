@@ -5,8 +5,8 @@ use Rattle.toml_span_tree.specs.Error.{content_of}
 use Rattle.toml_span_c.specs.Calls.{Fills}
 use Rattle.toml_span_c.proofs.texts.toml_span_report.Goals as goal
 
-pub returns-in-Ok-render_error-clause-refused : goal.returns-in-Ok-render_error-clause-refused
-returns-in-Ok-render_error-clause-refused c e =
+pub returns-in-Ok-render_error-clause-faulty : goal.returns-in-Ok-render_error-clause-faulty
+returns-in-Ok-render_error-clause-faulty c e =
     let error = c.in-Fault.error in
     let report = string_bytes c.in-Ok-render_error.report in
     let named = subst (λ n. IsReport Plain n c.in-Fault.text.now (content_of error) report) c.in-Ok.ensures.cases.0 c.in-Ok-render_error.ensures in

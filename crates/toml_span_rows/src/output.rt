@@ -8,7 +8,7 @@ use toml_span::Span;
 pub struct Out {
     pub text: String,
     /// Whether an allocation failed.
-    pub is_short: bool,
+    pub out_of_memory: bool,
 }
 
 impl Out {
@@ -16,16 +16,16 @@ impl Out {
     pub fn new(alloc: Global) -> Out {
         Out {
             text: String::new(alloc),
-            is_short: false,
+            out_of_memory: false,
         }
     }
 
     /// Returns the value that a call returned. If the call failed, records a failed allocation and returns `None`.
-    pub fn kept<T: Drop>(&mut self, made: Result<T, AllocError>) -> Option<T> {
+    pub fn ok<T: Drop>(&mut self, made: Result<T, AllocError>) -> Option<T> {
         match made {
             Ok(value) => Some(value),
             Err(_) => {
-                self.is_short = true;
+                self.out_of_memory = true;
                 None
             }
         }
@@ -34,41 +34,41 @@ impl Out {
     /// Appends a text.
     pub fn push_str(&mut self, text: &str) {
         if self.text.push_str(text).is_err() {
-            self.is_short = true;
+            self.out_of_memory = true;
         }
     }
 
     /// Appends the text that a call returned, or records that the call failed.
     pub fn made(&mut self, made: Result<String, AllocError>) {
-        if let Some(text) = self.kept(made) {
+        if let Some(text) = self.ok(made) {
             self.push_str(text.as_str());
         }
     }
 
     /// Appends the `Debug` output of a value.
-    pub fn told<T: Debug + Drop>(&mut self, told: T) {
-        if write!(self.text, "{told:?}").is_err() {
-            self.is_short = true;
+    pub fn debug<T: Debug + Drop>(&mut self, value: T) {
+        if write!(self.text, "{value:?}").is_err() {
+            self.out_of_memory = true;
         }
     }
 
     /// Appends the `Debug` output of a value and a line feed.
-    pub fn told_line<T: Debug + Drop>(&mut self, told: T) {
-        self.told(told);
+    pub fn debug_line<T: Debug + Drop>(&mut self, value: T) {
+        self.debug(value);
         self.push_str("\n");
     }
 
     /// Appends the `Display` output of a value.
-    pub fn shown<T: Display + Drop>(&mut self, shown: T) {
-        if write!(self.text, "{shown}").is_err() {
-            self.is_short = true;
+    pub fn display<T: Display + Drop>(&mut self, value: T) {
+        if write!(self.text, "{value}").is_err() {
+            self.out_of_memory = true;
         }
     }
 
     /// Appends a span as `start..end`.
     pub fn span(&mut self, span: Span) {
-        self.told(span.start);
+        self.debug(span.start);
         self.push_str("..");
-        self.told(span.end);
+        self.debug(span.end);
     }
 }
