@@ -173,14 +173,14 @@ fn finished<'w>(
 
 /// Returns the message for a refused edit. If `count`, the number of edits, is above 1, the message begins with the
 /// number of the edit.
-fn words_of(alloc: Global, error: &EditError, count: usize) -> Result<String, AllocError> {
-    let mut words = String::new(alloc);
+fn message_of(alloc: Global, error: &EditError, count: usize) -> Result<String, AllocError> {
+    let mut message = String::new(alloc);
     if count > 1 {
-        write!(words, "edit {}: ", error.edit.saturating_add(1))?;
+        write!(message, "edit {}: ", error.edit.saturating_add(1))?;
     }
-    words.push_str(error.reason.text())?;
-    words.push_str(error.reason.detail())?;
-    Ok(words)
+    message.push_str(error.reason.text())?;
+    message.push_str(error.reason.detail())?;
+    Ok(message)
 }
 
 /// Changes the edit that was refused with `error` so that it replaces tables too. Returns whether the edit was changed.
@@ -211,16 +211,22 @@ fn forced(
 ) -> Result<String, Stop<String>> {
     let count = list.len();
     // Each edit is changed at most once.
-    for _ in 0..=count {
+    for _ in 0..count {
         let error = match finished(alloc, text, list.as_slice()) {
             Ok(new) => return Ok(new),
             Err(stop) => stop.fault()?,
         };
         if !is_forced || !force(list.as_mut_slice(), &error) {
-            return Err(Stop::Fault(words_of(alloc, &error, count)?));
+            return Err(Stop::Fault(message_of(alloc, &error, count)?));
         }
     }
-    Err(Stop::Fault(String::from_str(alloc, "the tables in the way are not replaced")?))
+    match finished(alloc, text, list.as_slice()) {
+        Ok(new) => Ok(new),
+        Err(stop) => {
+            let error = stop.fault()?;
+            Err(Stop::Fault(message_of(alloc, &error, count)?))
+        }
+    }
 }
 
 /// Returns the message that a file is not valid UTF-8. The message has the line and column, counted from 1, of the byte
@@ -230,8 +236,8 @@ fn not_text(alloc: Global, bytes: &[u8], at: usize) -> Result<String, AllocError
 {
     let (_, text) = not_utf8(alloc, bytes, at)?;
     let (line, column) = line_column(text, at);
-    let words = not_utf8_text(alloc, bytes, at)?;
-    format!(in alloc; "{words} (line {line}, column {column})")
+    let message = not_utf8_text(alloc, bytes, at)?;
+    format!(in alloc; "{message} (line {line}, column {column})")
 }
 
 /// Makes edits in the bytes of a file, and returns the new text. If `is_string`, values are the content of strings

@@ -359,7 +359,7 @@ fn message_of(mistake: Mistake) -> &'static str {
         Mistake::Version => "the value of '--toml' must be 1.0, 1.1 or auto",
         Mistake::Forms =>
             "only one of '--json', '--raw', '--toml', '--tagged' and '--items' can be used",
-        Mistake::Path => "PATH is not valid UTF-8",
+        Mistake::Path => "the path is not valid UTF-8",
         Mistake::Map => "the value of '--schema-map' must be URL=FILE",
         Mistake::Sarif => "'--format sarif' can only be used with `check`",
     }
