@@ -3,7 +3,7 @@ use Rattle.std.specs.Prelude.{◌≡◌, ◌⊎◌, ℕ, Bool, true, List, Optio
 use Rattle.std.specs.Io.KnownBytes.{Keeps}
 use Rattle.toml_span_lines.specs.Run.{HasWritten}
 use Rattle.toml_span_check.specs.declared.answer.Task.{Task}
-use Rattle.toml_span_check.specs.declared.faults.Format.{Format}
+use Rattle.toml_span_check.specs.declared.formats.Format.{Format}
 use Rattle.toml_span_cli.specs.Options.{Asks}
 use Rattle.toml_span_lookup.specs.Findings.{file_says}
 use Rattle.toml_span_cli.specs.Start.{Starts}

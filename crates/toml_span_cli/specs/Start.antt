@@ -17,7 +17,7 @@ use Rattle.toml_span_cli.specs.declared.help.TheConstants.{CHECK, GET, VERSION}
 use Rattle.toml_span_cli.specs.declared.options.Reader.{Reader}
 use Rattle.toml_span_cli.specs.declared.options.Reader.TheVariants as readers
 use Rattle.toml_span_check.specs.declared.answer.Task.{Task}
-use Rattle.toml_span_check.specs.declared.faults.Format.{Format}
+use Rattle.toml_span_check.specs.declared.formats.Format.{Format}
 
 abbrev pub help_of : Reader → List ℕ
 help_of readers.Check = CHECK.now

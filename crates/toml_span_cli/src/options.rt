@@ -11,7 +11,7 @@ use clap::error::ErrorKind;
 use clap::{Arg, ArgAction, ArgMatches, Command, Error};
 use std::alloc::{AllocError, Global};
 use toml_span_check::answer::{Form, Task};
-use toml_span_check::faults::Format;
+use toml_span_check::formats::Format;
 use toml_span_check::newer::Version;
 use toml_span_check::schemas::Chooser;
 use toml_span_check::words::is_bytes;
