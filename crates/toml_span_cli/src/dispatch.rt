@@ -12,7 +12,7 @@ use crate::files::OneFile;
 use crate::fmt::fmt;
 use crate::help::{HELP, VERSION};
 use crate::lsp::lsp;
-use crate::options::Reader;
+use crate::options::Query;
 use crate::say::{quoted_word, say, say_misuse};
 use crate::show::show;
 use crate::start::start;
@@ -140,7 +140,7 @@ fn perform<O: Sink, E: Sink>(
         Command::Check => check(alloc, words, is_coloured, is_watched, host, out, errors),
         Command::Get => Ok(start(
             alloc,
-            Reader::Get,
+            Query::Get,
             words,
             is_coloured,
             is_watched,

@@ -4,7 +4,7 @@ ghost use Rattle.std.specs.Str.{IsValidUpTo};
 
 use crate::answers::{Answer, failed, give, printed};
 use crate::commands::{Command, help_of};
-use crate::edit::shown;
+use crate::edit::escaped;
 use crate::files::{read_file, replace};
 use crate::say::{quoted_word, say, say_misuse};
 use crate::words::is_help;
@@ -297,7 +297,7 @@ fn format_all(alloc: Global, asked: &Asked<'_>, host: &mut Host) -> Result<Answe
         errors,
         status,
     } = answer;
-    let out = shown(alloc, out, host.rt.stdout().is_terminal())?;
+    let out = escaped(alloc, out, host.rt.stdout().is_terminal())?;
     Ok(Answer {
         out,
         errors,

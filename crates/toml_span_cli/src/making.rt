@@ -1,7 +1,7 @@
 //! Makes edits in the text of a file.
 ghost use Rattle.std.specs.Str.{IsValidUpTo};
 
-use crate::changes::{Change, Task};
+use crate::changes::{Action, PathEdit};
 use std::alloc::{AllocError, Global};
 use std::borrow::CowStr;
 use std::fmt::Write;
@@ -27,7 +27,7 @@ enum Kind {
 /// A change with the segments of its paths.
 #[derive(Drop)]
 struct Located<'w> {
-    change: Change<'w>,
+    change: PathEdit<'w>,
     path: Vec<CowStr<'w>>,
     /// The segments of the path to which a value is moved. Empty for other changes.
     target: Vec<CowStr<'w>>,
@@ -45,7 +45,7 @@ struct Prepared<'w> {
 }
 
 /// Returns the segments of a path, or an empty list if the path can't be read. The caller checks paths with
-/// `Change::wrong_path`.
+/// `PathEdit::wrong_path`.
 fn segments_of<'w>(alloc: Global, path: &'w str) -> Result<Vec<CowStr<'w>>, AllocError> {
     match path_segments(alloc, path) {
         Ok(segments) => Ok(segments),
@@ -65,23 +65,23 @@ fn value_of(alloc: Global, value: &str, is_string: bool) -> Result<String, Alloc
     }
 }
 
-/// Returns the kind of the edit for a task.
-fn kind_of(task: Task<'_>) -> Kind {
-    match task {
-        Task::Set(_) => Kind::Set,
-        Task::Rename(_) => Kind::Rename,
-        Task::Remove => Kind::Remove,
-        Task::Add(_, _) => Kind::Add,
-        Task::Append(_) => Kind::Append,
-        Task::Insert(_) => Kind::Insert,
-        Task::Move(_) => Kind::Move,
+/// Returns the kind of the edit for an action.
+fn kind_of(action: Action<'_>) -> Kind {
+    match action {
+        Action::Set(_) => Kind::Set,
+        Action::Rename(_) => Kind::Rename,
+        Action::Remove => Kind::Remove,
+        Action::Add(_, _) => Kind::Add,
+        Action::Append(_) => Kind::Append,
+        Action::Insert(_) => Kind::Insert,
+        Action::Move(_) => Kind::Move,
     }
 }
 
 /// Splits the paths of a change into segments.
-fn locate<'w>(alloc: Global, change: &Change<'w>) -> Result<Located<'w>, AllocError> {
-    let target = match change.task {
-        Task::Move(to) => segments_of(alloc, to)?,
+fn locate<'w>(alloc: Global, change: &PathEdit<'w>) -> Result<Located<'w>, AllocError> {
+    let target = match change.action {
+        Action::Move(to) => segments_of(alloc, to)?,
         _ => Vec::new(alloc),
     };
     Ok(Located {
@@ -92,7 +92,7 @@ fn locate<'w>(alloc: Global, change: &Change<'w>) -> Result<Located<'w>, AllocEr
 }
 
 /// Splits the paths of changes into segments.
-fn locate_all<'w>(alloc: Global, changes: &[Change<'w>]) -> Result<Vec<Located<'w>>, AllocError> {
+fn locate_all<'w>(alloc: Global, changes: &[PathEdit<'w>]) -> Result<Vec<Located<'w>>, AllocError> {
     let mut list = Vec::new(alloc);
     for change in changes {
         list.push(locate(alloc, change)?)?;
@@ -107,21 +107,21 @@ fn prepare<'w>(
     is_string: bool,
 ) -> Result<Prepared<'w>, AllocError> {
     let mut prepared = Prepared {
-        kind: kind_of(located.change.task),
+        kind: kind_of(located.change.action),
         path: segment_names(alloc, located.path.as_slice())?,
         target: segment_names(alloc, located.target.as_slice())?,
         value: String::new(alloc),
     };
-    match located.change.task {
-        Task::Set(value) | Task::Append(value) | Task::Insert(value) => {
+    match located.change.action {
+        Action::Set(value) | Action::Append(value) | Action::Insert(value) => {
             prepared.value = value_of(alloc, value, is_string)?;
         }
-        Task::Add(key, value) => {
+        Action::Add(key, value) => {
             prepared.path.push(key)?;
             prepared.value = value_of(alloc, value, is_string)?;
         }
-        Task::Rename(name) => prepared.value = String::from_str(alloc, name)?,
-        Task::Move(_) | Task::Remove => {}
+        Action::Rename(name) => prepared.value = String::from_str(alloc, name)?,
+        Action::Move(_) | Action::Remove => {}
     }
     Ok(prepared)
 }
@@ -246,7 +246,7 @@ fn not_text(alloc: Global, bytes: &[u8], at: usize) -> Result<String, AllocError
 pub(crate) fn new_text(
     alloc: Global,
     bytes: &[u8],
-    changes: &[Change<'_>],
+    changes: &[PathEdit<'_>],
     is_string: bool,
     is_forced: bool,
 ) -> Result<String, Stop<String>> {
