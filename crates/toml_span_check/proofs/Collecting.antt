@@ -4,9 +4,9 @@ use Rattle.std.proofs.lemmas.List.{append-nil}
 use Rattle.toml_span_check.specs.Schemas.{Says}
 use Rattle.toml_span_check.specs.declared.answer.Task.{Task}
 use Rattle.toml_span_check.specs.declared.answer.Task.TheVariants.{Check, Show}
-use Rattle.toml_span_check.specs.declared.faults.Format.{Format}
-use Rattle.toml_span_check.specs.Run.{Asked, Reading, Gathered, Finds, FindsAll, no_name, one_more, Logs, Shows, Collects, CollectsFirst, nothing, answered, unread, none_wrong, together, whole}
-use Rattle.toml_span_check.specs.code.Collected.{Adds, BegunOne, Holds, CollectsAll, CollectsFiles, CollectsOne, TextsOf}
+use Rattle.toml_span_check.specs.declared.formats.Format.{Format}
+use Rattle.toml_span_check.specs.Run.{Asked, Reading, Gathered, LogsSearch, FindsAll, no_name, one_more, Logs, Shows, Collects, CollectsFirst, nothing, answered, unread, none_wrong, together, whole}
+use Rattle.toml_span_check.specs.code.Collected.{AddsFile, BegunOne, Holds, CollectsAll, CollectsFiles, CollectsOne, TextsOf}
 use Rattle.toml_span_check.specs.declared.run.Tally.{Tally}
 use Rattle.toml_span_check.specs.declared.run.Collected.{Collected}
 use Rattle.toml_span_lines.specs.Held.{HoldsRest}
@@ -25,7 +25,7 @@ pub finds-none : (excludes : List (List ℕ)) (log : Option Asked) (files : List
 finds-none excludes log files none = rw none (no_name log)
 
 pub finds-more : (excludes names more : List (List ℕ)) (name : List ℕ) (old mid new : Option Asked) (files found all : List (List ℕ)) →
-    FindsAll excludes names old mid files → more ≡ names ++ name ∷ [] → Finds mid new (excludes, name, found) → all ≡ files ++ found → FindsAll excludes more old new all
+    FindsAll excludes names old mid files → more ≡ names ++ name ∷ [] → LogsSearch mid new (excludes, name, found) → all ≡ files ++ found → FindsAll excludes more old new all
 finds-more excludes names more name old mid new files found all before n search a = rw (n, a) (one_more names old mid new files name found before search)
 
 pub prints-start : (says : Says) (format : Format) (task : Task) (pointer : List ℕ) (log : Option Asked) (out errors : List ℕ) → out ≡ [] → errors ≡ [] →
@@ -34,12 +34,12 @@ prints-start says format task pointer log out errors none silent =
     record { readings = []; asked = refl; logged = logs-none log; gathered = rw (none, silent) nothing }
 
 gathers-more : (says : Says) (format : Format) (task : Task) (pointer : List ℕ) (rs : List Reading) (name : List ℕ) (reading : Result (List ℕ) (List ℕ)) (t u : TextsOf) →
-    Gathered says format task pointer rs t.0 t.1 t.2 t.3 → Adds says format task pointer name reading t u → Gathered says format task pointer (rs ++ (name, reading) ∷ []) u.0 u.1 u.2 u.3
+    Gathered says format task pointer rs t.0 t.1 t.2 t.3 → AddsFile says format task pointer name reading t u → Gathered says format task pointer (rs ++ (name, reading) ∷ []) u.0 u.1 u.2 u.3
 gathers-more says format task pointer rs name (Ok bytes) t u stdout a = rw (a.2, a.3, a.4, a.5) (answered rs t.0 t.1 t.2 t.3 name bytes a.0 stdout a.1)
 gathers-more says format task pointer rs name (Err reason) t u stdout a = rw (a.0, a.1, a.2, a.3) (unread rs t.0 t.1 t.2 t.3 name reason stdout)
 
 pub prints-more : (says : Says) (format : Format) (task : Task) (pointer : List ℕ) (names more : List (List ℕ)) (name : List ℕ) (old mid new : Option Asked) (reading : Result (List ℕ) (List ℕ)) (t u : TextsOf) →
-    Collects says format task pointer names old mid t.0 t.1 t.2 t.3 → more ≡ names ++ name ∷ [] → Logs mid new ((name, reading) ∷ []) → Adds says format task pointer name reading t u →
+    Collects says format task pointer names old mid t.0 t.1 t.2 t.3 → more ≡ names ++ name ∷ [] → Logs mid new ((name, reading) ∷ []) → AddsFile says format task pointer name reading t u →
     Collects says format task pointer more old new u.0 u.1 u.2 u.3
 prints-more says format task pointer names more name old mid new reading t u stdout n l a = record {
   readings = stdout.readings ++ (name, reading) ∷ [];
@@ -67,8 +67,8 @@ written-after a b c all held text h w =
     front-written a c (h.0 ++ text) front.0 (holds-after a b c all held text front.0 h front.1)
 
 adds-after : (says : Says) (format : Format) (task : Task) (pointer name : List ℕ) (reading : Result (List ℕ) (List ℕ)) (held errors : List ℕ) (status : ℕ) (wrong : Tally) (t : TextsOf) (front all : List ℕ) →
-    Adds says format task pointer name reading (held, errors, status, wrong) t → front ++ held ≡ all →
-    Adds says format task pointer name reading (all, errors, status, wrong) (front ++ t.0, t.1, t.2, t.3)
+    AddsFile says format task pointer name reading (held, errors, status, wrong) t → front ++ held ≡ all →
+    AddsFile says format task pointer name reading (all, errors, status, wrong) (front ++ t.0, t.1, t.2, t.3)
 adds-after says format task pointer name reading held errors status wrong t front all a is = grind (arith, nat_tests, common_steps)
 
 -- ---- files, one after another
@@ -106,7 +106,7 @@ shows-next task a b c h k = grind (arith, nat_tests, common_steps)
 
 pub upto-next : (says : Says) (format : Format) (task : Task) (pointer : List ℕ) (names more : List (List ℕ)) (name : List ℕ) (old mid new : Option Asked) (reading : Result (List ℕ) (List ℕ)) (a b c : Option (List ℕ)) (t u : TextsOf) (text : List ℕ) →
     Upto says format task pointer names old mid a b t → more ≡ names ++ name ∷ [] → Logs mid new ((name, reading) ∷ []) →
-    (c ≡ b) ⊎ Shows task → Adds says format task pointer name reading t (text, u.1, u.2, u.3) → Holds task b c text u.0 →
+    (c ≡ b) ⊎ Shows task → AddsFile says format task pointer name reading t (text, u.1, u.2, u.3) → Holds task b c text u.0 →
     Upto says format task pointer more old new a c u
 upto-next says format task pointer names more name old mid new reading a b c t u text before n l kept adds holds =
     let h = before.1.2.0 in (

@@ -7,7 +7,7 @@ use Rattle.toml_span_lines.specs.declared.held.Unwritten.{Unwritten}
 use Rattle.toml_span_lines.specs.declared.held.Unwritten.TheVariants.{Failed, Memory}
 use Rattle.toml_span_check.specs.Schemas.{Says}
 use Rattle.toml_span_check.specs.declared.answer.Task.{Task}
-use Rattle.toml_span_check.specs.declared.faults.Format.{Format}
+use Rattle.toml_span_check.specs.declared.formats.Format.{Format}
 use Rattle.toml_span_check.specs.Run.{Asked, Begins, Runs, IsOutput}
 use Rattle.toml_span_check.specs.code.Collected.{EndsQuiet, CollectsAll}
 use Rattle.toml_span_check.proofs.Statuses.{stdout-small, neither-failed}

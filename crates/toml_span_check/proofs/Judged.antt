@@ -18,7 +18,7 @@ use Rattle.toml_span_check.specs.declared.answer.Verdict.{Verdict}
 use Rattle.toml_span_check.specs.Schemas.{Says}
 use Rattle.toml_span_check.specs.declared.answer.Task.{Task}
 use Rattle.toml_span_check.specs.declared.answer.Task.TheVariants.{Show}
-use Rattle.toml_span_check.specs.declared.faults.Format.{Format}
+use Rattle.toml_span_check.specs.declared.formats.Format.{Format}
 
 -- a text with status 1
 pub with-one : (r : Result (Vec ℕ Global) AllocError) (text : List ℕ) → IfOk r (λ out. out.items ≡ text) → IfOk r (λ out. let a : Answer = (1, out.items, []) in a ≡ (1, text, []))

@@ -1,4 +1,3 @@
-pub mod Commas
 pub mod EncodingLemmas
 pub mod Endings
 pub mod Errors

@@ -3,7 +3,7 @@ use Rattle.toml_span_lex.proofs.Common.{◌≡◌, ◌↔◌, ℕ, ◌≤◌, Bo
 use Rattle.toml_span_check.specs.Run.{Reading, Gathered, nothing, answered, unread}
 use Rattle.toml_span_check.specs.Schemas.{Says}
 use Rattle.toml_span_check.specs.declared.answer.Task.{Task}
-use Rattle.toml_span_check.specs.declared.faults.Format.{Format}
+use Rattle.toml_span_check.specs.declared.formats.Format.{Format}
 use Rattle.toml_span_check.specs.declared.run.Tally.{Tally}
 
 pub stdout-small : (says : Says) (format : Format) (task : Task) (pointer : List ℕ) (rs : List Reading) (out errors : List ℕ) (status : ℕ) (wrong : Tally) → Gathered says format task pointer rs out errors status wrong → status ≤ 2

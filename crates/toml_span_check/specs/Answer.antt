@@ -13,11 +13,11 @@ use Rattle.toml_span_report.specs.Report.{ReportContent, bare}
 use Rattle.toml_span_report.specs.declared.report.Severity.TheVariants as severity
 use Rattle.toml_span_check.specs.Encoding.{not_utf8_report}
 use Rattle.toml_span_check.specs.Every.{Checks}
-use Rattle.toml_span_check.specs.Faults.{fault_text}
+use Rattle.toml_span_check.specs.Formats.{formatted_report}
 use Rattle.toml_span_check.specs.Newer.{Lacks}
 use Rattle.toml_span_check.specs.Schemas.{Says, complaint_weight, errors_in}
-use Rattle.toml_span_check.specs.Shown.{raw, shown}
-use Rattle.toml_span_check.specs.declared.faults.Format.{Format}
+use Rattle.toml_span_check.specs.Shown.{raw, to_json}
+use Rattle.toml_span_check.specs.declared.formats.Format.{Format}
 use Rattle.toml_span_check.specs.declared.newer.Version.{Version}
 use Rattle.toml_span_check.specs.declared.schemas.Chooser.{Chooser}
 use Rattle.toml_span_check.specs.declared.answer.Task.{Task}
@@ -37,7 +37,7 @@ Answer = ℕ × List ℕ × List ℕ
 
 -- the text of an error report about the file as a whole, without a source line
 abbrev pub plain_fault : Format → List ℕ → List ℕ → List ℕ → List ℕ
-plain_fault format code message name = fault_text format (bare severity.Error code message) name []
+plain_fault format code message name = formatted_report format (bare severity.Error code message) name []
 
 abbrev pub nothing_there : Format → List ℕ → List ℕ → Answer
 nothing_there format pointer name =
@@ -45,8 +45,8 @@ nothing_there format pointer name =
 
 -- a value, printed in this form
 abbrev pub formed : Form → Node → List ℕ
-formed Plain n = shown false n ++ codes "\n"
-formed Tagged n = shown true n ++ codes "\n"
+formed Plain n = to_json false n ++ codes "\n"
+formed Tagged n = to_json true n ++ codes "\n"
 formed Items n = tree_lines n
 formed Raw n = raw n ++ codes "\n"
 formed Toml n = value_text n ++ codes "\n"
@@ -58,7 +58,7 @@ found format form pointer name None = nothing_there format pointer name
 
 -- the text of one report, or of several, about a file with this name and source text
 abbrev pub report_text : Format → List ℕ → List ℕ → ReportContent → List ℕ
-report_text format name text r = fault_text format r name text
+report_text format name text r = formatted_report format r name text
 
 abbrev pub reports_text : Format → List ℕ → List ℕ → List ReportContent → List ℕ
 reports_text format name text rs = flat_map (report_text format name text) rs
@@ -98,7 +98,7 @@ too_long format name = (1, plain_fault format (codes "too-long") (codes "the fil
 
 -- the answer for a file that is valid UTF-8 only up to this offset
 abbrev pub not_utf8 : Format → List ℕ → List ℕ → ℕ → Answer
-not_utf8 format name bytes at = (1, fault_text format (not_utf8_report bytes at) name (take at bytes), [])
+not_utf8 format name bytes at = (1, formatted_report format (not_utf8_report bytes at) name (take at bytes), [])
 
 -- The answer for the bytes of a file, which may be longer than 16 MiB, not UTF-8, a document, or not valid TOML.
 pub record IsAnswer (says : Says) (format : Format) (task : Task) (pointer : List ℕ) (name : List ℕ) (bytes : List ℕ)

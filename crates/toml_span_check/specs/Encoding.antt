@@ -2,9 +2,9 @@
 use Rattle.std.specs.Prelude.{ℕ, ◌/◌, ◌%◌, ◌==◌, ◌&&◌, nat_lt, List, [], ◌∷◌, ◌++◌, codes, slice_index}
 use Rattle.std.specs.Prelude.{if◌then◌else◌}
 use Rattle.std.specs.Fmt.{decimal}
+use Rattle.toml_span_lines.specs.Lines.{hex_digit}
 use Rattle.toml_span_report.specs.Report.{ReportContent, bare, with_help, with_primary}
 use Rattle.toml_span_report.specs.declared.report.Severity.TheVariants as severity
-use Rattle.toml_span_check.specs.Sarif.{hex_digit}
 use Rattle.toml_span_check.specs.declared.encoding.Encoding.{Encoding}
 use Rattle.toml_span_check.specs.declared.encoding.Encoding.TheVariants.{LittleEndian, BigEndian, Windows1252, Latin1}
 

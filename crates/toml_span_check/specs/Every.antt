@@ -27,10 +27,10 @@ IsBlanked text copy = (from to : ℕ) × (copy ≡ blank from to text)
 pub record Progress : Type 0 where
   pub places : List ℕ
   pub reports : List ReportContent
-  pub kept : List ℕ
+  pub blanked : List ℕ
 
 abbrev pub nothing : List ℕ → Progress
-nothing text = record { places = []; reports = []; kept = text }
+nothing text = record { places = []; reports = []; blanked = text }
 
 -- the reports, with one more for an error at this offset unless there is a report for that offset already
 abbrev pub with_new : List ReportContent → List ℕ → ReportContent → ℕ → List ReportContent
@@ -40,13 +40,13 @@ with_new reports places report place =
 abbrev pub AddsReport : ReportContent → ℕ → Progress → Progress → Type 0
 AddsReport report place old new =
     (new.reports ≡ with_new old.reports old.places report place) × (new.places ≡ old.places ++ place ∷ [])
-    × (new.kept ≡ old.kept)
+    × (new.blanked ≡ old.blanked)
 
 -- `new` is `old` after one more error.
 pub record Adds (report : ReportContent) (place : ℕ) (old new : Progress) : Type 0 where
   pub reports : new.reports ≡ with_new old.reports old.places report place
   pub places : new.places ≡ old.places ++ place ∷ []
-  pub kept : IsBlanked old.kept new.kept
+  pub blanked : IsBlanked old.blanked new.blanked
 
 -- The error that `parse` returns for the text is added.
 abbrev pub AddsError : List ℕ → Progress → Progress → Type 0
@@ -60,7 +60,7 @@ AddsError text old new =
 pub data Finds (text : List ℕ) : Progress → Type 0 where
   first : (p : Progress) → AddsError text (nothing text) p → Finds text p
   reading : (p q : Progress) (copy : List ℕ) → Finds text p → IsBlanked text copy → AddsError copy p q → Finds text q
-  clash : (p q : Progress) → Finds text p → AddsError p.kept p q → Finds text q
+  clash : (p q : Progress) → Finds text p → AddsError p.blanked p q → Finds text q
 
 -- the maximum number of errors for a text of this length
 abbrev pub most : ℕ → ℕ
@@ -74,6 +74,6 @@ too_many = bare severity.Error (codes "too-many-errors") (codes "too many errors
 -- error, and the last report says so.
 pub data Checks (text : List ℕ) : List ReportContent → Type 0 where
   valid : (root : Value) → IsTree text depth_limit root → Checks text []
-  all : (p : Progress) (root : Value) → Finds text p → IsTree p.kept depth_limit root → Checks text p.reports
-  many : (p : Progress) (error : Error) → Finds text p → IsRefusal p.kept depth_limit (Fault error)
+  all : (p : Progress) (root : Value) → Finds text p → IsTree p.blanked depth_limit root → Checks text p.reports
+  many : (p : Progress) (error : Error) → Finds text p → IsRefusal p.blanked depth_limit (Fault error)
       → most (length text) ≤ length p.places → Checks text (p.reports ++ too_many ∷ [])

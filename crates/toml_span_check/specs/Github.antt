@@ -59,17 +59,17 @@ unfoldable pub columns : ℕ × ℕ → ℕ × ℕ → List ℕ
 columns start end =
     if start.0 == end.0 then codes ",col=" ++ decimal start.1 ++ codes ",endColumn=" ++ decimal end.1 else []
 
-unfoldable pub lines : ℕ × ℕ → ℕ × ℕ → List ℕ
-lines start end =
+unfoldable pub line_properties : ℕ × ℕ → ℕ × ℕ → List ℕ
+line_properties start end =
     codes ",line=" ++ decimal start.0 ++ codes ",endLine=" ++ decimal end.0 ++ columns start end
 
-abbrev pub region : List ℕ → Span → List ℕ
-region text span = lines (line_column text span.start) (line_column text (marked_end text span))
+abbrev pub region_properties : List ℕ → Span → List ℕ
+region_properties text span = line_properties (line_column text span.start) (line_column text (marked_end text span))
 
 -- the line numbers of the first primary label and, if it is on one line, its columns; nothing if no label is primary
 abbrev pub primary_region : List ℕ → List Place → List ℕ
 primary_region text [] = []
-primary_region text (label ∷ labels) = if label.primary then region text label.span else primary_region text labels
+primary_region text (label ∷ labels) = if label.primary then region_properties text label.span else primary_region text labels
 
 -- ---- the line
 

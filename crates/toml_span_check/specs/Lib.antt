@@ -2,9 +2,9 @@ pub mod Answer
 pub mod Dates
 pub mod Encoding
 pub mod Every
-pub mod Faults
 pub mod Fixing
 pub mod Folders
+pub mod Formats
 pub mod Github
 pub mod Lints
 pub mod Newer

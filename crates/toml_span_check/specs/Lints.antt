@@ -1,12 +1,8 @@
 -- The SARIF document of a run of another program, such as a lint.
-use Rattle.std.specs.Prelude.{ℕ, ◌==◌, List, [], ◌∷◌, ◌++◌, if◌then◌else◌}
+use Rattle.std.specs.Prelude.{ℕ, List, ◌++◌}
 use Rattle.toml_span_report.specs.Visible.{quoted}
+use Rattle.toml_span_check.specs.Sarif.{without_comma}
 use Rattle.toml_span_check.specs.declared.lints.TheConstants.{HEAD, RESULTS, TAIL}
-
--- the text without the comma at its start, if there is one
-abbrev pub without_comma : List ℕ → List ℕ
-without_comma [] = []
-without_comma (c ∷ cs) = if c == 44 then cs else c ∷ cs
 
 -- the document for a tool with this name and these results
 unfoldable pub sarif_document : List ℕ → List ℕ → List ℕ

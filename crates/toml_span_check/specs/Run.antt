@@ -17,8 +17,8 @@ use Rattle.toml_span_check.specs.Words.{shown_word}
 use Rattle.toml_span_check.specs.declared.answer.Form.{Form}
 use Rattle.toml_span_check.specs.declared.answer.Task.{Task}
 use Rattle.toml_span_check.specs.declared.answer.Task.TheVariants.{Check, Show}
-use Rattle.toml_span_check.specs.declared.faults.Format.{Format}
-use Rattle.toml_span_check.specs.declared.faults.Format.TheVariants.{Text, Sarif}
+use Rattle.toml_span_check.specs.declared.formats.Format.{Format}
+use Rattle.toml_span_check.specs.declared.formats.Format.TheVariants.{Text, Sarif}
 use Rattle.toml_span_check.specs.declared.run.Tally.{Tally}
 
 -- A search: the patterns of files to leave out, the argument, and the files that were found. For a directory, these are
@@ -32,7 +32,7 @@ Reading = List ℕ × Result (List ℕ) (List ℕ)
 
 abbrev pub read_of : Result (Vec ℕ Global) (String Global) → Result (List ℕ) (List ℕ)
 read_of (Ok bytes) = Ok bytes.items
-read_of (Err words) = Err (string_bytes words)
+read_of (Err reason) = Err (string_bytes reason)
 
 -- the searches and reads so far
 pub record Asked : Type 0 where
@@ -43,26 +43,26 @@ pub record Asked : Type 0 where
 -- message.
 abbrev pub HasReadOrNot : Option (List ℕ) → Option (List ℕ) → Result (List ℕ) (List ℕ) → Type 0
 HasReadOrNot old new (Ok bytes) = HasReadAll old new bytes
-HasReadOrNot old new (Err words) = (bytes : List ℕ) × HasRead old new bytes
+HasReadOrNot old new (Err reason) = (bytes : List ℕ) × HasRead old new bytes
 
 -- a message that says why a file can't be read: for some common kinds of errors a fixed one, otherwise the system's
 abbrev pub IsReason : ErrorKind → List ℕ → Type 0
-IsReason kind.NotFound words = words ≡ codes "no such file"
-IsReason kind.PermissionDenied words = words ≡ codes "permission denied"
-IsReason kind.IsADirectory words = words ≡ codes "no `*.toml` file in this directory"
-IsReason _ words = ⊤
+IsReason kind.NotFound message = message ≡ codes "no such file"
+IsReason kind.PermissionDenied message = message ≡ codes "permission denied"
+IsReason kind.IsADirectory message = message ≡ codes "no `*.toml` file in this directory"
+IsReason _ message = ⊤
 
 -- The second log is the first with one more search. Nothing is required if logs are not known.
-abbrev pub Finds : Option Asked → Option Asked → Search → Type 0
-Finds None new search = ⊤
-Finds (Some asked) new search = new ≡ Some (record asked { searches = asked.searches ++ search ∷ [] })
+abbrev pub LogsSearch : Option Asked → Option Asked → Search → Type 0
+LogsSearch None new search = ⊤
+LogsSearch (Some asked) new search = new ≡ Some (record asked { searches = asked.searches ++ search ∷ [] })
 
 -- The files that the arguments name, also those in directories, in the order of the arguments.
 pub data FindsAll (excludes : List (List ℕ))
     : List (List ℕ) → Option Asked → Option Asked → List (List ℕ) → Type 0 where
   no_name : (log : Option Asked) → FindsAll excludes [] log log []
   one_more : (names : List (List ℕ)) (old mid new : Option Asked) (files : List (List ℕ)) (name : List ℕ)
-      (found : List (List ℕ)) → FindsAll excludes names old mid files → Finds mid new (excludes, name, found)
+      (found : List (List ℕ)) → FindsAll excludes names old mid files → LogsSearch mid new (excludes, name, found)
       → FindsAll excludes (names ++ name ∷ []) old new (files ++ found)
 
 -- The second log is the first with these reads added. Nothing is required if logs are not known.

@@ -1,10 +1,11 @@
 -- The reports of a run as one document in the Static Analysis Results Interchange Format (SARIF), version 2.1.0. Its
 -- rules are a constant text. Each report is a result, on a separate line.
-use Rattle.std.specs.Prelude.{◌≡◌, ◌⊎◌, ℕ, ◌+◌, ◌/◌, ◌%◌, ◌-◌, max, min, Bool, ◌==◌, ◌&&◌, ◌||◌, nat_le, nat_lt}
-use Rattle.std.specs.Prelude.{List, [], ◌∷◌, ◌++◌, codes, drop, length, if◌then◌else◌}
+use Rattle.std.specs.Prelude.{ℕ, ◌/◌, ◌%◌, ◌-◌, max, min, Bool, ◌==◌, ◌&&◌, ◌||◌, nat_le}
+use Rattle.std.specs.Prelude.{List, [], ◌∷◌, ◌++◌, codes, length, if◌then◌else◌}
 use Rattle.std.specs.Fmt.{decimal}
 use Rattle.std.specs.List.{flat_map}
 use Rattle.toml_span_lex.specs.declared.span.Span.{Span}
+use Rattle.toml_span_lines.specs.Lines.{hex_digit}
 use Rattle.toml_span_report.specs.Report.{Place, Repair, ReportContent}
 use Rattle.toml_span_report.specs.declared.report.Severity.{Severity}
 use Rattle.toml_span_report.specs.declared.report.Severity.TheVariants.{Error, Warning, Note}
@@ -24,9 +25,6 @@ abbrev pub is_plain : ℕ → Bool
 is_plain byte =
     (nat_le 65 byte && nat_le byte 90) || (nat_le 97 byte && nat_le byte 122) || (nat_le 48 byte && nat_le byte 57)
     || byte == 45 || byte == 46 || byte == 95 || byte == 126 || byte == 47
-
-abbrev pub hex_digit : ℕ → ℕ
-hex_digit n = if nat_lt n 10 then 48 + n else 55 + n
 
 -- pct-encoded = "%" HEXDIG HEXDIG
 abbrev pub uri_byte : ℕ → List ℕ
@@ -84,12 +82,13 @@ primary_location name text (label ∷ labels) =
 abbrev pub other : List ℕ → List ℕ → Place → List ℕ
 other name text label = if label.primary then [] else codes "," ++ location name text label
 
--- the elements of a list, without the comma before the first
-abbrev pub listed : List ℕ → List ℕ
-listed elements = drop 1 elements
+-- the text without the comma at its start, if there is one
+abbrev pub without_comma : List ℕ → List ℕ
+without_comma [] = []
+without_comma (c ∷ cs) = if c == 44 then cs else c ∷ cs
 
 unfoldable pub related : List ℕ → List ℕ → List Place → List ℕ
-related name text labels = listed (flat_map (other name text) labels)
+related name text labels = without_comma (flat_map (other name text) labels)
 
 unfoldable pub places : List ℕ → List ℕ → List Place → List ℕ
 places name text labels =
@@ -128,8 +127,4 @@ sarif r name text = front r ++ places name text r.labels ++ fixes name text r.re
 -- ---- the document
 
 unfoldable pub document : List ℕ → List ℕ
-document results = HEAD.now ++ listed results ++ TAIL.now
-
--- (for private functions) The list is empty or begins with a comma.
-abbrev pub BeginsWithComma : List ℕ → Type 0
-BeginsWithComma elements = (elements ≡ []) ⊎ ((rest : List ℕ) × (elements ≡ 44 ∷ rest))
+document results = HEAD.now ++ without_comma results ++ TAIL.now

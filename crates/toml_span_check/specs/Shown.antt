@@ -43,8 +43,8 @@ comma_if later = if later then codes "," else []
 
 -- a value as JSON without spaces, `null` for one that has been taken; `is_tagged` says whether scalars have their types
 abbrev mutual
-  pub shown : Bool → Node → List ℕ
-  shown is_tagged (node i span) = inner_shown is_tagged i
+  pub to_json : Bool → Node → List ℕ
+  to_json is_tagged (node i span) = inner_shown is_tagged i
 
   pub inner_shown : Bool → Inner → List ℕ
   inner_shown is_tagged taken = codes "null"
@@ -55,12 +55,12 @@ abbrev mutual
   -- the elements with the closing bracket; `later` says whether an element precedes them
   pub items_shown : Bool → Bool → Items → List ℕ
   items_shown is_tagged later no_items = codes "]"
-  items_shown is_tagged later (item n ns) = comma_if later ++ shown is_tagged n ++ items_shown is_tagged true ns
+  items_shown is_tagged later (item n ns) = comma_if later ++ to_json is_tagged n ++ items_shown is_tagged true ns
 
   pub members_shown : Bool → Bool → Members → List ℕ
   members_shown is_tagged later no_members = codes "}"
   members_shown is_tagged later (member name key n ms) =
-      comma_if later ++ quoted name ++ codes ":" ++ shown is_tagged n ++ members_shown is_tagged true ms
+      comma_if later ++ quoted name ++ codes ":" ++ to_json is_tagged n ++ members_shown is_tagged true ms
 
 -- a string, float, date or time as its text, and any other value as JSON
 abbrev pub raw_inner : Inner → List ℕ

@@ -1,18 +1,15 @@
 -- Command-line arguments as texts, even if they are not valid UTF-8.
 use Rattle.std.specs.Prelude.{ℕ, ◌/◌, ◌%◌, Bool, ◌==◌, nat_lt, List, [], ◌∷◌, ◌++◌, codes, encode_utf8, if◌then◌else◌}
-use Rattle.std.specs.Char.{digit_char}
 use Rattle.std.specs.List.{flat_map, list_any}
 use Rattle.std.specs.Str.{chars, is_utf8}
-
-abbrev pub digit : ℕ → List ℕ
-digit n = encode_utf8 (digit_char n)
+use Rattle.toml_span_places.specs.Quoted.{digit}
 
 -- an ASCII byte as it is, any other as NUL, `x` and two hexadecimal digits
-abbrev pub byte_text : ℕ → List ℕ
-byte_text byte = if nat_lt byte 128 then byte ∷ [] else codes "\0x" ++ digit (byte / 16) ++ digit (byte % 16)
+abbrev pub word_byte : ℕ → List ℕ
+word_byte byte = if nat_lt byte 128 then byte ∷ [] else codes "\0x" ++ digit (byte / 16) ++ digit (byte % 16)
 
 abbrev pub bytes_text : List ℕ → List ℕ
-bytes_text word = flat_map byte_text word
+bytes_text word = flat_map word_byte word
 
 -- An argument as a text. Arguments do not contain NUL, so a NUL is only in the text of one that is not valid UTF-8.
 abbrev pub word_text : List ℕ → List ℕ

@@ -11,7 +11,7 @@ ghost use Rattle.toml_span_check.specs.code.Judged.{Judges, JudgesText};
 
 use crate::encoding::not_utf8;
 use crate::every::errors_from;
-use crate::faults::{Format, fault_text};
+use crate::formats::{Format, formatted_report};
 use crate::newer::{Version, version_reports};
 use crate::schemas::{Chooser, Schemas, complaint_weight, with_errors};
 use crate::sums::sum_of;
@@ -79,7 +79,7 @@ fn plain_fault(
     ensures { IfOk result (λ out. out.items ≡ spec.plain_fault format code.now message.now name.now) }
 {
     let report = Report::error(alloc, code, message)?;
-    Ok(fault_text(alloc, format, &report, name, "")?.into_bytes())
+    Ok(formatted_report(alloc, format, &report, name, "")?.into_bytes())
 }
 
 /// Appends the text of each report in this format. `text` is the source of the file `name`.
@@ -95,7 +95,7 @@ fn push_reports(
         ++ spec.reports_text format name.now text.now (map report_content reports.now)) }
 {
     for report in reports {
-        let next = fault_text(alloc, format, report, name, text)?;
+        let next = formatted_report(alloc, format, report, name, text)?;
         out.push_str(next.as_str())?;
     }
     Ok(())
@@ -196,7 +196,7 @@ fn not_utf8_fault(
     ensures { IfOk result (λ out. out.items ≡ (spec.not_utf8 format name.now bytes.now at).1) }
 {
     let (report, text) = not_utf8(alloc, bytes, at)?;
-    Ok(fault_text(alloc, format, &report, name, text)?.into_bytes())
+    Ok(formatted_report(alloc, format, &report, name, text)?.into_bytes())
 }
 
 /// The result for one file.

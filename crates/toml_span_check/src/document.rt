@@ -6,8 +6,8 @@ ghost use Rattle.toml_span_tree.specs.Value.{view};
 ghost use Rattle.toml_span_check.specs.Answer.{formed, found};
 
 use crate::answer::{Form, nothing_there};
-use crate::faults::Format;
-use crate::shown::{raw, shown};
+use crate::formats::Format;
+use crate::shown::{raw, to_json};
 use std::alloc::{AllocError, Global};
 use toml_span::{Stop, Value};
 use toml_span_lines::held::{Unwritten, write_held};
@@ -38,8 +38,8 @@ fn write_value<W: Sink>(
         (held.old.items ++ formed form (view value.now)) held.new.items }
 {
     match form {
-        Form::Plain => push_line(shown(alloc, value, false)?, held)?,
-        Form::Tagged => push_line(shown(alloc, value, true)?, held)?,
+        Form::Plain => push_line(to_json(alloc, value, false)?, held)?,
+        Form::Tagged => push_line(to_json(alloc, value, true)?, held)?,
         Form::Raw => push_line(raw(alloc, value)?, held)?,
         Form::Toml => push_line(to_toml(alloc, value)?, held)?,
         Form::Items => return write_lines(alloc, writer, held, value),

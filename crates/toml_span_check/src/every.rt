@@ -6,7 +6,7 @@ ghost use Rattle.toml_span_read.specs.Data.{depth_limit};
 ghost use Rattle.toml_span_report.specs.Report.{report_content};
 ghost use Rattle.toml_span_check.specs.Every as spec;
 ghost use Rattle.toml_span_check.specs.Every.{Adds, AddsReport, Checks, Finds, IsBlanked};
-ghost use Rattle.toml_span_check.specs.code.Every.{IsErrorOf, Judges, progress};
+ghost use Rattle.toml_span_check.specs.code.Every.{IsErrorOf, IsNextError, progress};
 
 use crate::statements::{Statement, is_clash, statement_of};
 use std::alloc::{AllocError, Global};
@@ -36,7 +36,7 @@ struct ErrorAt {
 #[derive(Drop)]
 struct Found {
     /// The text, with spaces in place of the statements with errors.
-    kept: String,
+    blanked: String,
     /// The byte offsets at which the errors' spans start.
     places: Vec<usize>,
     reports: Vec<Report>,
@@ -86,7 +86,7 @@ fn error_at(
 /// Parses a text. Returns the report of its error, with the statement that contains the error, or `None` if the text
 /// has no error. The search for the statement begins at the offset `from`, where a statement must begin.
 fn next_error(alloc: Global, text: &str, from: usize) -> Result<Option<ErrorAt>, AllocError>
-    ensures { IfOk result (Judges text.now) }
+    ensures { IfOk result (IsNextError text.now) }
 {
     match parse(alloc, text) {
         Ok(_) => Ok(None),
@@ -121,8 +121,12 @@ fn with_error(alloc: Global, mut found: Found, next: ErrorAt) -> Result<Found, A
         is_clash: _,
         statement,
     } = next;
-    let kept = blanked(alloc, found.kept.as_str(), statement.start, statement.end)?;
-    found.kept = kept;
+    found.blanked = blanked(
+        alloc,
+        found.blanked.as_str(),
+        statement.start,
+        statement.end,
+    )?;
     push_new(&mut found, report, place)?;
     Ok(found)
 }
@@ -172,19 +176,19 @@ fn with_too_many(alloc: Global, mut reports: Vec<Report>) -> Result<Vec<Report>,
     Ok(reports)
 }
 
-/// Returns the reports of `found`, and those of the errors that remain in `found.kept`. If there are more errors than
-/// the maximum, the last report says so.
+/// Returns the reports of `found`, and those of the errors that remain in `found.blanked`. If there are more errors
+/// than the maximum, the last report says so.
 fn with_clashes(alloc: Global, mut found: Found, text: &str) -> Result<Vec<Report>, AllocError>
     requires { Finds text.now (progress found) }
     ensures { IfOk result (λ reports. Checks text.now (map report_content reports.items)) }
 {
     'clashes: while !is_full(&found, text.len()) {
-        match next_error(alloc, found.kept.as_str(), 0)? {
+        match next_error(alloc, found.blanked.as_str(), 0)? {
             Some(next) => found = with_error(alloc, found, next)?,
             None => return Ok(found.reports),
         }
     }
-    match next_error(alloc, found.kept.as_str(), 0)? {
+    match next_error(alloc, found.blanked.as_str(), 0)? {
         Some(_) => with_too_many(alloc, found.reports),
         None => Ok(found.reports),
     }
@@ -200,7 +204,7 @@ pub(crate) fn errors_from(
     ensures { IfOk result (λ reports. Checks text.now (map report_content reports.items)) }
 {
     let nothing = Found {
-        kept: String::from_str(alloc, text)?,
+        blanked: String::from_str(alloc, text)?,
         places: Vec::new(alloc),
         reports: Vec::new(alloc),
     };
@@ -230,8 +234,7 @@ pub fn check(alloc: Global, text: &str) -> Result<Vec<Report>, AllocError>
         Ok(_) => Ok(Vec::new(alloc)),
         Err(stop) => {
             let error = stop.fault()?;
-            let reports = errors_from(alloc, text, &error)?;
-            Ok(reports)
+            errors_from(alloc, text, &error)
         }
     }
 }

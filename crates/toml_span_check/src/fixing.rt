@@ -1,5 +1,5 @@
 //! Fixes errors with the safe replacements of their reports.
-ghost use Rattle.std.specs.Prelude.{◌≡◌, ◌+◌, IfOk, map, option_map, string_bytes};
+ghost use Rattle.std.specs.Prelude.{◌≡◌, ◌+◌, ◌++◌, IfOk, OnOk, map, option_map, string_bytes};
 ghost use Rattle.toml_span_tree.specs.Error.{content_of};
 ghost use Rattle.toml_span_places.specs.Replace.{edit_of};
 ghost use Rattle.toml_span_report.specs.Report.{repair_of};
@@ -56,17 +56,29 @@ fn first_place(repairs: &[Repair]) -> (usize, usize)
     }
 }
 
-/// Converts the replacements of a report to those that `replace_all` takes.
-fn edits_of<'r>(alloc: Global, repairs: &'r [Repair]) -> Result<Vec<Replacement<'r>>, AllocError>
-    ensures { IfOk result (λ edits. map edit_of edits.items ≡ spec.edits (map repair_of repairs.now)) }
+/// Appends the replacements of a report, converted for `replace_all`, to `edits`.
+pub(crate) fn push_edits<'r>(
+    repairs: &'r [Repair],
+    edits: &mut Vec<Replacement<'r>>,
+) -> Result<(), AllocError>
+    ensures { OnOk result (map edit_of edits.new.items ≡ map edit_of edits.old.items
+        ++ spec.edits (map repair_of repairs.now)) }
 {
-    let mut edits = Vec::new(alloc);
     for repair in repairs {
         edits.push(Replacement {
             span: repair.span,
             text: repair.text.as_str(),
         })?;
     }
+    Ok(())
+}
+
+/// Converts the replacements of a report to those that `replace_all` takes.
+fn edits_of<'r>(alloc: Global, repairs: &'r [Repair]) -> Result<Vec<Replacement<'r>>, AllocError>
+    ensures { IfOk result (λ edits. map edit_of edits.items ≡ spec.edits (map repair_of repairs.now)) }
+{
+    let mut edits = Vec::new(alloc);
+    push_edits(repairs, &mut edits)?;
     Ok(edits)
 }
 

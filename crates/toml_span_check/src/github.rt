@@ -124,13 +124,13 @@ fn push_columns(
 
 /// Appends the line numbers of a region and, if it has only one line, its columns. `start` and `end` are pairs of a
 /// line and a column, counted from 1. The region ends before `end`.
-#[tactic(auto, unfolding(crate::specs::Github::lines))]
+#[tactic(auto, unfolding(crate::specs::Github::line_properties))]
 fn push_lines(
     out: &mut String,
     start: (usize, usize),
     end: (usize, usize),
 ) -> Result<(), AllocError>
-    ensures { OnOk result (string_bytes out.new ≡ string_bytes out.old ++ spec.lines start end) }
+    ensures { OnOk result (string_bytes out.new ≡ string_bytes out.old ++ spec.line_properties start end) }
 {
     push_number(out, ",line=", start.0)?;
     push_number(out, ",endLine=", end.0)?;
@@ -139,7 +139,7 @@ fn push_lines(
 
 /// Appends the line numbers of a span in the source `text` and, if the span is on one line, its columns.
 fn push_region(out: &mut String, text: &str, span: Span) -> Result<(), AllocError>
-    ensures { OnOk result (string_bytes out.new ≡ string_bytes out.old ++ spec.region text.now span) }
+    ensures { OnOk result (string_bytes out.new ≡ string_bytes out.old ++ spec.region_properties text.now span) }
 {
     let start = line_column(text, span.start);
     let end = line_column(text, marked_end(text, span));

@@ -1,7 +1,7 @@
 //! Finds and reads files.
 ghost use Rattle.std.specs.Prelude.{◌≡◌, ◌∷◌, [], IfOk, Option, None, false, map, string_bytes};
 ghost use Rattle.std.specs.IoError.{error_kind};
-ghost use Rattle.toml_span_check.specs.Run.{Asked, Finds, HasReadOrNot, IsReason, Logs, read_of};
+ghost use Rattle.toml_span_check.specs.Run.{Asked, LogsSearch, HasReadOrNot, IsReason, Logs, read_of};
 
 use crate::folder::{files_below, is_folder};
 use crate::words::is_bytes;
@@ -27,7 +27,7 @@ pub trait Inputs {
         excludes: &[&str],
         name: &str,
     ) -> Result<Vec<String>, AllocError>
-        ensures { IfOk result (λ found. Finds (log self.old) (log self.new)
+        ensures { IfOk result (λ found. LogsSearch (log self.old) (log self.new)
             (map (λ pattern. pattern.now) excludes.now, name.now, map (λ file. string_bytes file) found.items)) };
 
     /// Returns the bytes of a file, or a message that says why the file can't be read. If the file is longer than 16
@@ -39,7 +39,7 @@ pub trait Inputs {
 /// Returns a message that says why a file can't be read: a short one for common reasons, otherwise the system's
 /// message.
 fn reason(alloc: Global, error: &io::Error) -> Result<String, AllocError>
-    ensures { IfOk result (λ words. IsReason (error_kind error.now) (string_bytes words)) }
+    ensures { IfOk result (λ message. IsReason (error_kind error.now) (string_bytes message)) }
 {
     match error.kind() {
         ErrorKind::NotFound => String::from_str(alloc, "no such file"),

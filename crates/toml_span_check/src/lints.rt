@@ -6,7 +6,7 @@ ghost use Rattle.toml_span_check.specs.Sarif as sarif_spec;
 ghost use Rattle.toml_span_report.specs.Report.{report_content};
 
 use crate::github::github;
-use crate::sarif::sarif;
+use crate::sarif::{sarif, without_comma};
 use std::alloc::{AllocError, Global};
 use toml_span_report::Report;
 use toml_span_report::visible::push_quoted;
@@ -67,14 +67,4 @@ pub fn sarif_document(alloc: Global, tool: &str, results: &str) -> Result<String
     out.push_str(without_comma(results))?;
     out.push_str(TAIL)?;
     Ok(out)
-}
-
-/// Returns `text` without the comma at its start, if there is one.
-fn without_comma(text: &str) -> &str
-    ensures { result.now ≡ spec.without_comma text.now }
-{
-    match text.strip_prefix(',') {
-        Some(rest) => rest,
-        None => text,
-    }
 }

@@ -1,18 +1,20 @@
 //! Checks documents as TOML 1.0: reports and replaces *newer forms*, which are syntax that TOML 1.0 lacks.
-ghost use Rattle.std.specs.Prelude.{◌≡◌, ◌++◌, IfOk, OnOk, map, string_bytes};
+ghost use Rattle.std.specs.Prelude.{◌≡◌, IfOk, map, string_bytes};
 ghost use Rattle.toml_span_places.specs.Replace.{edit_of};
-ghost use Rattle.toml_span_report.specs.Report.{repair_of, report_content};
-ghost use Rattle.toml_span_check.specs.Fixing.{edits as edits_of};
+ghost use Rattle.toml_span_report.specs.Report.{report_content};
 ghost use Rattle.toml_span_check.specs.Newer as spec;
 
-use crate::fixing::Fixed;
+use crate::fixing::{Fixed, push_edits};
 use std::alloc::{AllocError, Global};
 use toml_span::Stop;
 use toml_span_lex::span::Span;
 use toml_span_places::{NewerForm, NewerKind, Replacement, newer_forms, replace_all};
 use toml_span_read::gaps::byte_at;
 use toml_span_read::read_sections;
-use toml_span_report::{Replacement as Repair, Report};
+use toml_span_report::Report;
+
+/// The limit on the depth of values and on the number of parts of a key, as in `parse`.
+const DEPTH_LIMIT: usize = 128;
 
 /// The version of TOML that documents are checked against.
 #[derive(Clone, Copy, PartialEq, Eq)]
@@ -174,7 +176,7 @@ fn reports_of(
 pub fn newer_reports(alloc: Global, text: &str, is_default: bool) -> Result<Vec<Report>, AllocError>
     ensures { IfOk result (λ reports. spec.AreNewer text.now is_default (map report_content reports.items)) }
 {
-    let sections = match read_sections(alloc, text, 128) {
+    let sections = match read_sections(alloc, text, DEPTH_LIMIT) {
         Ok(sections) => sections,
         Err(Stop::Fault(_)) => return Ok(Vec::new(alloc)),
         Err(Stop::Memory(error)) => return Err(error),
@@ -198,20 +200,6 @@ pub fn version_reports(
     } else {
         Ok(Vec::new(alloc))
     }
-}
-
-/// Appends the replacements, converted for `replace_all`, to `edits`.
-fn push_edits<'r>(repairs: &'r [Repair], edits: &mut Vec<Replacement<'r>>) -> Result<(), AllocError>
-    ensures { OnOk result (map edit_of edits.new.items ≡ map edit_of edits.old.items
-        ++ edits_of (map repair_of repairs.now)) }
-{
-    for repair in repairs {
-        edits.push(Replacement {
-            span: repair.span,
-            text: repair.text.as_str(),
-        })?;
-    }
-    Ok(())
 }
 
 /// Returns the replacements of all reports, converted for `replace_all`.

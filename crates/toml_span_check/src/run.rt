@@ -7,7 +7,7 @@ ghost use Rattle.toml_span_check.specs.code.Collected.{CollectsOne};
 
 use crate::answer::{Judged, Task, Verdict, judge};
 use crate::document::{place_of, show};
-use crate::faults::Format;
+use crate::formats::Format;
 use crate::input::Inputs;
 use crate::sarif::document;
 use crate::schemas::Schemas;

@@ -4,8 +4,8 @@ ghost use Rattle.std.specs.Prelude.{◌≡◌, ◌<◌, ◌≤◌, ◌++◌, OnO
 ghost use Rattle.std.specs.List.{flat_map};
 ghost use Rattle.toml_span_tree.specs.Diagnostic.{label_content};
 ghost use Rattle.toml_span_report.specs.Report.{repair_of, report_content};
+ghost use Rattle.toml_span_lines.specs.Lines as lines_spec;
 ghost use Rattle.toml_span_check.specs.Sarif as spec;
-ghost use Rattle.toml_span_check.specs.Sarif.{BeginsWithComma};
 
 use crate::github::push_number;
 use std::alloc::{AllocError, Global};
@@ -96,7 +96,7 @@ fn is_plain(byte: u8) -> bool
 /// Returns the upper-case hexadecimal digit of a number below 16.
 pub(crate) fn hex_digit(number: u8) -> u8
     requires { number < 16 }
-    ensures { result ≡ spec.hex_digit number }
+    ensures { result ≡ lines_spec.hex_digit number }
 {
     if number < 10 {
         b'0' + number
@@ -273,13 +273,13 @@ fn others(alloc: Global, name: &str, text: &str, labels: &[Label<()>]) -> Result
     Ok(out)
 }
 
-/// Returns the elements of a list without the comma before the first one.
-fn listed(elements: &[u8]) -> &[u8]
-    ensures { result.now ≡ spec.listed elements.now }
+/// Returns `text` without the comma at its start, if there is one.
+pub(crate) fn without_comma(text: &str) -> &str
+    ensures { result.now ≡ spec.without_comma text.now }
 {
-    match elements.split_first() {
-        Some((_comma, rest)) => rest,
-        None => elements,
+    match text.strip_prefix(',') {
+        Some(rest) => rest,
+        None => text,
     }
 }
 
@@ -297,18 +297,8 @@ fn push_front(alloc: Global, out: &mut String, report: &Report) -> Result<(), Al
     Ok(())
 }
 
-/// Appends the elements of a list, without the comma before the first one.
-fn push_listed(out: &mut String, elements: &str) -> Result<(), AllocError>
-    requires { BeginsWithComma elements.now }
-    ensures { OnOk result (string_bytes out.new ≡ string_bytes out.old ++ spec.listed elements.now) }
-{
-    match elements.strip_prefix(',') {
-        Some(rest) => out.push_str(rest),
-        None => Ok(()),
-    }
-}
-
 /// Appends the locations of the secondary labels, separated by commas.
+#[tactic(auto, unfolding(crate::specs::Sarif::related))]
 fn push_related(
     alloc: Global,
     out: &mut String,
@@ -320,8 +310,7 @@ fn push_related(
         ++ spec.related name.now text.now (map label_content labels.now)) }
 {
     let others = others(alloc, name, text, labels)?;
-    push_listed(out, others.as_str())?;
-    Ok(())
+    out.push_str(without_comma(others.as_str()))
 }
 
 /// Appends two members of an object: the location that `push_place` appends, and those of the secondary labels.
@@ -348,15 +337,15 @@ fn push_replacement(
     alloc: Global,
     out: &mut String,
     text: &str,
-    fix: &Replacement,
+    replacement: &Replacement,
 ) -> Result<(), AllocError>
     ensures { OnOk result (string_bytes out.new ≡ string_bytes out.old
-        ++ spec.replacement text.now (repair_of fix.now)) }
+        ++ spec.replacement text.now (repair_of replacement.now)) }
 {
     out.push_str("{\"deletedRegion\":")?;
-    push_region(out, text, fix.span)?;
+    push_region(out, text, replacement.span)?;
     out.push_str(",\"insertedContent\":{\"text\":")?;
-    push_quoted(alloc, out, fix.text.as_str())?;
+    push_quoted(alloc, out, replacement.text.as_str())?;
     out.push_str("}}")?;
     Ok(())
 }
@@ -366,14 +355,14 @@ fn push_replacements(
     alloc: Global,
     out: &mut String,
     text: &str,
-    fixes: &[Replacement],
+    replacements: &[Replacement],
 ) -> Result<(), AllocError>
     ensures { OnOk result (string_bytes out.new ≡ string_bytes out.old
-        ++ flat_map (λ fix. codes "," ++ spec.replacement text.now fix) (map repair_of fixes.now)) }
+        ++ flat_map (λ fix. codes "," ++ spec.replacement text.now fix) (map repair_of replacements.now)) }
 {
-    for fix in fixes {
+    for replacement in replacements {
         out.push_str(",")?;
-        push_replacement(alloc, out, text, fix)?;
+        push_replacement(alloc, out, text, replacement)?;
     }
     Ok(())
 }
@@ -405,12 +394,12 @@ fn push_fixes(
     out: &mut String,
     name: &str,
     text: &str,
-    fixes: &[Replacement],
+    replacements: &[Replacement],
 ) -> Result<(), AllocError>
     ensures { OnOk result (string_bytes out.new ≡ string_bytes out.old
-        ++ spec.fixes name.now text.now (map repair_of fixes.now)) }
+        ++ spec.fixes name.now text.now (map repair_of replacements.now)) }
 {
-    match fixes {
+    match replacements {
         [first, more @ ..] => push_change(alloc, out, name, text, first, more),
         [] => Ok(()),
     }
@@ -435,10 +424,13 @@ pub(crate) fn sarif(
 
 /// Returns the concatenation of `head`, the elements without the comma before the first one, and `tail`.
 fn between(alloc: Global, head: &str, elements: &[u8], tail: &str) -> Result<Vec<u8>, AllocError>
-    ensures { IfOk result (λ out. out.items ≡ head.now ++ spec.listed elements.now ++ tail.now) }
+    ensures { IfOk result (λ out. out.items ≡ head.now ++ spec.without_comma elements.now ++ tail.now) }
 {
     let mut out = Vec::from_slice(alloc, head.as_bytes())?;
-    out.extend_from_slice(listed(elements))?;
+    match elements {
+        [b',', rest @ ..] => out.extend_from_slice(rest)?,
+        _ => out.extend_from_slice(elements)?,
+    }
     out.extend_from_slice(tail.as_bytes())?;
     Ok(out)
 }

@@ -91,7 +91,7 @@ pub(crate) struct Shape {
 /// Appends a value as JSON. A value that has been taken is `null`.
 #[cycle(push_value)]
 fn push_value(shape: Shape, out: &mut String, value: &Value<'_>) -> Result<(), AllocError>
-    ensures { OnOk result (string_bytes out.new ≡ string_bytes out.old ++ spec.shown shape.is_tagged (view value.now)) }
+    ensures { OnOk result (string_bytes out.new ≡ string_bytes out.old ++ spec.to_json shape.is_tagged (view value.now)) }
 {
     if value.is_taken() {
         out.push_str("null")?;
@@ -148,8 +148,12 @@ fn push_entries(shape: Shape, out: &mut String, table: &Table<'_>) -> Result<(),
 }
 
 /// Returns a value as JSON. If `is_tagged`, scalars have their types.
-pub(crate) fn shown(alloc: Global, value: &Value<'_>, is_tagged: bool) -> Result<String, AllocError>
-    ensures { IfOk result (λ out. string_bytes out ≡ spec.shown is_tagged (view value.now)) }
+pub(crate) fn to_json(
+    alloc: Global,
+    value: &Value<'_>,
+    is_tagged: bool,
+) -> Result<String, AllocError>
+    ensures { IfOk result (λ out. string_bytes out ≡ spec.to_json is_tagged (view value.now)) }
 {
     let mut out = String::new(alloc);
     push_value(Shape { alloc, is_tagged }, &mut out, value)?;
@@ -167,6 +171,6 @@ pub(crate) fn raw(alloc: Global, value: &Value<'_>) -> Result<String, AllocError
         ValueInner::String(text) => String::from_str(alloc, text.as_ref()),
         ValueInner::Float(float) => String::from_str(alloc, float.text()),
         ValueInner::Datetime(date) => String::from_str(alloc, date.text()),
-        _ => shown(alloc, value, false),
+        _ => to_json(alloc, value, false),
     }
 }

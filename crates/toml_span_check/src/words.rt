@@ -15,7 +15,7 @@ fn push_digit(text: &mut String, digit: u8) -> Result<(), AllocError>
 
 /// Appends a byte of an argument: an ASCII byte as it is, any other byte as NUL, `x` and two hexadecimal digits.
 fn push_byte(text: &mut String, byte: u8) -> Result<(), AllocError>
-    ensures { OnOk result (string_bytes text.new ≡ string_bytes text.old ++ spec.byte_text byte) }
+    ensures { OnOk result (string_bytes text.new ≡ string_bytes text.old ++ spec.word_byte byte) }
 {
     if byte < 128 {
         return text.push(byte as char);

@@ -3,32 +3,32 @@ use Rattle.std.specs.Prelude.{◌≡◌, ◌⊎◌, ℕ, Bool, true, List, Optio
 use Rattle.std.specs.Io.KnownBytes.{Keeps}
 use Rattle.toml_span_lines.specs.Run.{HasWritten}
 use Rattle.toml_span_check.specs.declared.answer.Task.{Task}
-use Rattle.toml_span_check.specs.declared.faults.Format.{Format}
+use Rattle.toml_span_check.specs.declared.formats.Format.{Format}
 use Rattle.toml_span_cli.specs.Options.{Asks}
 use Rattle.toml_span_lookup.specs.Findings.{file_says}
 use Rattle.toml_span_cli.specs.Start.{Starts}
-use Rattle.toml_span_cli.specs.declared.options.Reader.TheVariants as readers
+use Rattle.toml_span_cli.specs.declared.options.Query.TheVariants as queries
 
 -- the arguments have the option `--fix`
 abbrev pub AsksForFixing : List (List ℕ) → Bool → Type 0
-AsksForFixing words is_terminal =
+AsksForFixing words auto_is_coloured =
     (format : Format) × (task : Task) × (pointer : List ℕ) × (excludes names : List (List ℕ)) × (is_quiet : Bool)
-    × Asks readers.Check words is_terminal format task pointer excludes names is_quiet true
+    × Asks queries.Check words auto_is_coloured format task pointer excludes names is_quiet true
 
 -- After files have been fixed, a line is written which says how many errors were fixed, and the files are checked. If a
 -- fixed file or this line can't be written (status 3), no file is checked.
 abbrev pub ChecksFixed : List (List ℕ) → Bool → Bool → Option (List ℕ) → Option (List ℕ) → Bool → Option (List ℕ)
     → Option (List ℕ) → Bool → ℕ → Type 0
-ChecksFixed words is_terminal is_watched stdout stdout' out_failed stderr stderr' err_failed status =
+ChecksFixed words auto_is_coloured is_watched stdout stdout' out_failed stderr stderr' err_failed status =
     (line : List ℕ) × (mid : Option (List ℕ)) × HasWritten stderr mid line
-    × (Starts file_says readers.Check words is_terminal is_watched None None stdout stdout' out_failed mid stderr' err_failed
+    × (Starts file_says queries.Check words auto_is_coloured is_watched None None stdout stdout' out_failed mid stderr' err_failed
     status
     ⊎ ((status ≡ 3) × Keeps stdout stdout' × (mid ≡ stderr')))
 
-abbrev pub Checks : List (List ℕ) → Bool → Bool → Option (List ℕ) → Option (List ℕ) → Bool → Option (List ℕ)
+abbrev pub PerformsCheck : List (List ℕ) → Bool → Bool → Option (List ℕ) → Option (List ℕ) → Bool → Option (List ℕ)
     → Option (List ℕ) → Bool → ℕ → Type 0
-Checks words is_terminal is_watched stdout stdout' out_failed stderr stderr' err_failed status =
-    Starts file_says readers.Check words is_terminal is_watched None None stdout stdout' out_failed stderr stderr' err_failed
+PerformsCheck words auto_is_coloured is_watched stdout stdout' out_failed stderr stderr' err_failed status =
+    Starts file_says queries.Check words auto_is_coloured is_watched None None stdout stdout' out_failed stderr stderr' err_failed
     status
-    ⊎ (AsksForFixing words is_terminal
-    × ChecksFixed words is_terminal is_watched stdout stdout' out_failed stderr stderr' err_failed status)
+    ⊎ (AsksForFixing words auto_is_coloured
+    × ChecksFixed words auto_is_coloured is_watched stdout stdout' out_failed stderr stderr' err_failed status)

@@ -3,10 +3,10 @@ use Rattle.std.specs.Prelude.{◌≤◌, ℕ, Bool, true, false, ◌||◌, List,
 use Rattle.std.specs.Prelude.{if◌then◌else◌}
 use Rattle.std.specs.Io.KnownBytes.{Keeps}
 use Rattle.toml_span_check.specs.Schemas.{no_schema}
-use Rattle.toml_span_cli.specs.Check.{Checks}
+use Rattle.toml_span_cli.specs.Check.{PerformsCheck}
 use Rattle.toml_span_cli.specs.Commands.{command_named}
-use Rattle.toml_span_cli.specs.Say.{Says, Warns}
-use Rattle.toml_span_cli.specs.Show.{Shows}
+use Rattle.toml_span_cli.specs.Say.{Prints, Warns}
+use Rattle.toml_span_cli.specs.Show.{PerformsShow}
 use Rattle.toml_span_cli.specs.Start.{Starts}
 use Rattle.toml_span_cli.specs.Words.{is_file, is_help, is_version}
 use Rattle.toml_span_cli.specs.declared.commands.Command.{Command}
@@ -14,7 +14,7 @@ use Rattle.toml_span_cli.specs.declared.commands.Command.TheVariants as commands
 use Rattle.toml_span_cli.specs.declared.dispatch.Request.{Request}
 use Rattle.toml_span_cli.specs.declared.dispatch.Request.TheVariants as requests
 use Rattle.toml_span_cli.specs.declared.help.TheConstants.{HELP, VERSION}
-use Rattle.toml_span_cli.specs.declared.options.Reader.TheVariants as readers
+use Rattle.toml_span_cli.specs.declared.options.Query.TheVariants as queries
 
 -- the request for this command; without a command, a check of files if `is_file`, otherwise an unknown request
 abbrev pub named : Option Command → Bool → Request
@@ -36,11 +36,11 @@ request_of word exists =
 abbrev pub Performs : Command → List (List ℕ) → Bool → Bool → Option (List ℕ) → Option (List ℕ) → Bool → Option (List ℕ)
     → Option (List ℕ) → Bool → ℕ → Type 0
 Performs commands.Check words is_coloured is_watched stdout stdout' out_failed stderr stderr' err_failed status =
-    Checks words is_coloured is_watched stdout stdout' out_failed stderr stderr' err_failed status
+    PerformsCheck words is_coloured is_watched stdout stdout' out_failed stderr stderr' err_failed status
 Performs commands.Get words is_coloured is_watched stdout stdout' out_failed stderr stderr' err_failed status =
-    Starts no_schema readers.Get words is_coloured is_watched None None stdout stdout' out_failed stderr stderr' err_failed status
+    Starts no_schema queries.Get words is_coloured is_watched None None stdout stdout' out_failed stderr stderr' err_failed status
 Performs commands.Show words is_coloured is_watched stdout stdout' out_failed stderr stderr' err_failed status =
-    Shows words stdout stdout' out_failed stderr stderr' err_failed status
+    PerformsShow words stdout stdout' out_failed stderr stderr' err_failed status
 Performs command words is_coloured is_watched stdout stdout' out_failed stderr stderr' err_failed status = status ≤ 4
 
 -- How a request is carried out. A command gets `words` without the program's name, a check of files gets all of
@@ -52,9 +52,9 @@ Answers (requests.Command c) words is_coloured is_watched stdout stdout' out_fai
 Answers requests.Files words is_coloured is_watched stdout stdout' out_failed stderr stderr' err_failed status =
     Performs commands.Check words is_coloured is_watched stdout stdout' out_failed stderr stderr' err_failed status
 Answers requests.Help words is_coloured is_watched stdout stdout' out_failed stderr stderr' err_failed status =
-    Says stdout stdout' out_failed HELP.now 0 status × Keeps stderr stderr'
+    Prints stdout stdout' out_failed HELP.now 0 status × Keeps stderr stderr'
 Answers requests.Version words is_coloured is_watched stdout stdout' out_failed stderr stderr' err_failed status =
-    Says stdout stdout' out_failed VERSION.now 0 status × Keeps stderr stderr'
+    Prints stdout stdout' out_failed VERSION.now 0 status × Keeps stderr stderr'
 Answers requests.Unknown words is_coloured is_watched stdout stdout' out_failed stderr stderr' err_failed status =
     Keeps stdout stdout' × Warns stderr stderr' err_failed 2 status
 
@@ -63,7 +63,7 @@ Answers requests.Unknown words is_coloured is_watched stdout stdout' out_failed 
 abbrev pub AnswersFirst : Option (List ℕ) → List (List ℕ) → Bool → Bool → Option (List ℕ) → Option (List ℕ) → Bool
     → Option (List ℕ) → Option (List ℕ) → Bool → ℕ → Type 0
 AnswersFirst None words is_coloured is_watched stdout stdout' out_failed stderr stderr' err_failed status =
-    Keeps stdout stdout' × Says stderr stderr' err_failed HELP.now 2 status
+    Keeps stdout stdout' × Prints stderr stderr' err_failed HELP.now 2 status
 AnswersFirst (Some word) words is_coloured is_watched stdout stdout' out_failed stderr stderr' err_failed status =
     (exists : Bool)
     × Answers (request_of word exists) words is_coloured is_watched stdout stdout' out_failed stderr stderr' err_failed

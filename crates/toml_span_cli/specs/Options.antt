@@ -14,16 +14,16 @@ use Rattle.toml_span_check.specs.declared.answer.Task.{Task}
 use Rattle.toml_span_check.specs.declared.answer.Task.TheVariants.{Check, Show}
 use Rattle.toml_span_check.specs.declared.answer.Form.{Form}
 use Rattle.toml_span_check.specs.declared.answer.Form.TheVariants as form
-use Rattle.toml_span_check.specs.declared.faults.Format.{Format}
-use Rattle.toml_span_check.specs.declared.faults.Format.TheVariants.{Text, Short, Json, Github, Sarif}
+use Rattle.toml_span_check.specs.declared.formats.Format.{Format}
+use Rattle.toml_span_check.specs.declared.formats.Format.TheVariants.{Text, Short, Json, Github, Sarif}
 use Rattle.toml_span_check.specs.declared.newer.Version.{Version}
 use Rattle.toml_span_check.specs.declared.newer.Version.TheVariants as version
 use Rattle.toml_span_check.specs.declared.schemas.Chooser.{Chooser}
 use Rattle.toml_span_check.specs.declared.schemas.Chooser.TheVariants.{Files, Arguments}
 use Rattle.toml_span_cli.specs.declared.options.Mistake.{Mistake}
 use Rattle.toml_span_cli.specs.declared.options.Mistake.TheVariants as mistake
-use Rattle.toml_span_cli.specs.declared.options.Reader.{Reader}
-use Rattle.toml_span_cli.specs.declared.options.Reader.TheVariants as readers
+use Rattle.toml_span_cli.specs.declared.options.Query.{Query}
+use Rattle.toml_span_cli.specs.declared.options.Query.TheVariants as queries
 use Rattle.toml_span_check.specs.Words.{is_bytes}
 use Rattle.toml_span_cli.specs.Words.{has}
 use Rattle.toml_span_report.specs.declared.Style.{Style}
@@ -36,8 +36,8 @@ abbrev pub flag : List ℕ → Rule
 flag name = record (new_rule name) { long = Some name; action = Some SetTrue }
 
 -- `--NAME VALUE`, with a default
-abbrev pub choice : List ℕ → List ℕ → Rule
-choice name default = record (new_rule name) { long = Some name; defaults = default ∷ [] }
+abbrev pub with_default : List ℕ → List ℕ → Rule
+with_default name default = record (new_rule name) { long = Some name; defaults = default ∷ [] }
 
 -- `--NAME VALUE`, any number of times
 abbrev pub several : List ℕ → Rule
@@ -65,8 +65,8 @@ with_version app = record app { top = record app.top { has_version = true } }
 -- `[--format FORMAT] [--color WHEN]`
 unfoldable pub common : App
 common =
-    with_rule (with_rule (with_version (new_app (codes "toml-span"))) (choice (codes "format") (codes "text")))
-    (choice (codes "color") (codes "auto"))
+    with_rule (with_rule (with_version (new_app (codes "toml-span"))) (with_default (codes "format") (codes "text")))
+    (with_default (codes "color") (codes "auto"))
 
 -- `[--format FORMAT] [--color WHEN] [--schema FILE] [--catalog FILE] [--schema-map URL=FILE].. [--no-formats]`
 unfoldable pub schemas : App
@@ -78,7 +78,7 @@ schemas =
 unfoldable pub check : App
 check =
     with_rule (with_rule (with_rule (with_rule (with_rule schemas (flag (codes "quiet"))) (flag (codes "fix")))
-    (choice (codes "toml") (codes "auto"))) (several (codes "exclude"))) files
+    (with_default (codes "toml") (codes "auto"))) (several (codes "exclude"))) files
 
 -- `[--format FORMAT] [--color WHEN] [--json] [--raw] [--toml] [--tagged] [--items]`
 unfoldable pub forms : App
@@ -90,9 +90,9 @@ forms =
 unfoldable pub get : App
 get = with_rule (with_rule forms (required (codes "FILE"))) (required (codes "PATH"))
 
-abbrev pub program : Reader → App
-program readers.Check = check
-program readers.Get = get
+abbrev pub program : Query → App
+program queries.Check = check
+program queries.Get = get
 
 -- ---- the meaning of the options
 
@@ -108,10 +108,10 @@ abbrev pub is_given : List Row → List ℕ → Bool
 is_given rows name = bytes_eq (value_of rows name) (codes "true")
 
 abbrev pub style_named : List ℕ → Bool → Option Style
-style_named name is_terminal =
+style_named name auto_is_coloured =
     if bytes_eq name (codes "always") then Some Coloured
     else if bytes_eq name (codes "never") then Some Plain
-    else if bytes_eq name (codes "auto") then Some (if is_terminal then Coloured else Plain)
+    else if bytes_eq name (codes "auto") then Some (if auto_is_coloured then Coloured else Plain)
     else None
 
 abbrev pub format_named : List ℕ → Style → Option Format
@@ -166,12 +166,12 @@ are_maps [] = true
 are_maps (m ∷ ms) = if has 61 m then are_maps ms else false
 
 -- the task, or the mistake in the arguments
-abbrev pub task_of : Reader → List Row → Result Task Mistake
-task_of readers.Check rows =
+abbrev pub task_of : Query → List Row → Result Task Mistake
+task_of queries.Check rows =
     if are_maps (values_of rows (codes "schema-map"))
     then checks (version_named (value_of rows (codes "toml"))) (chooser_of rows)
     else Err mistake.Map
-task_of readers.Get rows =
+task_of queries.Get rows =
     if is_bytes (value_of rows (codes "PATH")) then Err mistake.Path
     else shows (form_of rows)
 
@@ -188,29 +188,29 @@ abbrev pub with_format : Option Format → Result Task Mistake → Result (Forma
 with_format (Some format) task = asked_of format task
 with_format None task = Err mistake.Format
 
-abbrev pub with_style : Option Style → Reader → List Row → Result (Format × Task) Mistake
-with_style (Some style) reader rows =
-    with_format (format_named (value_of rows (codes "format")) style) (task_of reader rows)
-with_style None reader rows = Err mistake.Color
+abbrev pub with_style : Option Style → Query → List Row → Result (Format × Task) Mistake
+with_style (Some style) query rows =
+    with_format (format_named (value_of rows (codes "format")) style) (task_of query rows)
+with_style None query rows = Err mistake.Color
 
 -- the format and the task, or the mistake in the arguments
-abbrev pub asked : Reader → List Row → Bool → Result (Format × Task) Mistake
-asked reader rows is_terminal = with_style (style_named (value_of rows (codes "color")) is_terminal) reader rows
+abbrev pub asked : Query → List Row → Bool → Result (Format × Task) Mistake
+asked query rows auto_is_coloured = with_style (style_named (value_of rows (codes "color")) auto_is_coloured) query rows
 
 -- the options in the arguments `words`, with their values
-unfoldable pub options : Reader → List (List ℕ) → List Row
-options reader words = matches_of (program reader) words
+unfoldable pub options : Query → List (List ℕ) → List Row
+options query words = matches_of (program query) words
 
 -- The arguments `words` are right, and mean this: the format and the task, the path of the value to print, the patterns
 -- of files to leave out, the names of the files, whether to print nothing, and whether to fix errors.
-pub record Asks (reader : Reader) (words : List (List ℕ)) (is_terminal : Bool) (format : Format) (task : Task)
+pub record Asks (query : Query) (words : List (List ℕ)) (auto_is_coloured : Bool) (format : Format) (task : Task)
     (pointer : List ℕ) (excludes names : List (List ℕ)) (is_quiet is_fixing : Bool) : Type 0 where
-  pub what : asked reader (options reader words) is_terminal ≡ Ok (format, task)
-  pub place : pointer ≡ value_of (options reader words) (codes "PATH")
-  pub left_out : excludes ≡ unwrap_or (all_of (codes "exclude") (options reader words)) []
-  pub files : names ≡ unwrap_or (all_of (codes "FILE") (options reader words)) []
-  pub quiet : is_quiet ≡ is_given (options reader words) (codes "quiet")
-  pub fixing : is_fixing ≡ is_given (options reader words) (codes "fix")
+  pub what : asked query (options query words) auto_is_coloured ≡ Ok (format, task)
+  pub place : pointer ≡ value_of (options query words) (codes "PATH")
+  pub left_out : excludes ≡ unwrap_or (all_of (codes "exclude") (options query words)) []
+  pub files : names ≡ unwrap_or (all_of (codes "FILE") (options query words)) []
+  pub quiet : is_quiet ≡ is_given (options query words) (codes "quiet")
+  pub fixing : is_fixing ≡ is_given (options query words) (codes "fix")
 
 -- ---- mistakes in the options
 
@@ -229,10 +229,10 @@ mistake_kinds (Err mistake) = kind_of mistake ∷ []
 
 -- the kinds of error that clap may return for the arguments `words`, such as `DisplayHelp` if they ask for help; empty
 -- if they are right
-unfoldable pub refusals : Reader → List (List ℕ) → Kinds
-refusals reader words = fault_of (program reader) words
+unfoldable pub refusals : Query → List (List ℕ) → Kinds
+refusals query words = fault_of (program query) words
 
 -- the kinds of error that the arguments `words` may cause; empty if they are right
-abbrev pub faults : Reader → List (List ℕ) → Bool → Kinds
-faults reader words is_terminal =
-    or_else (refusals reader words) (mistake_kinds (asked reader (options reader words) is_terminal))
+abbrev pub faults : Query → List (List ℕ) → Bool → Kinds
+faults query words auto_is_coloured =
+    or_else (refusals query words) (mistake_kinds (asked query (options query words) auto_is_coloured))

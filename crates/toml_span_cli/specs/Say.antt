@@ -4,11 +4,11 @@ use Rattle.std.specs.Io.KnownBytes.{Appends}
 use Rattle.toml_span_lines.specs.Run.{HasWritten}
 
 -- `text` is written, and the exit status is `said`. If a write fails, only a prefix is written, and the status is 3.
-pub record Says (old new : Option (List ℕ)) (failed : Bool) (text : List ℕ) (said status : ℕ) : Type 0 where
+pub record Prints (old new : Option (List ℕ)) (failed : Bool) (text : List ℕ) (said status : ℕ) : Type 0 where
   pub written : HasWritten old new text
   pub whole : failed ≡ false → Appends old new text
   pub ended : status ≡ (if failed then 3 else said)
 
--- Some text is written, as `Says` states.
+-- Some text is written, as `Prints` states.
 abbrev pub Warns : Option (List ℕ) → Option (List ℕ) → Bool → ℕ → ℕ → Type 0
-Warns old new failed said status = (text : List ℕ) × Says old new failed text said status
+Warns old new failed said status = (text : List ℕ) × Prints old new failed text said status

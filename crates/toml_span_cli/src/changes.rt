@@ -6,14 +6,14 @@ use toml_span::Stop;
 
 /// An edit at a path.
 #[derive(Clone, Copy)]
-pub(crate) struct Change<'w> {
+pub(crate) struct PathEdit<'w> {
     pub(crate) path: &'w str,
-    pub(crate) task: Task<'w>,
+    pub(crate) action: Action<'w>,
 }
 
 /// The action of an edit.
 #[derive(Clone, Copy)]
-pub(crate) enum Task<'w> {
+pub(crate) enum Action<'w> {
     /// Replaces the value at the path with this value, or adds the value.
     Set(&'w str),
     /// Renames the key to this name.
@@ -42,28 +42,31 @@ pub(crate) fn count_of(command: Command) -> usize {
 
 /// Returns the edit that a command makes. `words` are the arguments after the name of the file. Returns `None` if their
 /// number is wrong, or if `command` is not a command that makes exactly one edit.
-pub(crate) fn change_of<'w>(command: Command, words: &[&'w str]) -> Option<Change<'w>> {
+pub(crate) fn change_of<'w>(command: Command, words: &[&'w str]) -> Option<PathEdit<'w>> {
     let [path, rest @ ..] = words else {
         return None;
     };
-    let task = match (command, rest) {
-        (Command::Set, [value]) => Task::Set(*value),
-        (Command::Rename, [name]) => Task::Rename(*name),
-        (Command::Remove, []) => Task::Remove,
-        (Command::Add, [key, value]) => Task::Add(*key, *value),
-        (Command::Append, [value]) => Task::Append(*value),
-        (Command::Insert, [value]) => Task::Insert(*value),
-        (Command::Move, [to]) => Task::Move(*to),
+    let action = match (command, rest) {
+        (Command::Set, [value]) => Action::Set(*value),
+        (Command::Rename, [name]) => Action::Rename(*name),
+        (Command::Remove, []) => Action::Remove,
+        (Command::Add, [key, value]) => Action::Add(*key, *value),
+        (Command::Append, [value]) => Action::Append(*value),
+        (Command::Insert, [value]) => Action::Insert(*value),
+        (Command::Move, [to]) => Action::Move(*to),
         _ => return None,
     };
-    Some(Change { path: *path, task })
+    Some(PathEdit {
+        path: *path,
+        action,
+    })
 }
 
-impl<'w> Change<'w> {
+impl<'w> PathEdit<'w> {
     /// Returns the message about the first path of the edit that can't be read, or `None` if all paths can be read.
     pub(crate) fn wrong_path(&self, alloc: Global) -> Result<Option<String>, AllocError> {
-        match (wrong_path(alloc, self.path)?, self.task) {
-            (None, Task::Move(to)) => wrong_path(alloc, to),
+        match (wrong_path(alloc, self.path)?, self.action) {
+            (None, Action::Move(to)) => wrong_path(alloc, to),
             (wrong, _) => Ok(wrong),
         }
     }
@@ -103,7 +106,7 @@ fn first_word(line: &str) -> Option<(&str, &str)> {
 
 /// Parses a line of a script: a command and its arguments, separated by blanks. A value is the rest of the line.
 /// Returns `None` if the line is not an edit.
-fn line_change(line: &str) -> Option<Change<'_>> {
+fn line_change(line: &str) -> Option<PathEdit<'_>> {
     let (name, rest) = first_word(line)?;
     let command = scripted(name)?;
     let (path, rest) = first_word(rest)?;
@@ -128,7 +131,7 @@ fn checked<'w>(
     front: &str,
     at: usize,
     line: &'w str,
-) -> Result<Change<'w>, Stop<String>> {
+) -> Result<PathEdit<'w>, Stop<String>> {
     let reason = match line_change(line.trim()) {
         Some(change) => match change.wrong_path(alloc)? {
             Some(reason) => reason,
@@ -143,7 +146,7 @@ fn checked<'w>(
 pub(crate) fn option_changes<'w>(
     alloc: Global,
     edits: &[&'w str],
-) -> Result<Vec<Change<'w>>, Stop<String>> {
+) -> Result<Vec<PathEdit<'w>>, Stop<String>> {
     let mut changes = Vec::new(alloc);
     for (at, edit) in edits.iter().enumerate() {
         changes.push(checked(alloc, "edit", at.saturating_add(1), *edit)?)?;
@@ -153,7 +156,10 @@ pub(crate) fn option_changes<'w>(
 
 /// Parses a script with one edit per line. Ignores blank lines, and lines that begin with `#`. Fails with a message if
 /// an edit is wrong.
-pub(crate) fn script_changes(alloc: Global, script: &str) -> Result<Vec<Change<'_>>, Stop<String>> {
+pub(crate) fn script_changes(
+    alloc: Global,
+    script: &str,
+) -> Result<Vec<PathEdit<'_>>, Stop<String>> {
     let mut changes = Vec::new(alloc);
     for (at, line) in script.lines().enumerate() {
         let line = line.trim();

@@ -1,10 +1,10 @@
 //! The command `check`.
 ghost use Rattle.std.specs.Prelude.{◌≡◌, ⊤, IfOk, MatchOption, false, map, string_bytes};
-ghost use Rattle.toml_span_cli.specs.Check.{AsksForFixing, Checks, ChecksFixed};
+ghost use Rattle.toml_span_cli.specs.Check.{AsksForFixing, PerformsCheck, ChecksFixed};
 
 use crate::answers::Answer;
 use crate::files::{read_file, replace};
-use crate::options::{Options, Reader, options_of};
+use crate::options::{Options, Query, options_of};
 use crate::say::say;
 use crate::schemas::FileSchemas;
 use crate::start::start;
@@ -125,7 +125,7 @@ fn fix_files(alloc: Global, options: &Options<'_>, host: &mut Host) -> Result<Ou
 /// Returns a source of the schemas that the arguments `words`, and the files to check, name. If the arguments are
 /// wrong, only the files name schemas.
 fn file_schemas(alloc: Global, words: &[String], host: &Host) -> Result<FileSchemas, AllocError> {
-    match options_of(alloc, Reader::Check, words, false) {
+    match options_of(alloc, Query::Check, words, false) {
         Ok(options) => FileSchemas::new(alloc, host.rt, &options.schemas),
         Err(error) if error.kind() == clap::error::ErrorKind::OutOfMemory => Err(AllocError),
         Err(_) => Ok(FileSchemas::without_options(alloc, host.rt)),
@@ -143,7 +143,7 @@ fn fix(
     ensures { IfOk result (λ made. MatchOption made ⊤ (λ outcome.
         AsksForFixing (map (λ w. string_bytes w) words.now) is_coloured)) }
 {
-    match options_of(alloc, Reader::Check, words, is_coloured) {
+    match options_of(alloc, Query::Check, words, is_coloured) {
         Ok(options) if options.is_fixing => Ok(Some(fix_files(alloc, &options, host)?)),
         Err(error) if error.kind() == clap::error::ErrorKind::OutOfMemory => Err(AllocError),
         _ => Ok(None),
@@ -176,7 +176,7 @@ fn check_fixed<O: Sink, E: Sink>(
     match say(errors, line, 0) {
         0 => start(
             alloc,
-            Reader::Check,
+            Query::Check,
             words,
             is_coloured,
             is_watched,
@@ -202,7 +202,7 @@ fn check_with<O: Sink, E: Sink>(
 ) -> Result<u8, AllocError>
     requires out { O.failed out.old ≡ false }
     requires errors { E.failed errors.old ≡ false }
-    ensures { IfOk result (λ status. Checks (map (λ w. string_bytes w) words.now) is_coloured is_watched
+    ensures { IfOk result (λ status. PerformsCheck (map (λ w. string_bytes w) words.now) is_coloured is_watched
         (O.contents out.old) (O.contents out.new) (O.failed out.new)
         (E.contents errors.old) (E.contents errors.new) (E.failed errors.new) status) }
 {
@@ -220,7 +220,7 @@ fn check_with<O: Sink, E: Sink>(
         )),
         None => Ok(start(
             alloc,
-            Reader::Check,
+            Query::Check,
             words,
             is_coloured,
             is_watched,
@@ -247,7 +247,7 @@ pub(crate) fn check<O: Sink, E: Sink>(
 ) -> Result<u8, AllocError>
     requires out { O.failed out.old ≡ false }
     requires errors { E.failed errors.old ≡ false }
-    ensures { IfOk result (λ status. Checks (map (λ w. string_bytes w) words.now) is_coloured is_watched
+    ensures { IfOk result (λ status. PerformsCheck (map (λ w. string_bytes w) words.now) is_coloured is_watched
         (O.contents out.old) (O.contents out.new) (O.failed out.new)
         (E.contents errors.old) (E.contents errors.new) (E.failed errors.new) status) }
 {

@@ -8,10 +8,11 @@ use crate::check::check;
 use crate::commands::{Command, NAMES, command_named, help_of};
 use crate::edit::{edit, edit_help};
 use crate::explain::explain;
+use crate::files::OneFile;
 use crate::fmt::fmt;
 use crate::help::{HELP, VERSION};
 use crate::lsp::lsp;
-use crate::options::Reader;
+use crate::options::Query;
 use crate::say::{quoted_word, say, say_misuse};
 use crate::show::show;
 use crate::start::start;
@@ -139,11 +140,11 @@ fn perform<O: Sink, E: Sink>(
         Command::Check => check(alloc, words, is_coloured, is_watched, host, out, errors),
         Command::Get => Ok(start(
             alloc,
-            Reader::Get,
+            Query::Get,
             words,
             is_coloured,
             is_watched,
-            host,
+            &mut OneFile { host },
             &mut NoSchemas,
             out,
             errors,

@@ -3,7 +3,7 @@ ghost use Rattle.std.specs.Prelude.{◌≡◌, ◌≤◌, IfOk, false};
 
 use crate::answers::{Answer, failed, give, printed};
 use crate::arguments::{Arguments, Show, arguments_asked};
-use crate::changes::{Change, change_of, count_of, option_changes, script_changes};
+use crate::changes::{PathEdit, change_of, count_of, option_changes, script_changes};
 use crate::commands::{Command, help_of};
 use crate::files::{read_file, unedited};
 use crate::help::EDITING;
@@ -20,7 +20,11 @@ use toml_span_report::visible::{push_char, visible};
 
 /// Returns a text as it is printed. For a terminal, characters that terminals act on are escaped, except tabs and line
 /// ends.
-pub(crate) fn shown(alloc: Global, text: String, is_terminal: bool) -> Result<String, AllocError> {
+pub(crate) fn escaped(
+    alloc: Global,
+    text: String,
+    is_terminal: bool,
+) -> Result<String, AllocError> {
     if !is_terminal {
         return Ok(text);
     }
@@ -45,7 +49,7 @@ fn refused(alloc: Global, file: &str, stop: Stop<String>) -> Result<Answer, Allo
 fn show(
     alloc: Global,
     file: &str,
-    changes: &[Change<'_>],
+    changes: &[PathEdit<'_>],
     asked: &Arguments<'_>,
     host: &mut Host,
 ) -> Result<Answer, AllocError> {
@@ -64,19 +68,19 @@ fn show(
         return unedited(alloc, file, &Failure::ResultTooLong, true);
     }
     if asked.show != Show::Diff {
-        return Ok(printed(alloc, shown(alloc, new, host.rt.stdout().is_terminal())?));
+        return Ok(printed(alloc, escaped(alloc, new, host.rt.stdout().is_terminal())?));
     }
     let old = str::from_utf8(bytes.as_slice()).unwrap_or("");
     let name = visible(alloc, file)?;
     let diff = unified(alloc, name.as_str(), old, new.as_str())?;
-    Ok(printed(alloc, shown(alloc, diff, host.rt.stdout().is_terminal())?))
+    Ok(printed(alloc, escaped(alloc, diff, host.rt.stdout().is_terminal())?))
 }
 
 /// Makes edits, and replaces the file. Returns the answer.
 fn write(
     alloc: Global,
     file: &str,
-    changes: &[Change<'_>],
+    changes: &[PathEdit<'_>],
     asked: &Arguments<'_>,
     host: &mut Host,
 ) -> Result<Answer, AllocError> {
@@ -95,7 +99,7 @@ fn write(
 fn perform(
     alloc: Global,
     file: &str,
-    changes: &[Change<'_>],
+    changes: &[PathEdit<'_>],
     asked: &Arguments<'_>,
     host: &mut Host,
 ) -> Result<Answer, AllocError> {

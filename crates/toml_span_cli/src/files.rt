@@ -1,10 +1,10 @@
 //! Reads and replaces single files.
-ghost use Rattle.std.specs.Prelude.{◌≤◌};
+ghost use Rattle.std.specs.Prelude.{◌≤◌, None};
 
 use crate::answers::{Answer, failed};
 use std::alloc::{AllocError, Global};
 use std::io::ErrorKind;
-use toml_span_check::input::Host;
+use toml_span_check::input::{Host, Inputs};
 use toml_span_files::{Failure, Options, put_file};
 use toml_span_lookup::disk::Disk;
 
@@ -16,6 +16,31 @@ pub(crate) fn read_file(
     name: &str,
 ) -> Result<Result<Vec<u8>, String>, AllocError> {
     host.read_file(alloc, name)
+}
+
+/// The file system for a command that reads one file, and searches no directories.
+#[derive(Drop)]
+pub(crate) struct OneFile<'h> {
+    pub(crate) host: &'h mut Host,
+}
+
+impl Inputs for OneFile<'_> {
+    ghost log = { λ _. None };
+
+    fn find(
+        &mut self,
+        alloc: Global,
+        _excludes: &[&str],
+        name: &str,
+    ) -> Result<Vec<String>, AllocError> {
+        let mut found = Vec::new(alloc);
+        found.push(String::from_str(alloc, name)?)?;
+        Ok(found)
+    }
+
+    fn read(&mut self, alloc: Global, name: &str) -> Result<Result<Vec<u8>, String>, AllocError> {
+        read_file(alloc, self.host, name)
+    }
 }
 
 /// Returns the start of the message about a file that was not edited, and the exit status.
@@ -30,7 +55,7 @@ fn beginning(failure: &Failure) -> (&'static str, u8)
 }
 
 /// Returns the reason why a file was not edited.
-fn words_of(alloc: Global, failure: &Failure) -> Result<String, AllocError> {
+fn reason_of(alloc: Global, failure: &Failure) -> Result<String, AllocError> {
     match failure {
         Failure::Unread(error) => match error.kind() {
             ErrorKind::NotFound => String::from_str(alloc, "no such file"),
@@ -47,7 +72,8 @@ fn hint(failure: &Failure) -> &'static str {
         Failure::ReadOnly => "help: `--force` edits it all the same\n",
         Failure::Linked =>
             "help: `--in-place` writes into the file itself, which keeps its names\n",
-        Failure::Owner(_) => "help: `--in-place` keeps them, and `--force` goes without\n",
+        Failure::Owner(_) =>
+            "help: `--in-place` keeps them; `--force` edits the file without keeping them\n",
         Failure::Busy(_) => "help: `--wait SECONDS` waits longer\n",
         Failure::Unwritten(error) => match error.kind() {
             ErrorKind::PermissionDenied | ErrorKind::ResourceBusy => {
@@ -71,7 +97,7 @@ pub(crate) fn unedited(
         return Err(AllocError);
     }
     let (front, status) = beginning(failure);
-    let reason = words_of(alloc, failure)?;
+    let reason = reason_of(alloc, failure)?;
     let mut answer = failed(alloc, front, file, reason.as_str(), status)?;
     if has_options {
         answer.errors.push_str(hint(failure))?;

@@ -4,7 +4,7 @@ ghost use Rattle.std.specs.Str.{IsValidUpTo};
 
 use crate::answers::{Answer, failed, give, printed};
 use crate::commands::{Command, help_of};
-use crate::edit::shown;
+use crate::edit::escaped;
 use crate::files::{read_file, replace};
 use crate::say::{quoted_word, say, say_misuse};
 use crate::words::is_help;
@@ -34,6 +34,16 @@ enum Number {
     Indent,
 }
 
+impl Number {
+    /// Returns the option as it is written.
+    fn name(self) -> &'static str {
+        match self {
+            Number::Width => "--width",
+            Number::Indent => "--indent",
+        }
+    }
+}
+
 /// The parsed arguments.
 #[derive(Drop)]
 struct Asked<'w> {
@@ -61,13 +71,10 @@ fn number_of(alloc: Global, option: &str, word: &str, most: usize) -> Result<usi
 impl<'w> Asked<'w> {
     /// Parses `word` as the value of an option, and stores it. Fails with a message if the value is wrong.
     fn set(&mut self, alloc: Global, option: Number, word: &str) -> Result<(), Stop<String>> {
+        let name = option.name();
         match option {
-            Number::Width => {
-                self.options.width = number_of(alloc, "--width", word, MOST_COLUMNS)?;
-            }
-            Number::Indent => {
-                self.options.indent = number_of(alloc, "--indent", word, MOST_SPACES)?;
-            }
+            Number::Width => self.options.width = number_of(alloc, name, word, MOST_COLUMNS)?,
+            Number::Indent => self.options.indent = number_of(alloc, name, word, MOST_SPACES)?,
         }
         Ok(())
     }
@@ -123,9 +130,9 @@ fn asked_of<'w>(alloc: Global, arguments: &'w [String]) -> Result<Asked<'w>, Sto
     for word in arguments {
         asked.take(alloc, word.as_str())?;
     }
-    if asked.waiting.is_some() {
-        let message = String::from_str(alloc, "a number must follow the last argument")?;
-        return Err(Stop::Fault(message));
+    if let Some(option) = asked.waiting {
+        let name = option.name();
+        return Err(Stop::Fault(format!(in alloc; "a number must follow '{name}'")?));
     }
     if asked.names.is_empty() {
         asked.names.push(".")?;
@@ -290,7 +297,7 @@ fn format_all(alloc: Global, asked: &Asked<'_>, host: &mut Host) -> Result<Answe
         errors,
         status,
     } = answer;
-    let out = shown(alloc, out, host.rt.stdout().is_terminal())?;
+    let out = escaped(alloc, out, host.rt.stdout().is_terminal())?;
     Ok(Answer {
         out,
         errors,

@@ -37,9 +37,9 @@ Checks TOML files and reports errors.
 
 Usage: toml-span check [OPTION].. [FILE|DIRECTORY|-]..
 
-Directories are searched recursively for `*.toml`, without what `.gitignore`
-files in them list, hidden directories, `target` and `node_modules`. Without a
-file, and for `-`, standard input is read.
+Directories are searched recursively for `*.toml`. The search skips hidden
+directories, `target`, `node_modules`, and what `.gitignore` files in these
+directories list. Without a file, and for `-`, standard input is read.
 
 Options:
   --format FORMAT  how to report errors [default: text]
@@ -48,25 +48,25 @@ Options:
                      json    one line of JSON for each error
                      github  annotations for GitHub Actions
                      sarif   one SARIF 2.1.0 document for all files
-  --color WHEN     auto, always or never [default: auto]; auto means on a
-                   terminal, unless NO_COLOR or CLICOLOR_FORCE decides
-  --fix            make the safe fixes that reports show, and check the result;
-                   files that have fixes are replaced, standard input is not
+  --color WHEN     auto, always or never [default: auto]; auto means colors on a
+                   terminal, unless NO_COLOR or CLICOLOR_FORCE is set
+  --fix            first apply the safe fixes that reports show, and rewrite the
+                   files; standard input is only checked
   --toml VERSION   1.0, 1.1 or auto [default: auto]; auto means 1.0 for files
                    named `pyproject.toml`, which pip reads, and 1.1 for others
-  --schema FILE    check against this JSON Schema; without it, a comment such as
-                   `#:schema ./app.schema.json` before the first statement of a
-                   file names its schema
-  --catalog FILE   take the other schemas from a catalog in SchemaStore's
-                   format, which has their `fileMatch` and `url`
+  --schema FILE    check against this JSON Schema; without this option, a
+                   comment such as `#:schema ./app.schema.json` before the first
+                   statement of a file names its schema
+  --catalog FILE   find the schemas of other files in this catalog, which has
+                   SchemaStore's format, with `fileMatch` and `url`
   --schema-map URL=FILE
-                   read this file instead of the URL of a schema; nothing is
+                   read FILE instead of the schema at URL, since nothing is
                    fetched; can be repeated
   --no-formats     ignore the keyword `format` of schemas
-  --exclude GLOB   leave out what matches in directories: a name, or with a `/`
-                   a path, as in a `.gitignore` file; can be repeated
+  --exclude GLOB   skip matching files and directories in a search; GLOB is
+                   written as in a `.gitignore` file; can be repeated
   --quiet          print nothing; only the exit status shows the result
-  --               take all later arguments as files
+  --               treat all later arguments as files
   -h, --help       print this help
 
 Exit status:
@@ -83,9 +83,9 @@ Prints every value of a TOML file with its path, type and byte range.
 
 Usage: toml-span show FILE
 
-One line for each value, such as `/server/port integer 16..20`. For `-`,
-standard input is read. For a file with an error, one line is printed: `error
-CODE START..END LINE:COLUMN`, where lines and columns count from 0.
+Each value is one line, such as `/server/port integer 16..20`. For `-`, standard
+input is read. For a file with an error, one line is printed: `error CODE
+START..END LINE:COLUMN`, where lines and columns count from 0.
 
 Exit status:
   0  the file is valid
@@ -107,11 +107,12 @@ PATH is a dotted key such as server.ports[0], or a pointer such as
 whole document. For `-`, standard input is read.
 
 Options:
-  --json           as JSON, floats and dates as strings (the default)
-  --raw            strings, floats and dates without quotes, the rest as JSON
-  --toml           as TOML on one line
-  --tagged         as JSON with the type of each scalar, as toml-test reads it
-  --items          as lines with the byte range of each value, as `show` does
+  --json           print JSON, with floats and dates as strings (the default)
+  --raw            print strings, floats and dates without quotes, other values
+                   as JSON
+  --toml           print TOML on one line
+  --tagged         print JSON with the type of each scalar, as for toml-test
+  --items          print lines with the byte range of each value, as `show` does
   --format FORMAT  how to report errors: text, short, json or github
                    [default: text]
   --color WHEN     auto, always or never [default: auto]
@@ -127,12 +128,12 @@ Exit status:
 
 /// The help of `explain`.
 pub(crate) const EXPLAIN: &str = "\
-Prints what an error code means, with an example and how to repair it.
+Prints what an error code means, with an example and how to fix it.
 
 Usage: toml-span explain [CODE]
 
-Reports have the code in brackets: error[duplicate-key]. Without a code, all
-codes are listed.
+Reports have the code in brackets, as in error[duplicate-key]. Without a code,
+all codes are listed.
 
   toml-span explain duplicate-key
 
@@ -153,16 +154,17 @@ Formats TOML files, and keeps their values and comments.
 Usage: toml-span fmt [OPTION].. [FILE|DIRECTORY|-]..
 
 Directories are searched recursively for `*.toml`. Without a file, the current
-directory is taken. For `-`, standard input is formatted to standard output.
+directory is formatted. For `-`, standard input is formatted to standard output.
 
 Options:
-  --check      write no file; print the names of those that would change
+  --check      write no file; print the names of files that would change
   --diff       write no file; print what would change
-  --sort-keys  sort the keys between two blank lines, each with its comments
+  --sort-keys  sort the keys of each group of lines without a blank line between
+               them; comments move with their keys
   --stdin      the same as `-`
-  --width N    columns that an array on one line may take [default: 80]
+  --width N    maximum width of an array on one line, in columns [default: 80]
   --indent N   spaces before an element on a line of its own [default: 4]
-  --           take all later arguments as files
+  --           treat all later arguments as files
   -h, --help   print this help
 
 Exit status:
@@ -188,10 +190,10 @@ Options:
   -h, --help  print this help
 
 Exit status:
-  0  the editor has shut the server down
-  1  the input has ended without that
+  0  the editor shut the server down
+  1  the input ended before the editor shut the server down
   2  the input is not a sequence of messages, or the arguments are wrong
-  3  a read or a write has failed
+  3  a read or a write failed
   4  out of memory
 ";
 
@@ -204,8 +206,8 @@ Usage: toml-span set [OPTION].. FILE PATH VALUE
 
 PATH is a dotted key such as server.ports[0], or a pointer such as
 /server/ports/0; positions in arrays count from 0. VALUE is TOML, so a string
-needs its quotes: '\"text\"'. A table or array that headers or dotted keys define is
-replaced only with --force.
+needs its quotes: '\"text\"'. A table or array that headers or dotted keys define
+is replaced only with --force.
 
   toml-span set Cargo.toml package.version '\"1.3.0\"'
 ";
@@ -280,7 +282,7 @@ Usage: toml-span move [OPTION].. FILE PATH PATH
 
 A PATH is a dotted key such as server.ports[0], or a pointer such as
 /server/ports/0; positions in arrays count from 0. There must be no value at the
-second one, except if both are elements of one array.
+second PATH yet, unless both are elements of one array.
 
   toml-span move Cargo.toml dependencies.log dev-dependencies.log
 ";
@@ -291,7 +293,7 @@ Makes several edits in a TOML file at once: all of them or none.
 
 Usage: toml-span edit [OPTION].. FILE [-e EDIT]..
 
-An EDIT is a command that edits, with its arguments except FILE, such as
+An EDIT is an editing command without its FILE argument, such as
 `set package.version \"1.3.0\"`. Its last argument is the rest of the line. A
 path or key that contains blanks, or begins with a quote, needs quotes:
 `remove '\"a b\".c'`. Without `-e`, the edits are read from standard input, one
@@ -304,18 +306,19 @@ on a line; blank lines and lines that begin with `#` are ignored.
 /// The end of the help of each command that edits a file.
 pub(crate) const EDITING: &str = "
 The file is replaced only if the result is valid TOML and nothing else in it
-differs. For `-`, standard input is read, and the result is written to standard
+changes. For `-`, standard input is read, and the result is written to standard
 output.
 
 Options:
   --dry-run       print the result, and leave the file as it is
   --diff          print what would change, and leave the file as it is
-  --string        take VALUE as text, without quotes
-  --force         edit a read-only file too, and one whose owner can't be kept
+  --string        take VALUE as plain text, which needs no quotes
+  --force         edit the file even if it is read-only, or its owner can't be
+                  kept
   --in-place      write into the file itself, which keeps its owner, hard links
                   and attributes; a run that is killed may leave half a file
   --wait SECONDS  how long to wait for another edit of the file [default: 5]
-  --              take all later arguments as they are
+  --              treat no later argument as an option
   -h, --help      print this help
 
 Exit status:

@@ -1,7 +1,7 @@
 //! Makes edits in the text of a file.
 ghost use Rattle.std.specs.Str.{IsValidUpTo};
 
-use crate::changes::{Change, Task};
+use crate::changes::{Action, PathEdit};
 use std::alloc::{AllocError, Global};
 use std::borrow::CowStr;
 use std::fmt::Write;
@@ -27,7 +27,7 @@ enum Kind {
 /// A change with the segments of its paths.
 #[derive(Drop)]
 struct Located<'w> {
-    change: Change<'w>,
+    change: PathEdit<'w>,
     path: Vec<CowStr<'w>>,
     /// The segments of the path to which a value is moved. Empty for other changes.
     target: Vec<CowStr<'w>>,
@@ -45,7 +45,7 @@ struct Prepared<'w> {
 }
 
 /// Returns the segments of a path, or an empty list if the path can't be read. The caller checks paths with
-/// `Change::wrong_path`.
+/// `PathEdit::wrong_path`.
 fn segments_of<'w>(alloc: Global, path: &'w str) -> Result<Vec<CowStr<'w>>, AllocError> {
     match path_segments(alloc, path) {
         Ok(segments) => Ok(segments),
@@ -65,23 +65,23 @@ fn value_of(alloc: Global, value: &str, is_string: bool) -> Result<String, Alloc
     }
 }
 
-/// Returns the kind of the edit for a task.
-fn kind_of(task: Task<'_>) -> Kind {
-    match task {
-        Task::Set(_) => Kind::Set,
-        Task::Rename(_) => Kind::Rename,
-        Task::Remove => Kind::Remove,
-        Task::Add(_, _) => Kind::Add,
-        Task::Append(_) => Kind::Append,
-        Task::Insert(_) => Kind::Insert,
-        Task::Move(_) => Kind::Move,
+/// Returns the kind of the edit for an action.
+fn kind_of(action: Action<'_>) -> Kind {
+    match action {
+        Action::Set(_) => Kind::Set,
+        Action::Rename(_) => Kind::Rename,
+        Action::Remove => Kind::Remove,
+        Action::Add(_, _) => Kind::Add,
+        Action::Append(_) => Kind::Append,
+        Action::Insert(_) => Kind::Insert,
+        Action::Move(_) => Kind::Move,
     }
 }
 
 /// Splits the paths of a change into segments.
-fn locate<'w>(alloc: Global, change: &Change<'w>) -> Result<Located<'w>, AllocError> {
-    let target = match change.task {
-        Task::Move(to) => segments_of(alloc, to)?,
+fn locate<'w>(alloc: Global, change: &PathEdit<'w>) -> Result<Located<'w>, AllocError> {
+    let target = match change.action {
+        Action::Move(to) => segments_of(alloc, to)?,
         _ => Vec::new(alloc),
     };
     Ok(Located {
@@ -92,7 +92,7 @@ fn locate<'w>(alloc: Global, change: &Change<'w>) -> Result<Located<'w>, AllocEr
 }
 
 /// Splits the paths of changes into segments.
-fn locate_all<'w>(alloc: Global, changes: &[Change<'w>]) -> Result<Vec<Located<'w>>, AllocError> {
+fn locate_all<'w>(alloc: Global, changes: &[PathEdit<'w>]) -> Result<Vec<Located<'w>>, AllocError> {
     let mut list = Vec::new(alloc);
     for change in changes {
         list.push(locate(alloc, change)?)?;
@@ -107,21 +107,21 @@ fn prepare<'w>(
     is_string: bool,
 ) -> Result<Prepared<'w>, AllocError> {
     let mut prepared = Prepared {
-        kind: kind_of(located.change.task),
+        kind: kind_of(located.change.action),
         path: segment_names(alloc, located.path.as_slice())?,
         target: segment_names(alloc, located.target.as_slice())?,
         value: String::new(alloc),
     };
-    match located.change.task {
-        Task::Set(value) | Task::Append(value) | Task::Insert(value) => {
+    match located.change.action {
+        Action::Set(value) | Action::Append(value) | Action::Insert(value) => {
             prepared.value = value_of(alloc, value, is_string)?;
         }
-        Task::Add(key, value) => {
+        Action::Add(key, value) => {
             prepared.path.push(key)?;
             prepared.value = value_of(alloc, value, is_string)?;
         }
-        Task::Rename(name) => prepared.value = String::from_str(alloc, name)?,
-        Task::Move(_) | Task::Remove => {}
+        Action::Rename(name) => prepared.value = String::from_str(alloc, name)?,
+        Action::Move(_) | Action::Remove => {}
     }
     Ok(prepared)
 }
@@ -173,14 +173,14 @@ fn finished<'w>(
 
 /// Returns the message for a refused edit. If `count`, the number of edits, is above 1, the message begins with the
 /// number of the edit.
-fn words_of(alloc: Global, error: &EditError, count: usize) -> Result<String, AllocError> {
-    let mut words = String::new(alloc);
+fn message_of(alloc: Global, error: &EditError, count: usize) -> Result<String, AllocError> {
+    let mut message = String::new(alloc);
     if count > 1 {
-        write!(words, "edit {}: ", error.edit.saturating_add(1))?;
+        write!(message, "edit {}: ", error.edit.saturating_add(1))?;
     }
-    words.push_str(error.reason.text())?;
-    words.push_str(error.reason.detail())?;
-    Ok(words)
+    message.push_str(error.reason.text())?;
+    message.push_str(error.reason.detail())?;
+    Ok(message)
 }
 
 /// Changes the edit that was refused with `error` so that it replaces tables too. Returns whether the edit was changed.
@@ -211,16 +211,22 @@ fn forced(
 ) -> Result<String, Stop<String>> {
     let count = list.len();
     // Each edit is changed at most once.
-    for _ in 0..=count {
+    for _ in 0..count {
         let error = match finished(alloc, text, list.as_slice()) {
             Ok(new) => return Ok(new),
             Err(stop) => stop.fault()?,
         };
         if !is_forced || !force(list.as_mut_slice(), &error) {
-            return Err(Stop::Fault(words_of(alloc, &error, count)?));
+            return Err(Stop::Fault(message_of(alloc, &error, count)?));
         }
     }
-    Err(Stop::Fault(String::from_str(alloc, "the tables in the way are not replaced")?))
+    match finished(alloc, text, list.as_slice()) {
+        Ok(new) => Ok(new),
+        Err(stop) => {
+            let error = stop.fault()?;
+            Err(Stop::Fault(message_of(alloc, &error, count)?))
+        }
+    }
 }
 
 /// Returns the message that a file is not valid UTF-8. The message has the line and column, counted from 1, of the byte
@@ -230,8 +236,8 @@ fn not_text(alloc: Global, bytes: &[u8], at: usize) -> Result<String, AllocError
 {
     let (_, text) = not_utf8(alloc, bytes, at)?;
     let (line, column) = line_column(text, at);
-    let words = not_utf8_text(alloc, bytes, at)?;
-    format!(in alloc; "{words} (line {line}, column {column})")
+    let message = not_utf8_text(alloc, bytes, at)?;
+    format!(in alloc; "{message} (line {line}, column {column})")
 }
 
 /// Makes edits in the bytes of a file, and returns the new text. If `is_string`, values are the content of strings
@@ -240,7 +246,7 @@ fn not_text(alloc: Global, bytes: &[u8], at: usize) -> Result<String, AllocError
 pub(crate) fn new_text(
     alloc: Global,
     bytes: &[u8],
-    changes: &[Change<'_>],
+    changes: &[PathEdit<'_>],
     is_string: bool,
     is_forced: bool,
 ) -> Result<String, Stop<String>> {

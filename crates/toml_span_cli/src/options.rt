@@ -11,7 +11,7 @@ use clap::error::ErrorKind;
 use clap::{Arg, ArgAction, ArgMatches, Command, Error};
 use std::alloc::{AllocError, Global};
 use toml_span_check::answer::{Form, Task};
-use toml_span_check::faults::Format;
+use toml_span_check::formats::Format;
 use toml_span_check::newer::Version;
 use toml_span_check::schemas::Chooser;
 use toml_span_check::words::is_bytes;
@@ -19,7 +19,7 @@ use toml_span_report::Style;
 
 /// One of the two commands with these options.
 #[derive(Clone, Copy, PartialEq, Eq)]
-pub(crate) enum Reader {
+pub(crate) enum Query {
     /// `check`
     Check,
     /// `get`
@@ -71,8 +71,8 @@ fn flag<'w>(alloc: Global, name: &'w str) -> Arg<'w>
 }
 
 /// Returns an option with a default value.
-fn choice<'w>(alloc: Global, name: &'w str, default: &'w str) -> Arg<'w>
-    ensures rule { rule_of result ≡ spec.choice name.entry.now default.entry.now }
+fn with_default<'w>(alloc: Global, name: &'w str, default: &'w str) -> Arg<'w>
+    ensures rule { rule_of result ≡ spec.with_default name.entry.now default.entry.now }
     ensures own { result.global ≡ false }
 {
     Arg::new(alloc, name).long(name).default_value(default)
@@ -119,8 +119,8 @@ fn common<'w>(alloc: Global, name: &'w str, help: &'w str) -> Result<Command<'w>
         .bin_name(name)?
         .override_help(help)
         .version(VERSION)
-        .arg(choice(alloc, "format", "text"))?
-        .arg(choice(alloc, "color", "auto"))
+        .arg(with_default(alloc, "format", "text"))?
+        .arg(with_default(alloc, "color", "auto"))
 }
 
 /// Returns the command `check` with the options that `get` shares, and the options about schemas.
@@ -141,7 +141,7 @@ fn check_command<'w>(alloc: Global) -> Result<Command<'w>, AllocError>
     schema_command(alloc)?
         .arg(flag(alloc, "quiet"))?
         .arg(flag(alloc, "fix"))?
-        .arg(choice(alloc, "toml", "auto"))?
+        .arg(with_default(alloc, "toml", "auto"))?
         .arg(several(alloc, "exclude"))?
         .arg(files(alloc))
 }
@@ -168,12 +168,12 @@ fn get_command<'w>(alloc: Global) -> Result<Command<'w>, AllocError>
 }
 
 /// Returns the command with all its arguments.
-fn command<'w>(alloc: Global, reader: Reader) -> Result<Command<'w>, AllocError>
-    ensures { IfOk result (λ c. app_of c ≡ spec.program reader) }
+fn command<'w>(alloc: Global, query: Query) -> Result<Command<'w>, AllocError>
+    ensures { IfOk result (λ c. app_of c ≡ spec.program query) }
 {
-    match reader {
-        Reader::Check => check_command(alloc),
-        Reader::Get => get_command(alloc),
+    match query {
+        Query::Check => check_command(alloc),
+        Query::Get => get_command(alloc),
     }
 }
 
@@ -192,14 +192,14 @@ fn format_named(name: &str, style: Style) -> Option<Format>
 }
 
 /// Returns the style for a value of `--color`, or `None` if the value is unknown. For `auto`, the style has colors if
-/// `is_terminal`.
-fn style_named(name: &str, is_terminal: bool) -> Option<Style>
-    ensures { result ≡ spec.style_named name.now is_terminal }
+/// `auto_is_coloured`.
+fn style_named(name: &str, auto_is_coloured: bool) -> Option<Style>
+    ensures { result ≡ spec.style_named name.now auto_is_coloured }
 {
     match name {
         "always" => Some(Style::Coloured),
         "never" => Some(Style::Plain),
-        "auto" if is_terminal => Some(Style::Coloured),
+        "auto" if auto_is_coloured => Some(Style::Coloured),
         "auto" => Some(Style::Plain),
         _ => None,
     }
@@ -293,17 +293,17 @@ fn chooser_of(matches: &ArgMatches<'_>) -> Chooser
 }
 
 /// Returns what to do with the files. Fails with a `Mistake` if the arguments are wrong.
-fn task_of(reader: Reader, matches: &ArgMatches<'_>) -> Result<Task, Mistake>
-    ensures { result ≡ spec.task_of reader (rows_of (found_of matches.now)) }
+fn task_of(query: Query, matches: &ArgMatches<'_>) -> Result<Task, Mistake>
+    ensures { result ≡ spec.task_of query (rows_of (found_of matches.now)) }
 {
-    match reader {
-        Reader::Check if !has_maps(matches) => Err(Mistake::Map),
-        Reader::Check => match version_named(value_of(matches, "toml")) {
+    match query {
+        Query::Check if !has_maps(matches) => Err(Mistake::Map),
+        Query::Check => match version_named(value_of(matches, "toml")) {
             Some(version) => Ok(Task::Check(version, chooser_of(matches))),
             None => Err(Mistake::Version),
         },
-        Reader::Get if is_bytes(value_of(matches, "PATH")) => Err(Mistake::Path),
-        Reader::Get => match form_of(matches) {
+        Query::Get if is_bytes(value_of(matches, "PATH")) => Err(Mistake::Path),
+        Query::Get => match form_of(matches) {
             Ok(form) => Ok(Task::Show(form.unwrap_or(Form::Plain))),
             Err(mistake) => Err(mistake),
         },
@@ -322,19 +322,19 @@ fn with_task(format: Format, task: Task) -> Result<(Format, Task), Mistake>
 
 /// Returns the format of reports, and what to do with the files. Fails with a `Mistake` if the arguments are wrong.
 fn asked(
-    reader: Reader,
+    query: Query,
     matches: &ArgMatches<'_>,
-    is_terminal: bool,
+    auto_is_coloured: bool,
 ) -> Result<(Format, Task), Mistake>
-    ensures { result ≡ spec.asked reader (rows_of (found_of matches.now)) is_terminal }
+    ensures { result ≡ spec.asked query (rows_of (found_of matches.now)) auto_is_coloured }
 {
-    let Some(style) = style_named(value_of(matches, "color"), is_terminal) else {
+    let Some(style) = style_named(value_of(matches, "color"), auto_is_coloured) else {
         return Err(Mistake::Color);
     };
     let Some(format) = format_named(value_of(matches, "format"), style) else {
         return Err(Mistake::Format);
     };
-    match task_of(reader, matches) {
+    match task_of(query, matches) {
         Ok(task) => with_task(format, task),
         Err(mistake) => Err(mistake),
     }
@@ -359,29 +359,29 @@ fn message_of(mistake: Mistake) -> &'static str {
         Mistake::Version => "the value of '--toml' must be 1.0, 1.1 or auto",
         Mistake::Forms =>
             "only one of '--json', '--raw', '--toml', '--tagged' and '--items' can be used",
-        Mistake::Path => "PATH is not valid UTF-8",
+        Mistake::Path => "the path is not valid UTF-8",
         Mistake::Map => "the value of '--schema-map' must be URL=FILE",
         Mistake::Sarif => "'--format sarif' can only be used with `check`",
     }
 }
 
 /// Parses the arguments of a command. `words` are the name of the command, or of the program, and the arguments.
-/// `is_terminal` says whether `--color auto` means colors. Fails with clap's error, which may also be a request for the
+/// `auto_is_coloured` says whether `--color auto` means colors. Fails with clap's error, which may also be a request for the
 /// help or the version. If an allocation fails, the error has the kind `OutOfMemory`.
 pub(crate) fn options_of<'w>(
     alloc: Global,
-    reader: Reader,
+    query: Query,
     words: &'w [String],
-    is_terminal: bool,
+    auto_is_coloured: bool,
 ) -> Result<Options<'w>, Error>
-    ensures ok { IfOk result (λ o. spec.Asks reader (map (λ w. string_bytes w) words.entry.now) is_terminal
+    ensures ok { IfOk result (λ o. spec.Asks query (map (λ w. string_bytes w) words.entry.now) auto_is_coloured
         o.format o.task o.pointer.now (map (λ pattern. pattern.now) o.excludes.items)
         (map (λ name. name.now) o.names.items) o.is_quiet o.is_fixing) }
-    ensures fails { FailsBy (spec.faults reader (map (λ w. string_bytes w) words.entry.now) is_terminal) result }
+    ensures fails { FailsBy (spec.faults query (map (λ w. string_bytes w) words.entry.now) auto_is_coloured) result }
 {
-    let mut command = command(alloc, reader)?;
+    let mut command = command(alloc, query)?;
     let matches = command.try_get_matches_from_mut(words)?;
-    match asked(reader, &matches, is_terminal) {
+    match asked(query, &matches, auto_is_coloured) {
         Ok((format, task)) => Ok(Options {
             format,
             task,

@@ -30,7 +30,7 @@ pub(crate) fn wrong_path(alloc: Global, path: &str) -> Result<Option<String>, Al
             let shown = quoted_word(alloc, path)?;
             let place = path_error_text(alloc, path, &error)?;
             let hint = hint(path, &error);
-            Ok(Some(format!(in alloc; "the path {shown} is wrong at {place}{hint}")?))
+            Ok(Some(format!(in alloc; "the path {shown} is invalid at {place}{hint}")?))
         }
     }
 }

@@ -1,7 +1,7 @@
 //! Prints help, and messages about wrong arguments.
 ghost use Rattle.std.specs.Prelude.{◌≡◌, ℕ, List, IfOk, false, string_bytes};
 ghost use Rattle.toml_span_report.specs.Visible.{visible_lines as shown_lines};
-ghost use Rattle.toml_span_cli.specs.Say.{Says, Warns};
+ghost use Rattle.toml_span_cli.specs.Say.{Prints, Warns};
 
 use crate::commands::{Command, arguments_of};
 use std::alloc::{AllocError, Global};
@@ -13,7 +13,7 @@ use toml_span_report::visible::{push_visible, visible_lines};
 /// Writes a text. Returns `status`, or 3 if the write fails.
 pub(crate) fn say<W: Sink>(writer: &mut W, text: &str, status: u8) -> u8
     requires { W.failed writer.old ≡ false }
-    ensures { Says (W.contents writer.old) (W.contents writer.new) (W.failed writer.new) text.now status result }
+    ensures { Prints (W.contents writer.old) (W.contents writer.new) (W.failed writer.new) text.now status result }
 {
     if write_bytes(writer, text.as_bytes()) {
         status

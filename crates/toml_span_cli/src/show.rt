@@ -1,6 +1,6 @@
 //! The command `show`.
 ghost use Rattle.std.specs.Prelude.{◌≡◌, IfOk, false, map, string_bytes};
-ghost use Rattle.toml_span_cli.specs.Show.{SaysUnread, Shows, ShowsFile};
+ghost use Rattle.toml_span_cli.specs.Show.{PrintsUnread, PerformsShow, ShowsFile};
 
 use crate::commands::Command;
 use crate::files::read_file;
@@ -23,7 +23,7 @@ pub(crate) fn say_unread<E: Sink>(
     errors: &mut E,
 ) -> Result<u8, AllocError>
     requires { E.failed errors.old ≡ false }
-    ensures { IfOk result (λ status. SaysUnread name.now reason.now
+    ensures { IfOk result (λ status. PrintsUnread name.now reason.now
         (E.contents errors.old) (E.contents errors.new) (E.failed errors.new) status) }
 {
     let mut line = String::new(alloc);
@@ -66,7 +66,7 @@ pub(crate) fn show<O: Sink, E: Sink>(
 ) -> Result<u8, AllocError>
     requires out { O.failed out.old ≡ false }
     requires errors { E.failed errors.old ≡ false }
-    ensures { IfOk result (λ status. Shows (map (λ w. string_bytes w) words.now)
+    ensures { IfOk result (λ status. PerformsShow (map (λ w. string_bytes w) words.now)
         (O.contents out.old) (O.contents out.new) (O.failed out.new)
         (E.contents errors.old) (E.contents errors.new) (E.failed errors.new) status) }
 {

@@ -7,7 +7,7 @@ ghost use Rattle.toml_span_cli.specs.Start as spec;
 
 use crate::commands::Command;
 use crate::help::{CHECK, GET, VERSION};
-use crate::options::{Reader, options_of};
+use crate::options::{Query, options_of};
 use crate::paths::wrong_path;
 use crate::say::{misuse_text, say};
 use clap::Error;
@@ -21,19 +21,19 @@ use toml_span_lines::sink::Sink;
 use toml_span_report::visible::{visible, visible_lines};
 
 /// Returns the help text of a command.
-fn help_of(reader: Reader) -> &'static str
-    ensures { result.now ≡ spec.help_of reader }
+fn help_of(query: Query) -> &'static str
+    ensures { result.now ≡ spec.help_of query }
 {
-    match reader {
-        Reader::Check => CHECK,
-        Reader::Get => GET,
+    match query {
+        Query::Check => CHECK,
+        Query::Get => GET,
     }
 }
 
 /// Returns the message about wrong arguments. `words` are the arguments as they are displayed. If they are right in
 /// this form, the message is that the path is not valid UTF-8.
-fn message_of(alloc: Global, reader: Reader, words: &[String]) -> Result<String, AllocError> {
-    match options_of(alloc, reader, words, false) {
+fn message_of(alloc: Global, query: Query, words: &[String]) -> Result<String, AllocError> {
+    match options_of(alloc, query, words, false) {
         Ok(options) => {
             let path = options.pointer;
             format!(in alloc; "error: the path `{path}` is not valid UTF-8\n")
@@ -48,7 +48,7 @@ fn message_of(alloc: Global, reader: Reader, words: &[String]) -> Result<String,
 }
 
 /// Returns the message about wrong arguments, escaped for a terminal.
-fn mistake(alloc: Global, reader: Reader, words: &[String]) -> Result<String, AllocError>
+fn mistake(alloc: Global, query: Query, words: &[String]) -> Result<String, AllocError>
     ensures { IfOk result (λ out. (message : List ℕ) × (string_bytes out ≡ visible_lines message)) }
 {
     let mut shown = Vec::new(alloc);
@@ -56,7 +56,7 @@ fn mistake(alloc: Global, reader: Reader, words: &[String]) -> Result<String, Al
         let word = shown_word(alloc, word.as_str())?;
         shown.push(visible(alloc, word.as_str())?)?;
     }
-    let message = message_of(alloc, reader, shown.as_slice())?;
+    let message = message_of(alloc, query, shown.as_slice())?;
     visible_lines(alloc, message.as_str())
 }
 
@@ -76,7 +76,7 @@ fn path_mistake(alloc: Global, path: &str) -> Result<Option<String>, AllocError>
 /// fails, 4 if an allocation fails.
 fn refuse<O: Sink, E: Sink>(
     alloc: Global,
-    reader: Reader,
+    query: Query,
     words: &[String],
     error: &Error,
     out: &mut O,
@@ -84,14 +84,14 @@ fn refuse<O: Sink, E: Sink>(
 ) -> u8
     requires out { O.failed out.old ≡ false }
     requires errors { E.failed errors.old ≡ false }
-    ensures { Refuses reader (kind_of error.now) (O.contents out.old) (O.contents out.new) (O.failed out.new)
+    ensures { Refuses query (kind_of error.now) (O.contents out.old) (O.contents out.new) (O.failed out.new)
         (E.contents errors.old) (E.contents errors.new) (E.failed errors.new) result }
 {
     match error.kind() {
         ErrorKind::OutOfMemory => 4,
-        ErrorKind::DisplayHelp => say(out, help_of(reader), 0),
+        ErrorKind::DisplayHelp => say(out, help_of(query), 0),
         ErrorKind::DisplayVersion => say(out, VERSION, 0),
-        _ => match mistake(alloc, reader, words) {
+        _ => match mistake(alloc, query, words) {
             Ok(message) => say(errors, message.as_str(), 2),
             Err(_) => 4,
         },
@@ -102,13 +102,13 @@ fn refuse<O: Sink, E: Sink>(
 /// Otherwise prints the help or version with status 0, or the message about wrong arguments with status 2. The status
 /// is 3 if a write fails, and 4 if an allocation fails.
 ///
-/// `words` are the name of the command, or of the program, and the arguments. `is_terminal` says whether `--color auto`
+/// `words` are the name of the command, or of the program, and the arguments. `auto_is_coloured` says whether `--color auto`
 /// means colors, and `is_watched` whether standard error is a terminal.
 pub(crate) fn start<I: Inputs, S: Schemas, O: Sink, E: Sink>(
     alloc: Global,
-    reader: Reader,
+    query: Query,
     words: &[String],
-    is_terminal: bool,
+    auto_is_coloured: bool,
     is_watched: bool,
     inputs: &mut I,
     schemas: &mut S,
@@ -117,12 +117,12 @@ pub(crate) fn start<I: Inputs, S: Schemas, O: Sink, E: Sink>(
 ) -> u8
     requires out { O.failed out.old ≡ false }
     requires errors { E.failed errors.old ≡ false }
-    ensures { Starts S.says reader (map (λ w. string_bytes w) words.now) is_terminal is_watched
+    ensures { Starts S.says query (map (λ w. string_bytes w) words.now) auto_is_coloured is_watched
         (I.log inputs.old) (I.log inputs.new)
         (O.contents out.old) (O.contents out.new) (O.failed out.new)
         (E.contents errors.old) (E.contents errors.new) (E.failed errors.new) result }
 {
-    match options_of(alloc, reader, words, is_terminal) {
+    match options_of(alloc, query, words, auto_is_coloured) {
         Ok(options) => match path_mistake(alloc, options.pointer) {
             Ok(None) => run(
                 alloc,
@@ -141,6 +141,6 @@ pub(crate) fn start<I: Inputs, S: Schemas, O: Sink, E: Sink>(
             Ok(Some(message)) => say(errors, message.as_str(), 2),
             Err(_) => 4,
         },
-        Err(error) => refuse(alloc, reader, words, &error, out, errors),
+        Err(error) => refuse(alloc, query, words, &error, out, errors),
     }
 }

@@ -70,7 +70,7 @@ fn package(key: &Key, package: &Value) -> [Option<Finding>; 5] {
     match package.pointer("/name") {
         Some(name) if !is_kebab(name) => {
             let message = "the name is not in kebab case";
-            let place = (name.span, "small letters, digits and `-` alone");
+            let place = (name.span, "use only lower-case letters, digits and `-`");
             found[1] = Some(new_finding(Warning, "name-case", message, place));
         }
         _ => {}
@@ -124,15 +124,15 @@ fn dependency(value: &Value) -> [Option<Finding>; 2] {
     let mut found = [None; 2];
     let version = value.pointer("/version").unwrap_or(value);
     if version.as_str() == Some("*") {
-        let message = "any version of it will do";
+        let message = "any version is accepted";
         found[0] = Some(Finding {
-            help: Some("name the oldest that serves, as `1.2`"),
+            help: Some("write the oldest version that works, such as `1.2`"),
             ..new_finding(Warning, "any-version", message, (version.span, ""))
         });
     }
     match value.pointer("/path") {
         Some(path) if !value.has_key("version") => {
-            let message = "a registry can't read a path";
+            let message = "the dependency has a path but no version";
             found[1] = Some(Finding {
                 help: Some("add a `version`"),
                 ..new_finding(Error, "path-alone", message, (path.span, ""))

@@ -112,7 +112,7 @@ fn try_lock(rt: &HostRuntime, name: &str) -> io::Result<Try> {
 }
 
 /// Waits before the next attempt to get a lock.
-fn rest(rt: &HostRuntime) {
+fn pause(rt: &HostRuntime) {
     thread::sleep(rt, Duration::from_millis(1000 / TRIES));
 }
 
@@ -122,7 +122,7 @@ fn rest(rt: &HostRuntime) {
 pub(crate) fn waited(rt: &HostRuntime, file: &File, wait: u64) -> bool {
     for _ in 0..wait.saturating_mul(TRIES).saturating_add(1) {
         match file.try_lock() {
-            Err(TryLockError::WouldBlock) => rest(rt),
+            Err(TryLockError::WouldBlock) => pause(rt),
             _ => return true,
         }
     }
@@ -140,7 +140,7 @@ pub(crate) fn lock(rt: &HostRuntime, name: String, wait: u64) -> Result<Beside, 
             Try::Busy => is_left = false,
             Try::Left => is_left = true,
         }
-        rest(rt);
+        pause(rt);
     }
     if is_left {
         Err(Failure::Left(name))

@@ -48,8 +48,9 @@ pub struct Disk<'r> {
     /// The metadata of the file when it was last read. `None` if it has not been read.
     found: Option<Metadata>,
     beside: Option<Beside>,
-    /// `open`: the file itself, to be written in place. `ready`: the new text.
+    /// The file itself, if it is to be written in place.
     open: Option<File>,
+    /// The new text, if the file is to be written in place.
     ready: Vec<u8>,
 }
 

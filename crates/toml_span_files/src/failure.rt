@@ -15,9 +15,9 @@ pub enum Failure {
     Directory,
     /// The path leads to a pipe, a device or a socket.
     NotRegular,
-    /// The file is longer than 16 MiB.
+    /// The file is larger than 16 MiB.
     TooLong,
-    /// The new text is longer than 16 MiB.
+    /// The new text is larger than 16 MiB.
     ResultTooLong,
     /// The file is read-only.
     ReadOnly,
@@ -90,10 +90,10 @@ impl Display for Failure {
         match self {
             Failure::Memory => f.write_str("out of memory"),
             Failure::Unread(error) => write!(f, "{error}"),
-            Failure::Directory => f.write_str("is a directory"),
+            Failure::Directory => f.write_str("it is a directory"),
             Failure::NotRegular => f.write_str("it is not a regular file"),
-            Failure::TooLong => f.write_str("it is longer than 16 MiB"),
-            Failure::ResultTooLong => f.write_str("the result would be longer than 16 MiB"),
+            Failure::TooLong => f.write_str("it is larger than 16 MiB"),
+            Failure::ResultTooLong => f.write_str("the result would be larger than 16 MiB"),
             Failure::ReadOnly => f.write_str("it is read-only"),
             Failure::Linked => f.write_str("it has more than one name (hard links)"),
             Failure::Owner(error) => write!(f, "its owner and group can't be kept: {error}"),

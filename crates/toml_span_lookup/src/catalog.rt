@@ -45,8 +45,8 @@ fn glob_of(alloc: Global, text: &str) -> Result<Option<Pattern>, AllocError> {
     pattern_of(alloc, pattern.as_str())
 }
 
-/// Parses an entry of a catalog, and leaves out patterns that are not supported. Returns `None` if `url` is not a
-/// string or `fileMatch` is not an array.
+/// Parses an entry of a catalog, and leaves out patterns that are not strings or not supported. Returns `None` if `url`
+/// is not a string or `fileMatch` is not an array.
 fn entry_of(alloc: Global, entry: &Json<'_>) -> Result<Option<Listed>, AllocError> {
     let (Some(address), Some(globs)) = (text_of(entry, "url"), elements_of(entry, "fileMatch"))
     else {
@@ -54,7 +54,10 @@ fn entry_of(alloc: Global, entry: &Json<'_>) -> Result<Option<Listed>, AllocErro
     };
     let mut patterns = Vec::new(alloc);
     for glob in globs {
-        if let Some(pattern) = glob_of(alloc, glob.as_str().unwrap_or(""))? {
+        let Some(text) = glob.as_str() else {
+            continue;
+        };
+        if let Some(pattern) = glob_of(alloc, text)? {
             patterns.push(pattern)?;
         }
     }

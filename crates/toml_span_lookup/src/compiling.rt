@@ -28,7 +28,7 @@ pub(crate) struct Used {
 
 /// The document of a schema, or a document to which the schema refers.
 #[derive(Drop)]
-struct Other {
+struct Loaded {
     path: String,
     address: String,
     text: String,
@@ -36,7 +36,7 @@ struct Other {
 
 /// Compiles the schema in the first of `documents`, which may refer to the other documents. Fails as `Guide::from_json`
 /// does.
-fn compile(alloc: Global, documents: &[Other]) -> Result<Guide, SchemaError> {
+fn compile(alloc: Global, documents: &[Loaded]) -> Result<Guide, SchemaError> {
     let mut others = Vec::new(alloc);
     for document in documents {
         others.push(Document {
@@ -92,7 +92,7 @@ fn path_for(
 
 /// Returns the address, without its fragment, of the document that `error` reports as missing. Returns `None` if
 /// `error` is another error, or if the document is among `documents`.
-fn missing_address<'e>(documents: &[Other], error: &'e SchemaError) -> Option<&'e str> {
+fn missing_address<'e>(documents: &[Loaded], error: &'e SchemaError) -> Option<&'e str> {
     let SchemaError::Missing { address, .. } = error else {
         return None;
     };
@@ -110,7 +110,7 @@ fn missing_address<'e>(documents: &[Other], error: &'e SchemaError) -> Option<&'
 fn refuse_text(
     alloc: Global,
     complaint: &mut String,
-    documents: &[Other],
+    documents: &[Loaded],
     address: &str,
 ) -> Result<(), AllocError> {
     for document in documents {
@@ -134,7 +134,7 @@ fn refuse(
     options: &Options,
     complaint: &mut String,
     path: &str,
-    documents: &[Other],
+    documents: &[Loaded],
     error: &SchemaError,
 ) -> Result<(), AllocError> {
     let reason = match error {
@@ -158,7 +158,7 @@ fn push_missing<D: Disk>(
     options: &Options,
     complaint: &mut String,
     used: &mut Used,
-    documents: &mut Vec<Other>,
+    documents: &mut Vec<Loaded>,
     error: &SchemaError,
 ) -> Result<bool, AllocError> {
     let Some(address) = missing_address(documents.as_slice(), error) else {
@@ -172,7 +172,7 @@ fn push_missing<D: Disk>(
         return Ok(false);
     };
     let address = String::from_str(alloc, address)?;
-    documents.push(Other {
+    documents.push(Loaded {
         path,
         address,
         text,
@@ -205,7 +205,7 @@ fn compile_used<D: Disk>(
     options: &Options,
     complaint: &mut String,
     used: &mut Used,
-    mut documents: Vec<Other>,
+    mut documents: Vec<Loaded>,
 ) -> Result<(), AllocError> {
     for _ in 0..=MOST_DOCUMENTS {
         let error = match compile(alloc, documents.as_slice()) {
@@ -244,7 +244,7 @@ pub(crate) fn used_from<D: Disk>(
     };
     if let Some(text) = read_part(alloc, disk, complaint, &mut used, path)? {
         let mut documents = Vec::new(alloc);
-        documents.push(Other {
+        documents.push(Loaded {
             path: String::from_str(alloc, path)?,
             address: address_of(alloc, path)?,
             text,

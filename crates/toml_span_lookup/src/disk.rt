@@ -33,7 +33,7 @@ impl Disk for Host {
         path: &str,
     ) -> Result<Result<Vec<u8>, String>, AllocError> {
         if path != "-" && is_folder(&self.rt, path) {
-            return Ok(Err(String::from_str(alloc, "is a directory")?));
+            return Ok(Err(String::from_str(alloc, "it is a directory")?));
         }
         self.read(alloc, path)
     }

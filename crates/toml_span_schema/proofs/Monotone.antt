@@ -4,7 +4,7 @@ use Rattle.toml_span_tree.specs.Node.{Node, Inner, taken, scalar, array, table}
 use Rattle.toml_span_tree.specs.Value.{inner_of}
 use Rattle.toml_span_schema.specs.Applied.{schemas_for}
 use Rattle.toml_span_schema.specs.Parts.{Part, entry, element, value_of, parts_of, has_key, names_of, is_entry, same_bool}
-use Rattle.toml_span_schema.specs.Valid.{Verdict, Judge, allows, allows_inside, allows_part, any, both, contains_enough, count, counted, covers, either, elements, every, is_evaluated_element, judged, keywords, optional, parts_allow, reaches, valid}
+use Rattle.toml_span_schema.specs.Valid.{Verdict, Judge, allows, allows_other, allows_part, any, both, contains_enough, count, counted, covers, either, elements, every, is_evaluated_element, judged, keywords, optional, parts_allow, reaches, valid}
 use Rattle.toml_span_schema.specs.declared.keyword.Keyword.{Keyword}
 use Rattle.toml_span_schema.specs.declared.keyword.Keyword.TheVariants as keyword
 use Rattle.toml_span_schema.specs.declared.keyword.Placed.{Placed}
@@ -88,18 +88,18 @@ parts_le s j j' h k ps =
     every_le (λ p. every (λ m. j.valid m (value_of p)) (schemas_for s k p)) (λ p. every (λ m. j'.valid m (value_of p)) (schemas_for s k p))
     (λ p. every_le (λ m. j.valid m (value_of p)) (λ m. j'.valid m (value_of p)) (λ m. h.valid m (value_of p)) (schemas_for s k p)) ps
 
-allows_inside_le : (s : Schema) (j j' : Judge) → Knows j j' → (k : Keyword) (n : Node)
-    → Le (allows_inside s j k n) (allows_inside s j' k n)
-unfolding allows_inside
-allows_inside_le s j j' h (keyword.PropertyNames k) n = every_le (λ m. j.valid k m) (λ m. j'.valid k m) (λ m. h.valid k m) (names_of n)
-allows_inside_le s j j' h (keyword.Contains k least most evaluates) n = contains_le j j' h k least most (inner_of n)
-allows_inside_le s j j' h (keyword.Items prefix rest) n = parts_le s j j' h (keyword.Items prefix rest) (parts_of n)
-allows_inside_le s j j' h (keyword.Properties named matching rest) n = parts_le s j j' h (keyword.Properties named matching rest) (parts_of n)
-allows_inside_le s j j' h (keyword.UnevaluatedItems beside k) n =
-    every_le (λ p. allows_part j false (beside, k) n p) (λ p. allows_part j' false (beside, k) n p) (λ p. part_le j j' h false (beside, k) n p) (parts_of n)
-allows_inside_le s j j' h (keyword.UnevaluatedProperties beside k) n =
-    every_le (λ p. allows_part j true (beside, k) n p) (λ p. allows_part j' true (beside, k) n p) (λ p. part_le j j' h true (beside, k) n p) (parts_of n)
-allows_inside_le s j j' h _ n = λ b e. e
+allows_other_le : (s : Schema) (j j' : Judge) → Knows j j' → (k : Keyword) (n : Node)
+    → Le (allows_other s j k n) (allows_other s j' k n)
+unfolding allows_other
+allows_other_le s j j' h (keyword.PropertyNames k) n = every_le (λ m. j.valid k m) (λ m. j'.valid k m) (λ m. h.valid k m) (names_of n)
+allows_other_le s j j' h (keyword.Contains k least most evaluates) n = contains_le j j' h k least most (inner_of n)
+allows_other_le s j j' h (keyword.Items prefix rest) n = parts_le s j j' h (keyword.Items prefix rest) (parts_of n)
+allows_other_le s j j' h (keyword.Properties named matching rest) n = parts_le s j j' h (keyword.Properties named matching rest) (parts_of n)
+allows_other_le s j j' h (keyword.UnevaluatedItems others k) n =
+    every_le (λ p. allows_part j false (others, k) n p) (λ p. allows_part j' false (others, k) n p) (λ p. part_le j j' h false (others, k) n p) (parts_of n)
+allows_other_le s j j' h (keyword.UnevaluatedProperties others k) n =
+    every_le (λ p. allows_part j true (others, k) n p) (λ p. allows_part j' true (others, k) n p) (λ p. part_le j j' h true (others, k) n p) (parts_of n)
+allows_other_le s j j' h _ n = λ b e. e
 
 pub allows_le : (s : Schema) (j j' : Judge) → Knows j j' → (k : Keyword) (n : Node) → Le (allows s j k n) (allows s j' k n)
 unfolding allows
@@ -115,7 +115,7 @@ allows_le s j j' h (keyword.If c consequent alternative) n =
 allows_le s j j' h (keyword.DependentSchemas es) n =
     every_le (λ (e : String Global × ℕ). if has_key n (string_bytes e.0) then j.valid e.1 n else Some true) (λ (e : String Global × ℕ). if has_key n (string_bytes e.0) then j'.valid e.1 n else Some true)
     (λ (e : String Global × ℕ). if_le (has_key n (string_bytes e.0)) (j.valid e.1 n) (j'.valid e.1 n) (Some true) (h.valid e.1 n)) es.items
-allows_le s j j' h k n = allows_inside_le s j j' h k n
+allows_le s j j' h k n = allows_other_le s j j' h k n
 
 element_le : (j j' : Judge) → Knows j j' → (k : ℕ) (part : Part) → Le (is_evaluated_element j k part) (is_evaluated_element j' k part)
 element_le j j' h k (element i n) = h.valid k n

@@ -115,8 +115,8 @@ allows_kind s k n i = allows_quantity k (quantity_in i)
 
 -- Whether a keyword without subschemas allows a value. For `enum` and `const`, the value is equal to one of the
 -- elements in the keyword's array.
-unfoldable pub asserted : Schema → Keyword → Node → Bool
-asserted s keyword.Never n = false
-asserted s (keyword.Type types) n = has_type types (inner_of n)
-asserted s (keyword.Enum values words) n = contains_text values (canonical n)
-asserted s k n = allows_kind s k n (inner_of n)
+unfoldable pub allows_simple : Schema → Keyword → Node → Bool
+allows_simple s keyword.Never n = false
+allows_simple s (keyword.Type types) n = has_type types (inner_of n)
+allows_simple s (keyword.Enum values words) n = contains_text values (canonical n)
+allows_simple s k n = allows_kind s k n (inner_of n)

@@ -8,7 +8,7 @@ use Rattle.std.specs.declared.alloc.Global.{Global}
 use Rattle.toml_span_tree.specs.Node.{Node, Inner, array, Items, no_items, item}
 use Rattle.toml_span_tree.specs.Value.{inner_of}
 use Rattle.toml_span_schema.specs.Applied.{schemas_for}
-use Rattle.toml_span_schema.specs.Asserted.{asserted}
+use Rattle.toml_span_schema.specs.Asserted.{allows_simple}
 use Rattle.toml_span_schema.specs.Parts.{Part, entry, element, value_of, parts_of, has_key, names_of, is_entry, same_bool}
 use Rattle.toml_span_schema.specs.declared.keyword.Keyword.{Keyword}
 use Rattle.toml_span_schema.specs.declared.keyword.Keyword.TheVariants as keyword
@@ -96,16 +96,16 @@ abbrev pub unevaluated_allow : Judge → Bool → ℕ × ℕ → Node → Verdic
 unevaluated_allow j entries nodes n = every (λ p. allows_part j entries nodes n p) (parts_of n)
 
 -- Whether a keyword allows a value. The keyword must apply no subschema to the value itself.
-unfoldable pub allows_inside : Schema → Judge → Keyword → Node → Verdict
+unfoldable pub allows_other : Schema → Judge → Keyword → Node → Verdict
 -- each key of the table, as a string, is valid
-allows_inside s j (keyword.PropertyNames k) n = every (λ name. j.valid k name) (names_of n)
-allows_inside s j (keyword.Contains k least most evaluates) n = contains_enough j k least most (inner_of n)
-allows_inside s j (keyword.Items prefix rest) n = parts_allow s j (keyword.Items prefix rest) (parts_of n)
-allows_inside s j (keyword.Properties named matching rest) n =
+allows_other s j (keyword.PropertyNames k) n = every (λ name. j.valid k name) (names_of n)
+allows_other s j (keyword.Contains k least most evaluates) n = contains_enough j k least most (inner_of n)
+allows_other s j (keyword.Items prefix rest) n = parts_allow s j (keyword.Items prefix rest) (parts_of n)
+allows_other s j (keyword.Properties named matching rest) n =
     parts_allow s j (keyword.Properties named matching rest) (parts_of n)
-allows_inside s j (keyword.UnevaluatedItems beside k) n = unevaluated_allow j false (beside, k) n
-allows_inside s j (keyword.UnevaluatedProperties beside k) n = unevaluated_allow j true (beside, k) n
-allows_inside s j k n = Some (asserted s k n)
+allows_other s j (keyword.UnevaluatedItems others k) n = unevaluated_allow j false (others, k) n
+allows_other s j (keyword.UnevaluatedProperties others k) n = unevaluated_allow j true (others, k) n
+allows_other s j k n = Some (allows_simple s k n)
 
 -- Whether a keyword allows a value.
 unfoldable pub allows : Schema → Judge → Keyword → Node → Verdict
@@ -118,7 +118,7 @@ allows s j (keyword.Not k) n = option_map not (j.valid k n)
 allows s j (keyword.If c consequent alternative) n =
     option_and_then (λ b. optional (λ k. j.valid k n) (Some true) (if b then consequent else alternative)) (j.valid c n)
 allows s j (keyword.DependentSchemas es) n = dependents_allow j es.items n
-allows s j k n = allows_inside s j k n
+allows s j k n = allows_other s j k n
 
 -- whether a value is valid against a subschema, and the subschema evaluates an entry or element of it
 abbrev pub covers : Judge → ℕ → Node → Part → Verdict
@@ -150,8 +150,8 @@ reaches s j (keyword.Contains k least most evaluates) n part =
 reaches s j (keyword.Items prefix rest) n part = Some (is_nonempty (schemas_for s (keyword.Items prefix rest) part))
 reaches s j (keyword.Properties named matching rest) n part =
     Some (is_nonempty (schemas_for s (keyword.Properties named matching rest) part))
-reaches s j (keyword.UnevaluatedItems beside k) n part = Some (not (is_entry part))
-reaches s j (keyword.UnevaluatedProperties beside k) n part = Some (is_entry part)
+reaches s j (keyword.UnevaluatedItems others k) n part = Some (not (is_entry part))
+reaches s j (keyword.UnevaluatedProperties others k) n part = Some (is_entry part)
 reaches s j k n part = Some false
 
 abbrev pub keywords_in : Option Compiled → List Placed

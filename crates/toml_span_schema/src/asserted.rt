@@ -2,7 +2,7 @@
 ghost use Rattle.std.specs.Prelude.{◌≡◌, IfOk, length};
 ghost use Rattle.toml_span_tree.specs.Value.{float_value, inner_of, items_view, view};
 ghost use Rattle.toml_span_schema.specs.Asserted.{allows_items, allows_kind, allows_number};
-ghost use Rattle.toml_span_schema.specs.Asserted.{allows_table_of, allows_text, asserted};
+ghost use Rattle.toml_span_schema.specs.Asserted.{allows_simple, allows_table_of, allows_text};
 ghost use Rattle.toml_span_schema.specs.Asserted.{characters, has_all, has_dependents};
 ghost use Rattle.toml_span_schema.specs.Asserted.{has_type, is_at_least, is_at_most};
 ghost use Rattle.toml_span_schema.specs.Asserted.{is_whole_float};
@@ -181,13 +181,13 @@ fn allows_table(keyword: &Keyword, value: &Value<'_>, count: usize) -> bool
 /// values of other types. Fails with `TooDeep` if a value to compare nests too deep or contains a taken value. Fails
 /// with `TooLong` if `multipleOf` or the format `regex` takes too many steps.
 #[tactic(auto, unfolding(crate::specs::Asserted::asserted))]
-pub(crate) fn asserted(
+pub(crate) fn allows_simple(
     alloc: Global,
     schema: &Schema,
     keyword: &Keyword,
     value: &Value<'_>,
 ) -> Result<bool, CheckError>
-    ensures { IfOk result (λ r. r ≡ asserted schema.now keyword.now (view value.now)) }
+    ensures { IfOk result (λ r. r ≡ allows_simple schema.now keyword.now (view value.now)) }
 {
     match keyword {
         Keyword::Never => Ok(false),
@@ -201,7 +201,7 @@ pub(crate) fn asserted(
 }
 
 /// Returns whether a keyword for one type, such as `minimum`, allows a value. All values of other types are allowed.
-/// Fails like `asserted`.
+/// Fails like `allows_simple`.
 #[tactic(auto, unfolding(crate::specs::Asserted::allows_kind))]
 fn allows_kind(
     alloc: Global,

@@ -13,7 +13,7 @@ use crate::pointers::{with_position, with_step};
 use crate::read::read_node;
 use crate::schema::Schema;
 use crate::sources::{
-    Dialect, Draft, MOST, Resource, Source, Sources, decoded, joined, without_fragment,
+    Dialect, Draft, MOST_SCHEMAS, Resource, Source, Sources, decoded, joined, without_fragment,
 };
 use json::{Scratch, Value as Json, is_valid};
 use regex::Regex;
@@ -33,7 +33,7 @@ struct Task<'v, 'a> {
     source: usize,
     pointer: String,
     scope: usize,
-    beside: bool,
+    without_unevaluated: bool,
 }
 
 /// A schema that is being read.
@@ -46,7 +46,7 @@ pub(crate) struct Site<'v, 'a> {
     pub(crate) scope: usize,
     pub(crate) dialect: Dialect,
     /// Whether to leave out `unevaluatedItems` and `unevaluatedProperties`.
-    pub(crate) beside: bool,
+    pub(crate) without_unevaluated: bool,
 }
 
 /// The place that a reference names. If the reference's fragment is the name of an anchor, `anchor` is the index of
@@ -211,15 +211,6 @@ fn compile_all<'v, 'a>(
     compile_sources(alloc, Sources::new(alloc, documents)?)
 }
 
-/// Returns the notes for people in the schemas of `tasks`, in the same order.
-fn notes_of(alloc: Global, tasks: &[Task<'_, '_>]) -> Result<Vec<Notes>, AllocError> {
-    let mut notes = Vec::new(alloc);
-    for task in tasks {
-        notes.push(read_notes(alloc, task.value)?)?;
-    }
-    Ok(notes)
-}
-
 /// Compiles the schema in the first document of `sources`. Fails as `Schema::from_json` does.
 fn compile_sources(alloc: Global, sources: Sources<'_, '_>) -> Result<Guide, SchemaError> {
     let mut compiler = Compiler {
@@ -239,12 +230,8 @@ fn compile_sources(alloc: Global, sources: Sources<'_, '_>) -> Result<Guide, Sch
     if longest > LONGEST {
         return Err(SchemaError::TooLarge);
     }
-    let Compiler {
-        patterns,
-        tasks,
-        ..
-    } = compiler;
-    let notes = notes_of(alloc, tasks.as_slice())?;
+    let notes = compiler.notes()?;
+    let Compiler { patterns, .. } = compiler;
     let schema = Schema {
         nodes,
         patterns,
@@ -256,10 +243,10 @@ fn compile_sources(alloc: Global, sources: Sources<'_, '_>) -> Result<Guide, Sch
 
 impl<'v, 'a> Compiler<'v, 'a> {
     /// Compiles the schemas of all tasks, including tasks that are added meanwhile. Fails with `TooLarge` if there are
-    /// `MOST` or more tasks, otherwise like `read_node`.
+    /// `MOST_SCHEMAS` or more tasks, otherwise like `read_node`.
     fn nodes(&mut self) -> Result<Vec<Node>, SchemaError> {
         let mut nodes = Vec::new(self.alloc);
-        for at in 0..MOST {
+        for at in 0..MOST_SCHEMAS {
             let Some(site) = self.site(at)? else {
                 return Ok(nodes);
             };
@@ -274,20 +261,13 @@ impl<'v, 'a> Compiler<'v, 'a> {
             return Ok(None);
         };
         let pointer = task.pointer.as_str();
-        let dialect = match self.resource(task.source, pointer) {
-            Some(resource) => resource.dialect,
-            None => Dialect {
-                draft: Draft::Of2020,
-                validates: true,
-            },
-        };
         Ok(Some(Site {
             value: task.value,
             source: task.source,
             pointer: String::from_str(self.alloc, pointer)?,
             scope: task.scope,
-            dialect,
-            beside: task.beside,
+            dialect: self.dialect(task.source, pointer),
+            without_unevaluated: task.without_unevaluated,
         }))
     }
 
@@ -297,21 +277,42 @@ impl<'v, 'a> Compiler<'v, 'a> {
         self.sources.resources.get(at)
     }
 
+    /// Returns the dialect of the schema at a place.
+    fn dialect(&self, source: usize, pointer: &str) -> Dialect {
+        match self.resource(source, pointer) {
+            Some(resource) => resource.dialect,
+            None => Dialect {
+                draft: Draft::Of2020,
+                validates: true,
+            },
+        }
+    }
+
+    /// Returns the notes for people in the schemas of the tasks, in the same order.
+    fn notes(&self) -> Result<Vec<Notes>, AllocError> {
+        let mut notes = Vec::new(self.alloc);
+        for task in self.tasks.as_slice() {
+            let draft = self.dialect(task.source, task.pointer.as_str()).draft;
+            notes.push(read_notes(self.alloc, task.value, draft)?)?;
+        }
+        Ok(notes)
+    }
+
     /// Returns the index of the compiled form of the schema `value` at a place. Adds a task for the schema, unless it
-    /// already has one. `outer` is the scope in which the place is reached. `beside` is as in `Site`. Fails with
-    /// `TooLarge` if `work` exceeds `MOST_WORK`.
+    /// already has one. `outer` is the scope in which the place is reached. `without_unevaluated` is as in `Site`. Fails
+    /// with `TooLarge` if `work` exceeds `MOST_WORK`.
     fn node(
         &mut self,
         value: &'v Json<'a>,
         source: usize,
         pointer: &str,
         outer: usize,
-        beside: bool,
+        without_unevaluated: bool,
     ) -> Result<usize, SchemaError> {
         let alloc = self.alloc;
         self.spend()?;
         let scope = self.scope_in(source, pointer, outer)?;
-        let key = format!(in alloc; "{source} {scope} {beside} {pointer}")?;
+        let key = format!(in alloc; "{source} {scope} {without_unevaluated} {pointer}")?;
         if let Some(at) = self.known.get(key.as_str()) {
             return Ok(*at);
         }
@@ -321,7 +322,7 @@ impl<'v, 'a> Compiler<'v, 'a> {
             source,
             pointer: String::from_str(alloc, pointer)?,
             scope,
-            beside,
+            without_unevaluated,
         })?;
         let _none = self.known.insert(key, at)?;
         Ok(at)
@@ -465,7 +466,10 @@ impl<'v, 'a> Compiler<'v, 'a> {
 
     /// Returns the index of the compiled form of the schema `site` without `unevaluatedItems` and
     /// `unevaluatedProperties`. Fails like `node`.
-    pub(crate) fn beside(&mut self, site: &Site<'v, 'a>) -> Result<usize, SchemaError> {
+    pub(crate) fn without_unevaluated(
+        &mut self,
+        site: &Site<'v, 'a>,
+    ) -> Result<usize, SchemaError> {
         self.node(
             site.value,
             site.source,

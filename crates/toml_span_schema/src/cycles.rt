@@ -21,8 +21,8 @@ fn push_in_place(list: &mut Vec<usize>, keyword: &Keyword) -> Result<(), AllocEr
                 list.push(entry.1)?;
             }
         }
-        Keyword::UnevaluatedItems(beside, _) | Keyword::UnevaluatedProperties(beside, _) => {
-            list.push(*beside)?;
+        Keyword::UnevaluatedItems(others, _) | Keyword::UnevaluatedProperties(others, _) => {
+            list.push(*others)?;
         }
         _ => {}
     }

@@ -67,7 +67,7 @@ impl SchemaError {
             }
             SchemaError::Missing { place, address } => {
                 let place = shown(place.as_str());
-                format!(in alloc; "{place}: {address} is not among the documents")
+                format!(in alloc; "{place}: there is no `{address}`")
             }
             SchemaError::Cycle { place } => {
                 let place = shown(place.as_str());

@@ -5,9 +5,9 @@ use crate::applied::{has_key, names, schemas_for};
 use crate::error::CheckError;
 use crate::keyword::{Keyword, Placed};
 use crate::listed::{Part, parts};
+use crate::messages::{code_of, message_of};
 use crate::report::start_of;
 use crate::schema::Schema;
-use crate::words::{code_of, message_of};
 use std::alloc::{AllocError, Global};
 use toml_span_lex::span::Span;
 use toml_span_report::{Report, nearest};
@@ -103,9 +103,9 @@ impl Schema {
             Keyword::Items(_, _) | Keyword::Properties(_, _, _) => {
                 self.explain_members(alloc, left, depth, node, placed, value, reports)
             }
-            Keyword::UnevaluatedItems(beside, other)
-            | Keyword::UnevaluatedProperties(beside, other) => {
-                let nodes = (*beside, *other);
+            Keyword::UnevaluatedItems(others, schema)
+            | Keyword::UnevaluatedProperties(others, schema) => {
+                let nodes = (*others, *schema);
                 self.explain_rest(alloc, left, depth, node, placed, nodes, value, reports)
             }
             Keyword::Required(wanted) => {
@@ -266,8 +266,11 @@ impl Schema {
         span: Span,
     ) -> Result<Report, AllocError> {
         let message = format!(in alloc; "unknown key `{name}`")?;
-        let report = Report::error(alloc, "schema-additional-properties", message.as_str())?;
-        let report = report.primary(span, "")?;
+        let code = match &placed.keyword {
+            Keyword::UnevaluatedProperties(_, _) => "schema-unevaluated-properties",
+            _ => "schema-additional-properties",
+        };
+        let report = Report::error(alloc, code, message.as_str())?.primary(span, "")?;
         let mut known = Vec::new(alloc);
         if let Keyword::Properties(named, _, _) = &placed.keyword {
             for (other, _node) in named.iter() {
@@ -356,7 +359,8 @@ fn distance(reports: &[Report], span: Span) -> usize {
         let weight = match report.code.as_str() {
             "schema-type" if own => 10_000,
             "schema-const" | "schema-enum" => 1_000,
-            "schema-required" | "schema-additional-properties" => 10,
+            "schema-required" | "schema-additional-properties" | "schema-unevaluated-properties" =>
+                10,
             _ => 1,
         };
         sum = sum.saturating_add(weight);

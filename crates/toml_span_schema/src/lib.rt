@@ -30,6 +30,7 @@ mod formats;
 mod guide;
 mod keyword;
 mod listed;
+mod messages;
 mod notes;
 mod numbers;
 mod patterns;
@@ -40,7 +41,6 @@ mod schema;
 mod sources;
 mod subschemas;
 mod valid;
-mod words;
 
 pub use documents::Document;
 pub use error::{CheckError, SchemaError};

@@ -1,7 +1,7 @@
 //! Reads the notes for people in schemas.
 
-use crate::read::{DEPTH, constant};
-use crate::sources::is_true;
+use crate::read::{DEPTH, to_toml};
+use crate::sources::{Draft, is_true};
 use json::Value as Json;
 use std::alloc::{AllocError, Global};
 use toml_span_tree::Value;
@@ -15,7 +15,7 @@ pub struct Notes {
     pub description: Option<String>,
     /// The value of `default`, or `None` if the schema has no `default` or one that is or contains `null`.
     pub default: Option<Value<'static>>,
-    /// The values of `enum`, then the value of `const`, without values that are or contain `null`.
+    /// The values of `enum`, then, from draft 6 on, the value of `const`, without values that are or contain `null`.
     pub values: Vec<Value<'static>>,
     /// Whether the schema says `deprecated: true`.
     pub is_deprecated: bool,
@@ -35,25 +35,31 @@ fn push_value(
     value: &Json<'_>,
     values: &mut Vec<Value<'static>>,
 ) -> Result<(), AllocError> {
-    if let Some(value) = constant(alloc, value, DEPTH)? {
+    if let Some(value) = to_toml(alloc, value, DEPTH)? {
         values.push(value)?;
     }
     Ok(())
 }
 
-/// Returns the notes in a schema.
-pub(crate) fn read_notes(alloc: Global, value: &Json<'_>) -> Result<Notes, AllocError> {
+/// Returns the notes in a schema of the given draft.
+pub(crate) fn read_notes(
+    alloc: Global,
+    value: &Json<'_>,
+    draft: Draft,
+) -> Result<Notes, AllocError> {
     let mut values = Vec::new(alloc);
     if let Some(Json::Array(items)) = value.get("enum") {
         for item in items.as_slice() {
             push_value(alloc, item, &mut values)?;
         }
     }
-    if let Some(only) = value.get("const") {
-        push_value(alloc, only, &mut values)?;
+    if draft > Draft::Four {
+        if let Some(only) = value.get("const") {
+            push_value(alloc, only, &mut values)?;
+        }
     }
     let default = match value.get("default") {
-        Some(default) => constant(alloc, default, DEPTH)?,
+        Some(default) => to_toml(alloc, default, DEPTH)?,
         None => None,
     };
     Ok(Notes {

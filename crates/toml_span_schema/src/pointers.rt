@@ -28,20 +28,21 @@ pub(crate) fn with_position(alloc: Global, pointer: &str, at: usize) -> Result<S
     format!(in alloc; "{pointer}/{at}")
 }
 
-/// Returns a step of a pointer with the escapes `~0` and `~1` decoded.
-fn unescaped(alloc: Global, step: &str) -> Result<String, AllocError> {
+/// Returns a step of a pointer with the escapes `~0` and `~1` decoded, or `None` if the step has another escape.
+fn unescaped(alloc: Global, step: &str) -> Result<Option<String>, AllocError> {
     let mut name = String::new(alloc);
     let mut after_tilde = false;
     for c in step.chars() {
         match (after_tilde, c) {
+            (true, '0') => name.push('~')?,
             (true, '1') => name.push('/')?,
-            (true, _) => name.push('~')?,
+            (true, _) => return Ok(None),
             (false, '~') => {}
             (false, _) => name.push(c)?,
         }
         after_tilde = !after_tilde && c == '~';
     }
-    Ok(name)
+    Ok(if after_tilde { None } else { Some(name) })
 }
 
 /// Returns the position that a step of a pointer spells, or `None` if the step is not a 64-bit unsigned integer.
@@ -52,7 +53,8 @@ fn position_in(step: &str) -> Option<usize> {
     }
 }
 
-/// Returns the element or member that a step of a pointer names in a value, or `None` if it does not exist.
+/// Returns the element or member that a step of a pointer names in a value. Returns `None` if it does not exist, or if
+/// the step has an invalid escape.
 fn inside<'v, 'a>(
     alloc: Global,
     value: &'v Json<'a>,
@@ -64,8 +66,10 @@ fn inside<'v, 'a>(
             None => Ok(None),
         };
     }
-    let name = unescaped(alloc, step)?;
-    Ok(value.get(name.as_str()))
+    match unescaped(alloc, step)? {
+        Some(name) => Ok(value.get(name.as_str())),
+        None => Ok(None),
+    }
 }
 
 /// Returns the value that the steps of a pointer name inside `value`, or `None` if it does not exist.

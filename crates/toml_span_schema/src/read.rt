@@ -48,7 +48,7 @@ pub(crate) fn read_node<'v, 'a>(
         keywords,
         place: String::from_str(alloc, site.pointer.as_str())?,
         title,
-        deprecated: !site.beside && is_true(site.value, "deprecated"),
+        deprecated: !site.without_unevaluated && is_true(site.value, "deprecated"),
     })
 }
 
@@ -84,8 +84,8 @@ fn push_shown(out: &mut String, value: &Json<'_>) -> Result<(), AllocError> {
         Json::Bool(true) => out.push_str("`true`"),
         Json::Bool(false) => out.push_str("`false`"),
         Json::Null => out.push_str("`null`"),
-        Json::Array(_) => out.push_str("a certain array"),
-        Json::Object(_) => out.push_str("a certain table"),
+        Json::Array(_) => out.push_str("a specific array"),
+        Json::Object(_) => out.push_str("a specific table"),
     }
 }
 
@@ -141,7 +141,7 @@ fn read_object<'v, 'a>(
     }
     let items = site.value.get("unevaluatedItems").is_some();
     let properties = site.value.get("unevaluatedProperties").is_some();
-    if draft >= Draft::Of2019 && !site.beside && (items || properties) {
+    if draft >= Draft::Of2019 && !site.without_unevaluated && (items || properties) {
         keywords.clear();
         return read_unevaluated(compiler, site, keywords);
     }
@@ -169,20 +169,20 @@ fn all_of(alloc: Global, schema: usize) -> Result<Keyword, AllocError> {
 }
 
 /// Reads `unevaluatedItems` and `unevaluatedProperties`. The other keywords of the schema become a compiled schema of
-/// their own. Fails like `Compiler::node`.
+/// their own, which is added as if it were the only one in `allOf`. Fails like `Compiler::node`.
 fn read_unevaluated<'v, 'a>(
     compiler: &mut Compiler<'v, 'a>,
     site: &Site<'v, 'a>,
     keywords: &mut Vec<Placed>,
 ) -> Result<(), SchemaError> {
-    let beside = compiler.beside(site)?;
-    put(site, keywords, "", all_of(compiler.alloc, beside)?)?;
+    let others = compiler.without_unevaluated(site)?;
+    put(site, keywords, "allOf", all_of(compiler.alloc, others)?)?;
     if let Some(schema) = one(compiler, site, "unevaluatedItems")? {
-        let keyword = Keyword::UnevaluatedItems(beside, schema);
+        let keyword = Keyword::UnevaluatedItems(others, schema);
         put(site, keywords, "unevaluatedItems", keyword)?;
     }
     if let Some(schema) = one(compiler, site, "unevaluatedProperties")? {
-        let keyword = Keyword::UnevaluatedProperties(beside, schema);
+        let keyword = Keyword::UnevaluatedProperties(others, schema);
         put(site, keywords, "unevaluatedProperties", keyword)?;
     }
     Ok(())
@@ -312,7 +312,7 @@ fn add_constant(
     if let Json::String(text) = value {
         words.push(String::from_str(alloc, *text)?)?;
     }
-    if let Some(value) = constant(alloc, value, DEPTH)? {
+    if let Some(value) = to_toml(alloc, value, DEPTH)? {
         let _new = values.insert(canonical(alloc, &value)?)?;
     }
     Ok(())
@@ -320,8 +320,8 @@ fn add_constant(
 
 /// Converts a JSON value to a TOML value. Returns `None` if the value is or contains `null`, or nests `depth` or more
 /// levels deep.
-#[cycle(constant)]
-pub(crate) fn constant(
+#[cycle(to_toml)]
+pub(crate) fn to_toml(
     alloc: Global,
     value: &Json<'_>,
     depth: usize,
@@ -356,7 +356,7 @@ fn number(alloc: Global, text: &str) -> Result<ValueInner<'static>, AllocError> 
 
 /// Converts the elements of a JSON array to TOML values. Returns `None` if an element is or contains `null`, or nests
 /// `depth` or more levels deep.
-#[cycle(constant)]
+#[cycle(to_toml)]
 fn elements(
     alloc: Global,
     items: &[Json<'_>],
@@ -364,7 +364,7 @@ fn elements(
 ) -> Result<Option<Vec<Value<'static>>>, AllocError> {
     let mut list = Vec::new(alloc);
     for item in items {
-        match constant(alloc, item, depth)? {
+        match to_toml(alloc, item, depth)? {
             Some(value) => list.push(value)?,
             None => return Ok(None),
         }
@@ -374,7 +374,7 @@ fn elements(
 
 /// Converts the members of a JSON object to entries of a TOML table. Returns `None` if a value is or contains `null`,
 /// or nests `depth` or more levels deep.
-#[cycle(constant)]
+#[cycle(to_toml)]
 fn entries(
     alloc: Global,
     members: &[(&str, Json<'_>)],
@@ -386,7 +386,7 @@ fn entries(
             name: CowStr::Owned(String::from_str(alloc, member.0)?),
             span: Span::default(),
         };
-        match constant(alloc, &member.1, depth)? {
+        match to_toml(alloc, &member.1, depth)? {
             Some(value) => drop(table.insert(key, value)?),
             None => return Ok(None),
         }

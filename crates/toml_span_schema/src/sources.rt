@@ -8,7 +8,7 @@ use std::alloc::{AllocError, Global};
 use url::{ParseError, Url};
 
 /// Compiling fails if a document has this many schemas, or if this many schemas must be compiled.
-pub(crate) const MOST: usize = 1_000_000;
+pub(crate) const MOST_SCHEMAS: usize = 1_000_000;
 
 /// A version of JSON Schema.
 #[derive(Clone, Copy, PartialEq, Eq, PartialOrd, Ord)]
@@ -242,7 +242,7 @@ impl<'v, 'a> Sources<'v, 'a> {
             pointer: String::new(alloc),
             resource,
         })?;
-        for _step in 0..MOST {
+        for _step in 0..MOST_SCHEMAS {
             let Some(visit) = visits.pop() else {
                 return Ok(());
             };

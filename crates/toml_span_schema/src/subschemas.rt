@@ -15,7 +15,7 @@ use toml_span_tree::nodes::Step;
 use toml_span_tree::{Value, ValueInner};
 
 /// The maximum number of subschemas that are found for one value. Further subschemas are left out.
-const MOST: usize = 1_000;
+const MOST_SUBSCHEMAS: usize = 1_000;
 
 /// The maximum number of subschemas that are tried to choose among alternatives. Later alternatives are all chosen.
 const MOST_TRIED: u64 = 100_000;
@@ -88,9 +88,9 @@ impl Kinds {
     }
 }
 
-/// Appends the index of a compiled schema, unless `nodes` has it or has `MOST` indices.
+/// Appends the index of a compiled schema, unless `nodes` has it or has `MOST_SUBSCHEMAS` indices.
 fn push_node(nodes: &mut Vec<usize>, node: usize) -> Result<(), AllocError> {
-    if nodes.len() < MOST && !nodes.contains(&node) {
+    if nodes.len() < MOST_SUBSCHEMAS && !nodes.contains(&node) {
         nodes.push(node)?;
     }
     Ok(())
@@ -127,7 +127,7 @@ impl Guide {
     ) -> Result<Subschemas, AllocError> {
         let mut nodes = Vec::new(alloc);
         nodes.push(0)?;
-        self.schema.closed(alloc, nodes, value)
+        self.schema.with_applied(alloc, nodes, value)
     }
 
     /// Returns the subschemas that apply to an entry or element. `outer` has the subschemas of the table or array
@@ -160,7 +160,7 @@ impl Guide {
         if nodes.is_empty() {
             self.schema.push_unevaluated(outer, step, &mut nodes)?;
         }
-        self.schema.closed(alloc, nodes, value)
+        self.schema.with_applied(alloc, nodes, value)
     }
 
     /// Returns the notes of each of the subschemas. Fails if an allocation fails.
@@ -238,15 +238,15 @@ impl Guide {
 
 impl Schema {
     /// Returns the schemas at the indices `nodes`, and the schemas that they apply to the same value, such as those in
-    /// `allOf`. Returns at most `MOST` schemas. `value` is as for `subschemas`.
-    fn closed(
+    /// `allOf`. Returns at most `MOST_SUBSCHEMAS` schemas. `value` is as for `subschemas`.
+    fn with_applied(
         &self,
         alloc: Global,
         mut nodes: Vec<usize>,
         value: Option<&Value<'_>>,
     ) -> Result<Subschemas, AllocError> {
         let mut left = MOST_TRIED;
-        for at in 0..MOST {
+        for at in 0..MOST_SUBSCHEMAS {
             let Some(node) = nodes.get(at).copied() else {
                 return Ok(Subschemas { nodes });
             };

@@ -3,12 +3,12 @@
 ghost use Rattle.std.specs.Prelude.{◌≡◌, ◌&&◌, nat_le, IfOk, Some, None, false, true, map, option_map, ℕ};
 ghost use Rattle.toml_span_tree.specs.Value.{inner_of, items_view, view};
 ghost use Rattle.toml_span_schema.specs.Parts.{Part as Piece, is_entry, part_of, value_of};
-ghost use Rattle.toml_span_schema.specs.Valid.{allows, allows_inside, allows_part, any, both, contains_enough, count};
+ghost use Rattle.toml_span_schema.specs.Valid.{allows, allows_other, allows_part, any, both, contains_enough, count};
 ghost use Rattle.toml_span_schema.specs.Valid.{covers, dependents_allow, dependents_cover, every, is_evaluated_element};
 ghost use Rattle.toml_span_schema.specs.Valid.{judged, optional, parts_allow, reaches, unevaluated_allow};
 
 use crate::applied::{has_key, names, schemas_for};
-use crate::asserted::asserted;
+use crate::asserted::allows_simple;
 use crate::error::CheckError;
 use crate::keyword::Keyword;
 use crate::listed::{Part, parts};
@@ -95,15 +95,15 @@ impl Schema {
             Keyword::DependentSchemas(entries) => {
                 self.dependents_allow(alloc, left, depth, entries.as_slice(), value)
             }
-            _ => self.allows_inside(alloc, left, depth, keyword, value),
+            _ => self.allows_other(alloc, left, depth, keyword, value),
         }
     }
 
     /// Returns whether a keyword allows a value. The keyword must not be one that `allows` decides itself, such as
     /// `allOf` or `if`. Fails like `is_valid`.
     #[cycle(valid)]
-    #[tactic(auto, unfolding(crate::specs::Valid::allows_inside))]
-    fn allows_inside(
+    #[tactic(auto, unfolding(crate::specs::Valid::allows_other))]
+    fn allows_other(
         &self,
         alloc: Global,
         left: &mut u64,
@@ -112,7 +112,7 @@ impl Schema {
         value: &Value<'_>,
     ) -> Result<bool, CheckError>
         ensures { IfOk result (λ r.
-            allows_inside self.now (judged self.now depth) keyword.now (view value.now) ≡ Some r) }
+            allows_other self.now (judged self.now depth) keyword.now (view value.now) ≡ Some r) }
     {
         match keyword {
             Keyword::PropertyNames(node) => {
@@ -126,13 +126,13 @@ impl Schema {
                 let parts = parts(alloc, value)?;
                 self.allows_parts(alloc, left, depth, keyword, parts.as_slice())
             }
-            Keyword::UnevaluatedItems(beside, node) => {
-                self.allows_unevaluated(alloc, left, depth, false, (*beside, *node), value)
+            Keyword::UnevaluatedItems(others, node) => {
+                self.allows_unevaluated(alloc, left, depth, false, (*others, *node), value)
             }
-            Keyword::UnevaluatedProperties(beside, node) => {
-                self.allows_unevaluated(alloc, left, depth, true, (*beside, *node), value)
+            Keyword::UnevaluatedProperties(others, node) => {
+                self.allows_unevaluated(alloc, left, depth, true, (*others, *node), value)
             }
-            _ => asserted(alloc, self, keyword, value),
+            _ => allows_simple(alloc, self, keyword, value),
         }
     }
 

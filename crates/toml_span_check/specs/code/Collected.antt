@@ -12,7 +12,7 @@ use Rattle.toml_span_check.specs.Schemas.{Says}
 use Rattle.toml_span_check.specs.Words.{shown_word}
 use Rattle.toml_span_check.specs.declared.answer.Task.{Task}
 use Rattle.toml_span_check.specs.declared.answer.Verdict.{Verdict}
-use Rattle.toml_span_check.specs.declared.faults.Format.{Format}
+use Rattle.toml_span_check.specs.declared.formats.Format.{Format}
 use Rattle.toml_span_check.specs.declared.run.Tally.{Tally}
 use Rattle.toml_span_check.specs.declared.run.Collected.{Collected}
 
@@ -49,20 +49,20 @@ abbrev pub TextsOf : Type 0
 TextsOf = List ℕ × List ℕ × ℕ × Tally
 
 -- `new` is `old` with the output for one more file.
-abbrev pub Adds : Says → Format → Task → List ℕ → List ℕ → Result (List ℕ) (List ℕ) → TextsOf → TextsOf → Type 0
-Adds says format task pointer name (Ok bytes) old new =
+abbrev pub AddsFile : Says → Format → Task → List ℕ → List ℕ → Result (List ℕ) (List ℕ) → TextsOf → TextsOf → Type 0
+AddsFile says format task pointer name (Ok bytes) old new =
     (answer : Answer) × IsAnswer says format task pointer name bytes answer
     × (new.0 ≡ old.0 ++ answer.1) × (new.1 ≡ old.1 ++ answer.2)
     × (new.2 ≡ max old.2 (status_of answer.0 answer.2))
     × (new.3 ≡ counted old.3 answer.0)
-Adds says format task pointer name (Err reason) old new =
+AddsFile says format task pointer name (Err reason) old new =
     (new.0 ≡ old.0) × (new.1 ≡ old.1 ++ complaint (shown_word name) reason) × (new.2 ≡ 2)
     × (new.3 ≡ counted old.3 1)
 
 abbrev pub BegunOne : Says → Format → Task → List ℕ → List ℕ → Result (List ℕ) (List ℕ) → Option (List ℕ) → Option (List ℕ)
     → TextsOf → Type 0
 BegunOne says format task pointer name reading old new held =
-    Shows task × ((all : TextsOf) × Adds says format task pointer name reading held all × HasWritten old new all.0)
+    Shows task × ((all : TextsOf) × AddsFile says format task pointer name reading held all × HasWritten old new all.0)
 
 -- One more file is checked or printed. The two `TextsOf` are the output before and after, where the first text is only
 -- the part that is in the buffer.
@@ -70,7 +70,7 @@ abbrev pub CollectsOne : Says → Format → Task → List ℕ → List ℕ → 
     → Option (List ℕ) → Option (List ℕ) → Bool → TextsOf → TextsOf → Type 0
 CollectsOne says format task pointer name reading (Ok done) old new failed held held' =
     (failed ≡ false) × ((new ≡ old) ⊎ Shows task)
-    × ((text : List ℕ) × Adds says format task pointer name reading held (text, held'.1, held'.2, held'.3)
+    × ((text : List ℕ) × AddsFile says format task pointer name reading held (text, held'.1, held'.2, held'.3)
     × Holds task old new text held'.0)
 CollectsOne says format task pointer name reading (Err Memory) old new failed held held' =
     (failed ≡ false) × ((new ≡ old) ⊎ BegunOne says format task pointer name reading old new held)

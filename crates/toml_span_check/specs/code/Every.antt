@@ -17,7 +17,7 @@ abbrev pub progress : Found → Progress
 progress f = record {
   places = f.places.items;
   reports = map report_content f.reports.items;
-  kept = string_bytes f.kept;
+  blanked = string_bytes f.blanked;
 }
 
 -- `made` has the report of this error, and the start of the error's span.
@@ -27,6 +27,6 @@ IsErrorOf text error made =
     × (made.place ≡ error.span.start)
 
 -- the error that `parse` returns for a text, or `None` if the text is a document
-abbrev pub Judges : List ℕ → Option ErrorAt → Type 0
-Judges text None = (root : Value) × IsTree text depth_limit root
-Judges text (Some made) = (error : Error) × IsRefusal text depth_limit (Fault error) × IsErrorOf text error made
+abbrev pub IsNextError : List ℕ → Option ErrorAt → Type 0
+IsNextError text None = (root : Value) × IsTree text depth_limit root
+IsNextError text (Some made) = (error : Error) × IsRefusal text depth_limit (Fault error) × IsErrorOf text error made

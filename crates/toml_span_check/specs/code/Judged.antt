@@ -9,7 +9,7 @@ use Rattle.toml_span_check.specs.declared.answer.Judged.{Judged}
 use Rattle.toml_span_check.specs.declared.answer.Judged.TheVariants.{Text, Document}
 use Rattle.toml_span_check.specs.declared.answer.Task.{Task}
 use Rattle.toml_span_check.specs.declared.answer.Task.TheVariants.{Show}
-use Rattle.toml_span_check.specs.declared.faults.Format.{Format}
+use Rattle.toml_span_check.specs.declared.formats.Format.{Format}
 
 -- The result is the answer to `text` or, if `text` is a document to print, its tree.
 abbrev pub JudgesText : Says → Format → Task → List ℕ → List ℕ → List ℕ → Judged → Type 0

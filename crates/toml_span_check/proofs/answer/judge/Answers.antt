@@ -3,7 +3,7 @@ use Rattle.std.specs.Str.{IsValidUpTo}
 use Rattle.toml_span_check.specs.declared.answer.Judged.{Judged}
 use Rattle.toml_span_check.specs.declared.answer.Judged.TheVariants.{Text, Document}
 use Rattle.toml_span_check.specs.declared.answer.Task.{Task}
-use Rattle.toml_span_check.specs.declared.faults.Format.{Format}
+use Rattle.toml_span_check.specs.declared.formats.Format.{Format}
 use Rattle.toml_span_lines.specs.Run.{bound}
 use Rattle.toml_span_check.specs.Answer.{Answer, too_long, not_utf8, IsRead, IsAnswer}
 use Rattle.toml_span_check.specs.Schemas.{Says}

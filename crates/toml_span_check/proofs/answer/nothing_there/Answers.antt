@@ -1,6 +1,6 @@
 use Rattle.toml_span_lex.proofs.Common.{◌≡◌, ℕ, List, [], Vec, Result, IfOk, ◌++◌, ◌∙◌, ap, codes, Global, AllocError, arith, nat_tests, common_steps}
 use Rattle.toml_span_check.specs.Answer.{Answer, plain_fault, nothing_there}
-use Rattle.toml_span_check.specs.declared.faults.Format.{Format}
+use Rattle.toml_span_check.specs.declared.formats.Format.{Format}
 use Rattle.toml_span_check.proofs.answer.nothing_there.Goals as goal
 
 stdout : (r : Result (Vec ℕ Global) AllocError) (format : Format) (pointer name message : List ℕ) → message ≡ codes "no value at `" ++ pointer ++ codes "`" →

@@ -7,7 +7,7 @@ use Rattle.toml_span_check.proofs.sarif.push_replacement.Goals as goal
 pub returns : goal.returns
 unfolding replacement
 returns c =
-    let fix = c.args.fix.now in
+    let fix = c.args.replacement.now in
     five (string_bytes c.args.out.now) (codes "{\"deletedRegion\":") (region c.args.text.now fix.span)
     (codes ",\"insertedContent\":{\"text\":") (quoted (string_bytes fix.text)) (codes "}}") _ _ _ _ _
     c.in_ok-push_str.ensures.bytes c.in_ok-push_region.ensures c.in_ok-push_str-2.ensures.bytes

@@ -8,6 +8,6 @@ unfolding check
 returns c =
     let one = added _ _ _ _ _ c.in_ok-arg.ensures c.flag.ensures.own c.in_ok-schema_command.ensures c.flag.ensures.rule in
     let two = added _ _ _ _ _ c.in_ok-arg-2.ensures c.flag-2.ensures.own one c.flag-2.ensures.rule in
-    let three = added _ _ _ _ _ c.in_ok-arg-3.ensures c.choice.ensures.own two c.choice.ensures.rule in
+    let three = added _ _ _ _ _ c.in_ok-arg-3.ensures c.with_default.ensures.own two c.with_default.ensures.rule in
     let four = added _ _ _ _ _ c.in_ok-arg-4.ensures c.several.ensures.own three c.several.ensures.rule in
     IfOk-weaker c.arg-5.result _ _ (λ r adds. added _ r _ _ _ adds c.files.ensures.own four c.files.ensures.rule) c.arg-5.ensures

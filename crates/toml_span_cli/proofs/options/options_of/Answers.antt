@@ -6,45 +6,45 @@ use Rattle.clap.specs.declared.error.Error.{Error}
 use Rattle.clap.specs.declared.parser.matches.ArgMatches.{ArgMatches}
 use Rattle.toml_span_cli.specs.Options.{asked, check, common, faults, forms, get, is_given, kind_of, options, program, refusals, schemas, value_of}
 use Rattle.toml_span_cli.specs.declared.options.Mistake.{Mistake}
-use Rattle.toml_span_cli.specs.declared.options.Reader.{Reader}
-use Rattle.toml_span_cli.specs.declared.options.Reader.TheVariants as readers
+use Rattle.toml_span_cli.specs.declared.options.Query.{Query}
+use Rattle.toml_span_cli.specs.declared.options.Query.TheVariants as queries
 use Rattle.toml_span_cli.proofs.Rows.{all-row, or-none}
 use Rattle.toml_span_cli.proofs.options.options_of.Goals as goal
 
-is-simple : (reader : Reader) → is_simple (program reader) ≡ true
+is-simple : (query : Query) → is_simple (program query) ≡ true
 unfolding common schemas check forms get
-is-simple readers.Check = refl
-is-simple readers.Get = refl
+is-simple queries.Check = refl
+is-simple queries.Get = refl
 
-is-free : (reader : Reader) → is_simple_and_free (program reader) ≡ true
+is-free : (query : Query) → is_simple_and_free (program query) ≡ true
 unfolding common schemas check forms get
-is-free readers.Check = refl
-is-free readers.Get = refl
+is-free queries.Check = refl
+is-free queries.Get = refl
 
 -- the rows are those of the words
-rows : (reader : Reader) (app : App) (words : List (List ℕ)) (m : ArgMatches) → app ≡ program reader → HasMatchesOf app words m →
-    rows_of (found_of m) ≡ options reader words
+rows : (query : Query) (app : App) (words : List (List ℕ)) (m : ArgMatches) → app ≡ program query → HasMatchesOf app words m →
+    rows_of (found_of m) ≡ options query words
 unfolding options
-rows reader app words m is has = (has (ap is_simple is ∙ is-simple reader)).0 ∙ ap (λ a. matches_of a words) is
+rows query app words m is has = (has (ap is_simple is ∙ is-simple query)).0 ∙ ap (λ a. matches_of a words) is
 
 -- clap refuses only because of the words
-refused : (reader : Reader) (app : App) (words : List (List ℕ)) (e : Error) → app ≡ program reader →
-    (is_simple_and_free app ≡ true → HasKind (fault_of app words) e) → HasKind (refusals reader words) e
+refused : (query : Query) (app : App) (words : List (List ℕ)) (e : Error) → app ≡ program query →
+    (is_simple_and_free app ≡ true → HasKind (fault_of app words) e) → HasKind (refusals query words) e
 unfolding refusals
-refused reader app words e is h = subst (λ (a : App). HasKind (fault_of a words) e) is (h (ap is_simple_and_free is ∙ is-free reader))
+refused query app words e is h = subst (λ (a : App). HasKind (fault_of a words) e) is (h (ap is_simple_and_free is ∙ is-free query))
 
 -- what it takes, it doesn't refuse
-taken : (reader : Reader) (app : App) (words : List (List ℕ)) → app ≡ program reader → (is_simple_and_free app ≡ true → fault_of app words ≡ []) →
-    refusals reader words ≡ []
+taken : (query : Query) (app : App) (words : List (List ℕ)) → app ≡ program query → (is_simple_and_free app ≡ true → fault_of app words ≡ []) →
+    refusals query words ≡ []
 unfolding refusals
-taken reader app words is h = ap (λ a. fault_of a words) (sym is) ∙ h (ap is_simple_and_free is ∙ is-free reader)
+taken query app words is h = ap (λ a. fault_of a words) (sym is) ∙ h (ap is_simple_and_free is ∙ is-free query)
 
 first-among : (first next : Kinds) (e : Error) → HasKind first e → HasKind (or_else first next) e
 first-among first next e h = grind (arith, nat_tests, common_steps)
 
-mistaken : (reader : Reader) (words : List (List ℕ)) (t : Bool) (m : Mistake) (e : Error) → refusals reader words ≡ [] →
-    asked reader (options reader words) t ≡ Err m → clap.kind_of e ≡ kind_of m → HasKind (faults reader words t) e
-mistaken reader words t m e fine is kind = rw (fine, is) (inr (inl kind))
+mistaken : (query : Query) (words : List (List ℕ)) (t : Bool) (m : Mistake) (e : Error) → refusals query words ≡ [] →
+    asked query (options query words) t ≡ Err m → clap.kind_of e ≡ kind_of m → HasKind (faults query words t) e
+mistaken query words t m e fine is kind = rw (fine, is) (inr (inl kind))
 
 pub returns-in_err-command-clause-fails : goal.returns-in_err-command-clause-fails
 returns-in_err-command-clause-fails c = grind (arith, nat_tests, common_steps)
@@ -58,7 +58,7 @@ pub returns-in-Ok-clause-ok : goal.returns-in-Ok-clause-ok
 returns-in-Ok-clause-ok c =
     let these = rows _ _ _ c.in_ok-matches.matches c.in_ok-command.ensures c.in_ok-matches.ensures.ok.2 in
     record {
-      what = ap (λ rs. asked c.args.reader rs c.args.is_terminal) (sym these) ∙ sym c.asked.ensures ∙ c.in-Ok.is;
+      what = ap (λ rs. asked c.args.query rs c.args.auto_is_coloured) (sym these) ∙ sym c.asked.ensures ∙ c.in-Ok.is;
       place = c.value_of.ensures ∙ ap (λ rs. value_of rs (80 ∷ 65 ∷ 84 ∷ 72 ∷ [])) these;
       left_out =
           ap (map (λ name. name.now)) (c.in_ok-from_slice-in-Ok.ensures.items ∙ ap (λ s. s.now) c.unwrap_or.ensures)
@@ -76,11 +76,11 @@ pub returns-in-Ok-clause-fails : goal.returns-in-Ok-clause-fails
 returns-in-Ok-clause-fails c =
     let these = rows _ _ _ c.in_ok-matches.matches c.in_ok-command.ensures c.in_ok-matches.ensures.ok.2 in
     let fine = taken _ _ _ c.in_ok-command.ensures c.in_ok-matches.ensures.kinds in
-    rw (fine, ap (λ rs. asked c.args.reader rs c.args.is_terminal) (sym these) ∙ sym c.asked.ensures ∙ c.in-Ok.is) refl
+    rw (fine, ap (λ rs. asked c.args.query rs c.args.auto_is_coloured) (sym these) ∙ sym c.asked.ensures ∙ c.in-Ok.is) refl
 
 pub returns-clause-fails : goal.returns-clause-fails
 returns-clause-fails c =
     let these = rows _ _ _ c.in_ok-matches.matches c.in_ok-command.ensures c.in_ok-matches.ensures.ok.2 in
     let fine = taken _ _ _ c.in_ok-command.ensures c.in_ok-matches.ensures.kinds in
-    mistaken _ _ _ c.in-Err.mistake c.in_ok-error-in-Err.field-0 fine (ap (λ rs. asked c.args.reader rs c.args.is_terminal) (sym these) ∙ sym c.asked.ensures ∙ c.in-Err.is)
+    mistaken _ _ _ c.in-Err.mistake c.in_ok-error-in-Err.field-0 fine (ap (λ rs. asked c.args.query rs c.args.auto_is_coloured) (sym these) ∙ sym c.asked.ensures ∙ c.in-Err.is)
     (c.in_ok-error-in-Err.ensures.kind ∙ c.kind_of.ensures)

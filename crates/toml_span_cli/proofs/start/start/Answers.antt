@@ -5,7 +5,7 @@ use Rattle.clap.specs.declared.error.kind.ErrorKind.TheVariants.{OutOfMemory}
 use Rattle.toml_span_report.specs.Visible.{visible_lines}
 use Rattle.toml_span_places.specs.Dotted.{IsPath}
 use Rattle.toml_span_places.specs.declared.dotted.PathError.{PathError}
-use Rattle.toml_span_cli.specs.Say.{Says}
+use Rattle.toml_span_cli.specs.Say.{Prints}
 use Rattle.toml_span_cli.specs.Start.{SaysOfPath}
 use Rattle.toml_span_cli.proofs.start.start.Goals as goal
 
@@ -20,7 +20,7 @@ wrong-path path o text is h = subst (λ (x : Option (String Global)). SaysOfPath
 pub returns-in-Ok-Some : goal.returns-in-Ok-Some
 returns-in-Ok-Some g c =
     let (e, wrong, (message, is)) = wrong-path _ _ _ c.in-Ok-Some.field-0-is c.in-Ok-Some.ensures in
-    let says = subst (λ (text : List ℕ). Says (g.E.Sink.contents c.args.errors.now) (g.E.Sink.contents c.say.new.writer) (g.E.Sink.failed c.say.new.writer) text 2 c.say.result) (c.as_str.ensures.value ∙ is) c.say.ensures in
+    let says = subst (λ (text : List ℕ). Prints (g.E.Sink.contents c.args.errors.now) (g.E.Sink.contents c.say.new.writer) (g.E.Sink.failed c.say.new.writer) text 2 c.say.result) (c.as_str.ensures.value ∙ is) c.say.ensures in
     inr (inr (_, _, _, _, _, _, _, c.in-Ok.ensures.fails, c.in-Ok.ensures.ok, (e, wrong), refl, Keeps-refl _, (message, says)))
 
 pub returns-in-Ok : goal.returns-in-Ok

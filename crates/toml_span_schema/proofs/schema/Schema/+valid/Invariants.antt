@@ -10,8 +10,8 @@ decreases-is_valid l = 6 * l.depth
 abbrev pub decreases-allows : goal.decreases-allows
 decreases-allows l = 6 * l.depth + 5
 
-abbrev pub decreases-allows_inside : goal.decreases-allows_inside
-decreases-allows_inside l = 6 * l.depth + 4
+abbrev pub decreases-allows_other : goal.decreases-allows_other
+decreases-allows_other l = 6 * l.depth + 4
 
 abbrev pub decreases-allows_unevaluated : goal.decreases-allows_unevaluated
 decreases-allows_unevaluated l = 6 * l.depth + 3

@@ -1,6 +1,6 @@
 use Rattle.toml_span_lex.proofs.Common.{◌≡◌, ◌≢◌, ℕ, List, ◌∷◌, None, arith, strip_prefix_char, nat_tests, common_steps}
-use Rattle.toml_span_check.specs.Lints.{without_comma}
-use Rattle.toml_span_check.proofs.lints.without_comma.Goals as goal
+use Rattle.toml_span_check.specs.Sarif.{without_comma}
+use Rattle.toml_span_check.proofs.sarif.without_comma.Goals as goal
 
 none : (text : List ℕ) → ((rest : List ℕ) → text ≢ 44 ∷ rest) → text ≡ without_comma text
 none text differs = grind (arith, nat_tests, common_steps)

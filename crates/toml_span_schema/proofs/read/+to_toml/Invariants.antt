@@ -1,8 +1,8 @@
 use Rattle.std.proofs.Common.{◌+◌, ◌*◌}
-use Rattle.toml_span_schema.proofs.read.+constant.Given as goal
+use Rattle.toml_span_schema.proofs.read.+to_toml.Given as goal
 
-abbrev pub decreases-constant : goal.decreases-constant
-decreases-constant l = 2 * l.depth
+abbrev pub decreases-to_toml : goal.decreases-to_toml
+decreases-to_toml l = 2 * l.depth
 
 abbrev pub decreases-elements : goal.decreases-elements
 decreases-elements l = 2 * l.depth + 1

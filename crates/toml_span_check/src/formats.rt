@@ -1,7 +1,7 @@
 //! Prints reports in each output format.
 ghost use Rattle.std.specs.Prelude.{◌≡◌, IfOk, string_bytes};
 ghost use Rattle.toml_span_report.specs.Report.{report_content};
-ghost use Rattle.toml_span_check.specs.Faults as spec;
+ghost use Rattle.toml_span_check.specs.Formats as spec;
 
 use crate::github::github;
 use crate::sarif::sarif;
@@ -41,7 +41,7 @@ fn marked_text(
 
 /// Returns a report in this format. `text` is the source of the file `name`. In SARIF, the report is a comma, a line
 /// feed and a `result` object.
-pub(crate) fn fault_text(
+pub(crate) fn formatted_report(
     alloc: Global,
     format: Format,
     report: &Report,
@@ -49,7 +49,7 @@ pub(crate) fn fault_text(
     text: &str,
 ) -> Result<String, AllocError>
     ensures { IfOk result (λ out. string_bytes out
-        ≡ spec.fault_text format (report_content report.now) name.now text.now) }
+        ≡ spec.formatted_report format (report_content report.now) name.now text.now) }
 {
     match format {
         Format::Text(style) => marked_text(alloc, style, report, name, text),

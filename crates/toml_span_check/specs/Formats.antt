@@ -7,15 +7,15 @@ use Rattle.toml_span_report.specs.Report.{ReportContent}
 use Rattle.toml_span_check.specs.Github.{github}
 use Rattle.toml_span_check.specs.Sarif.{sarif}
 use Rattle.toml_span_report.specs.declared.colours.Style.{Style}
-use Rattle.toml_span_check.specs.declared.faults.Format.{Format}
-use Rattle.toml_span_check.specs.declared.faults.Format.TheVariants.{Text, Short, Json, Github, Sarif}
+use Rattle.toml_span_check.specs.declared.formats.Format.{Format}
+use Rattle.toml_span_check.specs.declared.formats.Format.TheVariants.{Text, Short, Json, Github, Sarif}
 
 abbrev pub marked_text : Style → ReportContent → List ℕ → List ℕ → List ℕ
 marked_text style r name text = report_text style r name text ++ codes "\n"
 
-abbrev pub fault_text : Format → ReportContent → List ℕ → List ℕ → List ℕ
-fault_text (Text style) r name text = marked_text style r name text
-fault_text Short r name text = report_line r name text
-fault_text Json r name text = report_json r name text
-fault_text Github r name text = github r name text
-fault_text Sarif r name text = sarif r name text
+abbrev pub formatted_report : Format → ReportContent → List ℕ → List ℕ → List ℕ
+formatted_report (Text style) r name text = marked_text style r name text
+formatted_report Short r name text = report_line r name text
+formatted_report Json r name text = report_json r name text
+formatted_report Github r name text = github r name text
+formatted_report Sarif r name text = sarif r name text

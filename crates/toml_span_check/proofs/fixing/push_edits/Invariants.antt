@@ -2,7 +2,7 @@ use Rattle.toml_span_lex.proofs.Common.{◌≡◌, ◌++◌, drop, map}
 use Rattle.toml_span_places.specs.Replace.{edit_of}
 use Rattle.toml_span_report.specs.Report.{repair_of}
 use Rattle.toml_span_check.specs.Fixing.{edits}
-use Rattle.toml_span_check.proofs.newer.push_edits.Given as goal
+use Rattle.toml_span_check.proofs.fixing.push_edits.Given as goal
 
 abbrev pub invariant-loop-repair : goal.invariant-loop-repair
 invariant-loop-repair l =

@@ -1,8 +1,0 @@
-use Rattle.toml_span_lex.proofs.Common.{◌≡◌, map, take}
-use Rattle.toml_span_places.specs.Replace.{edit_of}
-use Rattle.toml_span_report.specs.Report.{repair_of}
-use Rattle.toml_span_check.specs.Fixing.{edits}
-use Rattle.toml_span_check.proofs.fixing.edits_of.Given as goal
-
-abbrev pub invariant-loop-repair : goal.invariant-loop-repair
-invariant-loop-repair l = map edit_of l.edits.items ≡ edits (map repair_of (take l.repair-index l.repairs))
