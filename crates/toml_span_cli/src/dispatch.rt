@@ -8,7 +8,6 @@ use crate::check::check;
 use crate::commands::{Command, NAMES, command_named, help_of};
 use crate::edit::{edit, edit_help};
 use crate::explain::explain;
-use crate::files::OneFile;
 use crate::fmt::fmt;
 use crate::help::{HELP, VERSION};
 use crate::lsp::lsp;
@@ -144,7 +143,7 @@ fn perform<O: Sink, E: Sink>(
             words,
             is_coloured,
             is_watched,
-            &mut OneFile { host },
+            host,
             &mut NoSchemas,
             out,
             errors,

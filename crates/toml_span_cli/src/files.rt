@@ -1,10 +1,10 @@
 //! Reads and replaces single files.
-ghost use Rattle.std.specs.Prelude.{◌≤◌, None};
+ghost use Rattle.std.specs.Prelude.{◌≤◌};
 
 use crate::answers::{Answer, failed};
 use std::alloc::{AllocError, Global};
 use std::io::ErrorKind;
-use toml_span_check::input::{Host, Inputs};
+use toml_span_check::input::Host;
 use toml_span_files::{Failure, Options, put_file};
 use toml_span_lookup::disk::Disk;
 
@@ -16,31 +16,6 @@ pub(crate) fn read_file(
     name: &str,
 ) -> Result<Result<Vec<u8>, String>, AllocError> {
     host.read_file(alloc, name)
-}
-
-/// The file system for a command that reads one file, and searches no directories.
-#[derive(Drop)]
-pub(crate) struct OneFile<'h> {
-    pub(crate) host: &'h mut Host,
-}
-
-impl Inputs for OneFile<'_> {
-    ghost log = { λ _. None };
-
-    fn find(
-        &mut self,
-        alloc: Global,
-        _excludes: &[&str],
-        name: &str,
-    ) -> Result<Vec<String>, AllocError> {
-        let mut found = Vec::new(alloc);
-        found.push(String::from_str(alloc, name)?)?;
-        Ok(found)
-    }
-
-    fn read(&mut self, alloc: Global, name: &str) -> Result<Result<Vec<u8>, String>, AllocError> {
-        read_file(alloc, self.host, name)
-    }
 }
 
 /// Returns the start of the message about a file that was not edited, and the exit status.
