@@ -10,6 +10,7 @@ use crate::plan::Plan;
 use crate::reason::Reason;
 use toml_span::Stop;
 use toml_span_read::{Section, Val, ValKind};
+use toml_span_tree::pointer::position;
 
 /// Returns a section for a new element of an array of tables: the header `[[header]]`, and a line for each pair of
 /// `value`. Fails with `NoValue` if `value` is not a TOML value, and with `NoInlineTable` if it is not an inline table.

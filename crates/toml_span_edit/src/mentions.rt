@@ -1,7 +1,6 @@
 //! Finds the places where a document names the value at a path.
 use crate::paths::{has_position, has_segment, rest_of};
 use std::alloc::{AllocError, Global};
-use toml_span::Span;
 use toml_span::value::Key;
 use toml_span_read::{Assignment, DottedKey, Section, Val, ValKind};
 
@@ -214,9 +213,4 @@ pub(crate) fn mentions_of<'s, 'de>(
 /// Returns whether the header of `section` has double brackets, and its last part has the index `part`.
 pub(crate) fn opens_element(section: &Section<'_>, part: usize) -> bool {
     section.array && part.saturating_add(1) == section.header.len()
-}
-
-/// Returns the span of an assignment, from its key to the end of its value.
-pub(crate) fn pair_span(assignment: &Assignment<'_>) -> Span {
-    assignment.extent
 }
