@@ -490,8 +490,8 @@ class Edits(unittest.TestCase):
             toml_span.edit(self.TEXT).set("server.port", 1).set("server.no", 2).finish()
         error = caught.exception
         self.assertIsInstance(error, ValueError)
-        self.assertEqual((error.msg, error.index, error.path), ("there is no value at this path", 1, "server.no"))
-        self.assertEqual(str(error), "there is no value at this path (edit 1, at 'server.no')")
+        self.assertEqual((error.msg, error.index, error.path), ("there is nothing at this path", 1, "server.no"))
+        self.assertEqual(str(error), "there is nothing at this path (edit 1, at 'server.no')")
         self.assertEqual(str(pickle.loads(pickle.dumps(error))), str(error))
         for call in (
             lambda edits: edits.set("server", 1), lambda edits: edits.set("server..port", 1),

@@ -17,7 +17,7 @@ int main() {
     };
     tell(set(text, "server.port", "8080"), why, "[server]\nport = 8080 # open\n");
     tell(set(text, "server.port", value.c_str()), why, "[server]\nport = " + value + " # open\n");
-    tell(set(text, "server.host", "8080"), why, "!there is no value at this path");
+    tell(set(text, "server.host", "8080"), why, "!there is nothing at this path");
     tell(set("a = 1\na = 2", "a", "1"), why, "!duplicate key: `a`");
     tell(set("\xff", "a", "1"), why, "!the text is not UTF-8, or longer than 16 MiB");
     tell(toml_span::edit(text, {{TOML_SPAN_ADD, "server.on", "true"}, {TOML_SPAN_REMOVE, "/server/port", nullptr}}), why,

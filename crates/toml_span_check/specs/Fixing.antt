@@ -8,7 +8,7 @@ use Rattle.toml_span_tree.specs.declared.error.Error.{Error}
 use Rattle.toml_span_tree.specs.declared.value.Value.{Value}
 use Rattle.toml_span_tree.specs.Error.{ErrorContent, content_of}
 use Rattle.toml_span.specs.Parsing.{IsTree, IsRefusal}
-use Rattle.toml_span_places.specs.Replace.{Edit, edited, first_fault}
+use Rattle.toml_span_places.specs.Replace.{SpanEdit, edited_from, first_fault}
 use Rattle.toml_span_report.specs.Errors.{ReportsError}
 use Rattle.toml_span_report.specs.Report.{Repair, ReportContent}
 use Rattle.toml_span_report.specs.declared.report.Severity.TheVariants as severity
@@ -21,7 +21,7 @@ abbrev pub is_safe : List Repair → Bool
 is_safe [] = false
 is_safe (first ∷ more) = all_safe (first ∷ more)
 
-abbrev pub edits : List Repair → List Edit
+abbrev pub edits : List Repair → List SpanEdit
 edits repairs = map (λ repair. (repair.span, repair.text)) repairs
 
 -- the end of the first replacement in the new source
@@ -43,11 +43,12 @@ Improves text at left false =
 -- fit the source. Also `None` if the first error of the new source does not start late enough (`Improves`).
 abbrev pub Repairs : List ℕ → List Repair → ℕ → Option (List ℕ) → Type 0
 Repairs text repairs left (Some new) =
-    (is_safe repairs ≡ true) × (first_fault text 0 0 (edits repairs) ≡ None) × (new ≡ edited text 0 (edits repairs))
+    (is_safe repairs ≡ true) × (first_fault text 0 0 (edits repairs) ≡ None)
+    × (new ≡ edited_from text 0 (edits repairs))
     × Improves new (reach repairs) left true
 Repairs text repairs left None =
     (is_safe repairs ≡ false) ⊎ (¬ (first_fault text 0 0 (edits repairs) ≡ None))
-    ⊎ Improves (edited text 0 (edits repairs)) (reach repairs) left false
+    ⊎ Improves (edited_from text 0 (edits repairs)) (reach repairs) left false
 
 -- the source with this error fixed by the replacements of its report, or `None` if they don't fix it (see `Repairs`)
 abbrev pub FixesError : List ℕ → ErrorContent → Option (List ℕ) → Type 0

@@ -4,7 +4,7 @@ use Rattle.std.specs.Prelude.{encode_utf8, slice_index, if◌then◌else◌, Non
 use Rattle.std.specs.List.{flat_map}
 use Rattle.std.specs.Str.{bytes_eq}
 use Rattle.toml_span_places.specs.Newer.{newer_forms}
-use Rattle.toml_span_places.specs.Replace.{Edit, edited, first_fault}
+use Rattle.toml_span_places.specs.Replace.{SpanEdit, edited_from, first_fault}
 use Rattle.toml_span_places.specs.declared.newer.NewerForm.{NewerForm}
 use Rattle.toml_span_places.specs.declared.newer.NewerKind.{NewerKind}
 use Rattle.toml_span_places.specs.declared.newer.NewerKind.TheVariants as kinds
@@ -108,7 +108,7 @@ Lacks version name text rs =
 
 -- ---- replacements
 
-abbrev pub all_edits : List ReportContent → List Edit
+abbrev pub all_edits : List ReportContent → List SpanEdit
 all_edits rs = flat_map (λ r. edits r.replacements) rs
 
 -- `new` is `text` with the replacements of all reports, and `n` is their number. If the replacements can't be made,
@@ -117,5 +117,5 @@ abbrev pub Replaces : Version → List ℕ → List ℕ → ℕ → List ℕ →
 Replaces version name text n new =
     (rs : List ReportContent) × Lacks version name text rs
     × (((first_fault text 0 0 (all_edits rs) ≡ None) × (n ≡ length (all_edits rs))
-    × (new ≡ edited text 0 (all_edits rs)))
+    × (new ≡ edited_from text 0 (all_edits rs)))
     ⊎ (¬ (first_fault text 0 0 (all_edits rs) ≡ None) × (n ≡ 0) × (new ≡ text)))

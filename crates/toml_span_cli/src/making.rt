@@ -184,9 +184,9 @@ fn message_of(alloc: Global, error: &EditError, count: usize) -> Result<String, 
 }
 
 /// Changes the edit that was refused with `error` so that it replaces tables too. Returns whether the edit was changed.
-/// It is changed only if it sets a value, and the reason for the refusal is `NotSpelled`.
+/// It is changed only if it sets a value, and the reason for the refusal is `NotLiteral`.
 fn force(list: &mut [Prepared<'_>], error: &EditError) -> bool {
-    let Reason::NotSpelled = error.reason else {
+    let Reason::NotLiteral = error.reason else {
         return false;
     };
     match list.get_mut(error.edit) {

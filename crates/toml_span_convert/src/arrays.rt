@@ -1,9 +1,10 @@
 //! Writes arrays with one element per line, or on one line.
 use crate::conversions::Proposal;
-use crate::flat::{flat, literal_of};
+use crate::flat::flat;
 use crate::lines::{line_end, part, spanned};
 use crate::places::array_at;
 use std::alloc::{AllocError, Global};
+use toml_span_places::val_literal_span;
 use toml_span_read::{Section, Val, ValKind};
 
 /// The indentation of the elements, in addition to that of the array's line.
@@ -29,7 +30,7 @@ fn lines_of(
     for item in items {
         out.push_str(indent)?;
         out.push_str(INDENT)?;
-        out.push_str(spanned(text, literal_of(text, item)))?;
+        out.push_str(spanned(text, val_literal_span(text, item)))?;
         out.push_str(",")?;
         out.push_str(end)?;
     }

@@ -1,7 +1,7 @@
 //! Converts dotted keys to sections.
 use crate::conversions::{Named, Proposal};
 use crate::lines::{comments_start, indent, part, without_end};
-use crate::places::{Line, body_start, line_at, part_at, parts_text, touches};
+use crate::places::{FoundAssignment, assignment_at, body_start, part_at, parts_text, touches};
 use crate::tables::header_of;
 use crate::writer::Writer;
 use std::alloc::{AllocError, Global};
@@ -51,21 +51,21 @@ fn push_rest(
     out.push_str(end)
 }
 
-/// Copies the old text to `writer`, up to the end of the section of `line`. Leaves out the assignments whose keys begin
-/// with the first `count` parts of the key of `line`. Appends these assignments to `out`, with their comments and
-/// without the `count` parts.
+/// Copies the old text to `writer`, up to the end of the section of `found`. Leaves out the assignments whose keys
+/// begin with the first `count` parts of the key of `found`. Appends these assignments to `out`, with their comments
+/// and without the `count` parts.
 fn move_rest(
     writer: &mut Writer<'_>,
     text: &str,
-    line: Line<'_, '_>,
+    found: FoundAssignment<'_, '_>,
     count: usize,
     out: &mut String,
 ) -> Result<(), AllocError> {
-    let body_end = section_lines(text, line.section).end;
-    let mut above = body_start(text, line.section);
-    for assignment in &line.section.assignments {
+    let body_end = section_lines(text, found.section).end;
+    let mut above = body_start(text, found.section);
+    for assignment in &found.section.assignments {
         let lines = assignment_lines(text, assignment);
-        if has_front(&assignment.parts, &line.assignment.parts, count) {
+        if has_front(&assignment.parts, &found.assignment.parts, count) {
             let start = comments_start(text, above, lines.start);
             let end = lines.end;
             out.push_str(part(text, start, lines.start))?;
@@ -85,23 +85,23 @@ pub(crate) fn dotted_to_section(
     sections: &[Section<'_>],
     at: usize,
 ) -> Result<Option<Proposal>, AllocError> {
-    let Some(line) = line_at(text, sections, at) else {
+    let Some(found) = assignment_at(text, sections, at) else {
         return Ok(None);
     };
-    let count = table_parts(text, &line.assignment.parts, at);
+    let count = table_parts(text, &found.assignment.parts, at);
     if count == 0 {
         return Ok(None);
     }
     let mut writer = Writer::new(alloc, text);
-    let table = parts_text(text, &line.assignment.parts, 0, count.saturating_sub(1));
-    let mut new = String::from_str(alloc, indent(text, line.assignment))?;
-    new.push_str(header_of(alloc, text, line.section, table)?.as_str())?;
+    let table = parts_text(text, &found.assignment.parts, 0, count.saturating_sub(1));
+    let mut new = String::from_str(alloc, indent(text, found.assignment))?;
+    new.push_str(header_of(alloc, text, found.section, table)?.as_str())?;
     new.push_str(writer.end)?;
-    move_rest(&mut writer, text, line, count, &mut new)?;
+    move_rest(&mut writer, text, found, count, &mut new)?;
     writer.push_apart(new.as_str())?;
     let named = Named {
         form: TableForm::Dotted,
-        span: line.assignment.extent,
+        span: found.assignment.extent,
         index: count.saturating_sub(1),
     };
     Ok(Some(Proposal::Table(named, writer.finish()?)))

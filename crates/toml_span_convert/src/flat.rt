@@ -2,24 +2,9 @@
 use crate::lines::{part, spanned};
 use crate::places::parts_text;
 use std::alloc::{AllocError, Global};
-use std::borrow::CowStr;
 use toml_span_lex::span::Span;
-use toml_span_places::literal_span;
+use toml_span_places::val_literal_span;
 use toml_span_read::{Assignment, Val, ValKind};
-use toml_span_tree::{Value, ValueInner};
-
-/// Returns the span of a value in the text, including the quotes of a string.
-pub(crate) fn literal_of(text: &str, value: &Val<'_>) -> Span {
-    let ValKind::String(string) = &value.kind else {
-        return value.span;
-    };
-    let shown = if string.is_empty() { "" } else { "x" };
-    let inner = ValueInner::String(CowStr::Borrowed(shown));
-    let shown = Value::with_span(inner, value.span);
-    let span = literal_span(text, &shown);
-    drop(shown);
-    span
-}
 
 /// Returns whether there is a comment between the offsets `start` and `end`. This part of the text must not contain
 /// strings.
@@ -39,7 +24,7 @@ fn push_items(
     let mut from = span.start.saturating_add(1);
     out.push('[')?;
     for (index, item) in items.iter().enumerate() {
-        let literal = literal_of(text, item);
+        let literal = val_literal_span(text, item);
         out.push_str(if index > 0 { ", " } else { "" })?;
         if has_comment(text, from, literal.start) || !push_flat(text, item, out)? {
             return Ok(false);
@@ -93,7 +78,7 @@ pub(crate) fn push_flat(text: &str, value: &Val<'_>, out: &mut String) -> Result
         ValKind::Array(items) => push_items(text, value.span, items.as_slice(), out),
         ValKind::Inline(pairs) => push_pairs(text, value.span, pairs.as_slice(), out),
         _ => {
-            let literal = spanned(text, literal_of(text, value));
+            let literal = spanned(text, val_literal_span(text, value));
             out.push_str(literal)?;
             Ok(!literal.contains('\n'))
         }

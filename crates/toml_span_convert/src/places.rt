@@ -8,7 +8,7 @@ use toml_span_read::{Assignment, DottedKey, Section, Val, ValKind};
 
 /// An assignment on a line, and its section.
 #[derive(Clone, Copy)]
-pub(crate) struct Line<'s, 'de> {
+pub(crate) struct FoundAssignment<'s, 'de> {
     pub(crate) section: &'s Section<'de>,
     pub(crate) assignment: &'s Assignment<'de>,
     /// The offset after the lines of the preceding assignment or, for the first assignment, the `body_start` of the
@@ -33,16 +33,16 @@ pub(crate) fn body_start(text: &str, section: &Section<'_>) -> usize {
 
 /// Returns the assignment that contains or touches the offset `at`, or `None` if no assignment does. Ignores
 /// assignments in inline tables.
-pub(crate) fn line_at<'s, 'de>(
+pub(crate) fn assignment_at<'s, 'de>(
     text: &str,
     sections: &'s [Section<'de>],
     at: usize,
-) -> Option<Line<'s, 'de>> {
+) -> Option<FoundAssignment<'s, 'de>> {
     for section in sections {
         let mut above = body_start(text, section);
         for assignment in &section.assignments {
             if touches(assignment.extent, at) {
-                return Some(Line {
+                return Some(FoundAssignment {
                     section,
                     assignment,
                     above,
@@ -89,8 +89,8 @@ pub(crate) fn array_at<'s, 'de>(
     sections: &'s [Section<'de>],
     at: usize,
 ) -> Option<&'s Val<'de>> {
-    let line = line_at(text, sections, at)?;
-    let value = &line.assignment.value;
+    let found = assignment_at(text, sections, at)?;
+    let value = &found.assignment.value;
     array_in(text, value, at.max(value.span.start))
 }
 

@@ -50,10 +50,8 @@ fn section_at<'s, 'de>(
                     header: lines.start,
                 });
             }
-            above = lines.end;
-        } else if !section.assignments.is_empty() {
-            above = lines.end;
         }
+        above = lines.end;
     }
     None
 }
@@ -240,11 +238,6 @@ fn write_line(
     writer.finish()
 }
 
-/// Returns whether a section has neither a header nor assignments.
-fn is_empty_root(section: &Section<'_>) -> bool {
-    section.header.as_slice().is_empty() && section.assignments.is_empty()
-}
-
 /// Returns the start of the comment lines above the first header or, without such lines, of the header's line. If the
 /// text has only the root section, returns the start of the text, after a byte order mark.
 fn first_header(text: &str, sections: &[Section<'_>]) -> usize {
@@ -275,10 +268,8 @@ pub(crate) fn section_to_inline(
     let keys = found.section.header.as_slice();
     let keys = keys.get(..keys.len().saturating_sub(1)).unwrap_or(&[]);
     let new = match parent_of(sections, found.index, keys) {
-        Some(parent) if !is_empty_root(parent) => {
-            move_line(alloc, text, found, parent, line.as_str())?
-        }
-        _ => write_line(
+        Some(parent) => move_line(alloc, text, found, parent, line.as_str())?,
+        None => write_line(
             alloc,
             text,
             found,

@@ -1,7 +1,7 @@
 //! Converts inline tables to sections.
 use crate::conversions::{Named, Proposal};
 use crate::lines::{comment_in, comments_start, indent, note, part};
-use crate::places::{Line, header_text, line_at, parts_text};
+use crate::places::{FoundAssignment, assignment_at, header_text, parts_text};
 use crate::writer::Writer;
 use std::alloc::{AllocError, Global};
 use toml_span_lex::span::Span;
@@ -78,31 +78,31 @@ fn has_open_comment(text: &str, braces: Span, pairs: &[Assignment<'_>]) -> bool 
     }
 }
 
-/// Returns the section for the inline table in `line`, whose pairs are `pairs`. `above` has the comment lines above
-/// `line`, and `end` is the line end to write. The comment after the table is written after the header or, if a comment
-/// follows the opening brace on its line, above the header.
+/// Returns the section for the inline table in `found`, whose pairs are `pairs`. `above` has the comment lines above
+/// `found`, and `end` is the line end to write. The comment after the table is written after the header or, if a
+/// comment follows the opening brace on its line, above the header.
 fn section_of(
     alloc: Global,
     text: &str,
-    line: Line<'_, '_>,
+    found: FoundAssignment<'_, '_>,
     pairs: &[Assignment<'_>],
     above: &str,
     end: &str,
 ) -> Result<String, AllocError> {
-    let assignment = line.assignment;
+    let assignment = found.assignment;
     let braces = assignment.value.span;
-    let is_taken = has_open_comment(text, braces, pairs);
+    let header_has_comment = has_open_comment(text, braces, pairs);
     let (front, after) = (indent(text, assignment), note(text, assignment));
     let mut out = String::from_str(alloc, above)?;
-    if is_taken && !after.is_empty() {
+    if header_has_comment && !after.is_empty() {
         out.push_str(front)?;
         out.push_str(after.trim_start())?;
         out.push_str(end)?;
     }
     let key = parts_text(text, &assignment.parts, 0, assignment.parts.inner.len());
     out.push_str(front)?;
-    out.push_str(header_of(alloc, text, line.section, key)?.as_str())?;
-    out.push_str(if is_taken { "" } else { after })?;
+    out.push_str(header_of(alloc, text, found.section, key)?.as_str())?;
+    out.push_str(if header_has_comment { "" } else { after })?;
     push_pairs(&mut out, text, braces, pairs, front, end)?;
     Ok(out)
 }
@@ -115,25 +115,25 @@ pub(crate) fn inline_to_section(
     sections: &[Section<'_>],
     at: usize,
 ) -> Result<Option<Proposal>, AllocError> {
-    let Some(line) = line_at(text, sections, at) else {
+    let Some(found) = assignment_at(text, sections, at) else {
         return Ok(None);
     };
-    let ValKind::Inline(pairs) = &line.assignment.value.kind else {
+    let ValKind::Inline(pairs) = &found.assignment.value.kind else {
         return Ok(None);
     };
-    let lines = assignment_lines(text, line.assignment);
-    let start = comments_start(text, line.above, lines.start);
+    let lines = assignment_lines(text, found.assignment);
+    let start = comments_start(text, found.above, lines.start);
     let above = part(text, start, lines.start);
-    let body_end = section_lines(text, line.section).end;
+    let body_end = section_lines(text, found.section).end;
     let mut writer = Writer::new(alloc, text);
-    let new = section_of(alloc, text, line, pairs.as_slice(), above, writer.end)?;
+    let new = section_of(alloc, text, found, pairs.as_slice(), above, writer.end)?;
     let end = lines.end;
     writer.skip_lines(Span { start, end }, body_end)?;
     writer.copy_to(body_end)?;
     writer.push_apart(new.as_str())?;
     let named = Named {
         form: TableForm::Inline,
-        span: line.assignment.value.span,
+        span: found.assignment.value.span,
         index: 0,
     };
     Ok(Some(Proposal::Table(named, writer.finish()?)))

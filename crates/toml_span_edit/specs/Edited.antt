@@ -12,8 +12,8 @@ use Rattle.toml_span_edit.specs.Paths.{Path, Splits, found}
 use Rattle.toml_span_edit.specs.declared.edits.Change.{Change}
 use Rattle.toml_span_edit.specs.declared.edits.Change.TheVariants as changes
 use Rattle.toml_span_edit.specs.declared.edits.Edit.{Edit}
-use Rattle.toml_span_edit.specs.declared.step.Spot.{Spot}
-use Rattle.toml_span_edit.specs.declared.step.Spot.TheVariants as spots
+use Rattle.toml_span_edit.specs.declared.step.Destination.{Destination}
+use Rattle.toml_span_edit.specs.declared.step.Destination.TheVariants as destinations
 
 -- ---- values
 
@@ -31,17 +31,17 @@ IsSameDocument text new =
 
 -- ---- one edit
 
--- whether the tree `k` is the tree `n` with the value `w` at this spot: in place of the whole tree, under a name or
--- position, or after the last element
-abbrev pub goes : Spot → Node → Node → Node → Bool
-goes spots.Here w n k = same w k
-goes (spots.Under segment) w n k = put segment.now w n k
-goes spots.End w n k = last w (inner_of n) (inner_of k)
+-- whether the tree `k` is the tree `n` with the value `w` at this destination: in place of the whole tree, under a name
+-- or position, or after the last element
+abbrev pub is_placed : Destination → Node → Node → Node → Bool
+is_placed destinations.Here w n k = same w k
+is_placed (destinations.Under segment) w n k = put segment.now w n k
+is_placed destinations.End w n k = last w (inner_of n) (inner_of k)
 
 -- The trees `n` and `k` are equal except for their values at the path. `related w` holds for these two values, where
 -- `w` is the value that the text spells.
-abbrev pub Goes : (Node → Node → Node → Bool) → List ℕ → Path → Node → Node → Type 0
-Goes related text path n k = (w : Node) × Spells text w × (at path (related w) n k ≡ true)
+abbrev pub IsPlaced : (Node → Node → Node → Bool) → List ℕ → Path → Node → Node → Type 0
+IsPlaced related text path n k = (w : Node) × Spells text w × (at path (related w) n k ≡ true)
 
 -- The tree `k` is the tree `n` with the value that the text spells added at the path, where `n` has no value, and with
 -- the tables that were missing on the way.
@@ -62,7 +62,7 @@ IsRenamed new path n k =
 -- segment of the path is the value's name or position; the other segments name the table or array.
 abbrev pub IsUnder : List ℕ → Path → Node → Node → Type 0
 IsUnder text path n k =
-    (front : Path) × (name : List ℕ) × Splits path front name × Goes (put name) text front n k
+    (front : Path) × (name : List ℕ) × Splits path front name × IsPlaced (put name) text front n k
 
 -- The tree `k` is the tree `n` with the value `w` added at the path: inserted as an element, or added as an entry, with
 -- the tables that were missing on the way.
@@ -73,15 +73,15 @@ IsPut path w n k =
 
 -- The tree `k` is the tree `n` with the change made at the path.
 abbrev pub Makes : Change → Path → Node → Node → Type 0
-Makes (changes.Set v) path n k = Goes (goes spots.Here) v.now path n k
-Makes (changes.Replace v) path n k = Goes (goes spots.Here) v.now path n k
-Makes (changes.SetOrAdd v) path n k = IsNew v.now path n k ⊎ Goes (goes spots.Here) v.now path n k
+Makes (changes.Set v) path n k = IsPlaced (is_placed destinations.Here) v.now path n k
+Makes (changes.Replace v) path n k = IsPlaced (is_placed destinations.Here) v.now path n k
+Makes (changes.SetOrAdd v) path n k = IsNew v.now path n k ⊎ IsPlaced (is_placed destinations.Here) v.now path n k
 Makes (changes.Rename new) path n k = IsRenamed new.now path n k
 Makes changes.Remove path n k = IsGone path n k
 Makes (changes.Add v) path n k = IsUnder v.now path n k
 Makes changes.AddTable path n k = IsNew (codes "{}") path n k
 Makes (changes.Append v) path n k =
-    IsNew (codes "[" ++ (v.now ++ codes "]")) path n k ⊎ Goes (goes spots.End) v.now path n k
+    IsNew (codes "[" ++ (v.now ++ codes "]")) path n k ⊎ IsPlaced (is_placed destinations.End) v.now path n k
 Makes (changes.Insert v) path n k = IsUnder v.now path n k
 Makes (changes.MoveTo target) path n k =
     (w mid : Node) × (found path n ≡ Some w) × IsGone path n mid × IsPut (map (λ s. s.now) target.now) w mid k

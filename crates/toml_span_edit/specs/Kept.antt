@@ -15,7 +15,7 @@ use Rattle.toml_span_read.specs.Read.{document}
 use Rattle.toml_span_places.specs.Keys.{KeyMention, document_keys}
 use Rattle.toml_span_places.specs.Lines.{after_line}
 use Rattle.toml_span_places.specs.Literals.{literal_span}
-use Rattle.toml_span_places.specs.Replace.{Edit as Replacement, replaced}
+use Rattle.toml_span_places.specs.Replace.{SpanEdit as Replacement, replaced}
 use Rattle.toml_span_places.specs.Sections.{SectionMention, document_sections}
 use Rattle.toml_span_edit.specs.Made.{child}
 use Rattle.toml_span_edit.specs.Paths.{Path, Splits, found, names_first, names_steps}

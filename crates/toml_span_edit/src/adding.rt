@@ -5,7 +5,7 @@ use crate::items::{bare, count_of, put_item};
 use crate::lines::{
     begins_line, comments_above, indent, is_open, line_end, line_start, next_line, part, point,
 };
-use crate::mentions::{Home, Mention, opens_element};
+use crate::mentions::{Home, PathMention, opens_element};
 use crate::moving::Moved;
 use crate::paths::{front_of, rest_of};
 use crate::plan::Plan;
@@ -17,7 +17,7 @@ use toml_span_read::{Assignment, Section, Val, ValKind};
 
 /// Where an entry of a table can be written.
 #[derive(Clone, Copy)]
-enum InsertionPoint<'s, 'de> {
+enum EntrySite<'s, 'de> {
     /// At the offset that `top_of` returns, in a document that has no assignment before its first header.
     Top,
     /// On a new line, after the lines of this section, which is the section of the table.
@@ -34,35 +34,33 @@ enum InsertionPoint<'s, 'de> {
 
 /// Returns whether `mentions` name an array of tables, that is, whether the first mention is a section that opens an
 /// element of the array. `mentions` must not be those of the root.
-pub(crate) fn names_array(mentions: &[Mention<'_, '_>]) -> bool {
+pub(crate) fn names_array(mentions: &[PathMention<'_, '_>]) -> bool {
     match mentions.first() {
-        Some(Mention::Below(section, index)) => opens_element(*section, *index),
+        Some(PathMention::Below(section, index)) => opens_element(*section, *index),
         _ => false,
     }
 }
 
 /// Returns where an entry can be written in the table that `mentions` name. Returns `None` if `mentions` is empty, or
 /// if they name anything but a table.
-fn insertion_point<'s, 'de>(mentions: &[Mention<'s, 'de>]) -> Option<InsertionPoint<'s, 'de>> {
+fn entry_site<'s, 'de>(mentions: &[PathMention<'s, 'de>]) -> Option<EntrySite<'s, 'de>> {
     let mut target = None;
     if names_array(mentions) {
         return None;
     }
     for mention in mentions {
         target = match (*mention, target) {
-            (Mention::Own(section), _) => Some(InsertionPoint::Body(section)),
-            (_, Some(InsertionPoint::Body(section))) => Some(InsertionPoint::Body(section)),
-            (Mention::Dotted(assignment, index, home), _) => {
-                Some(InsertionPoint::Dotted(assignment, index, home))
+            (PathMention::Own(section), _) => Some(EntrySite::Body(section)),
+            (_, Some(EntrySite::Body(section))) => Some(EntrySite::Body(section)),
+            (PathMention::Dotted(assignment, index, home), _) => {
+                Some(EntrySite::Dotted(assignment, index, home))
             }
-            (Mention::Below(section, index), None) => Some(InsertionPoint::Header(section, index)),
+            (PathMention::Below(section, index), None) => Some(EntrySite::Header(section, index)),
             (_, target) => target,
         };
     }
     match written(mentions) {
-        Some(value) if matches!(&value.kind, ValKind::Inline(_)) => Some(InsertionPoint::Braces(
-            value,
-        )),
+        Some(value) if matches!(&value.kind, ValKind::Inline(_)) => Some(EntrySite::Braces(value)),
         Some(_) => None,
         None => target,
     }
@@ -132,14 +130,14 @@ fn body_indent<'s>(text: &'s str, section: &Section<'_>) -> &'s str {
 /// Adds to `plan` the insertion of `entry`, such as `a = 1`, at `target`.
 fn put_entry(
     document: Document<'_, '_>,
-    target: InsertionPoint<'_, '_>,
+    target: EntrySite<'_, '_>,
     entry: &str,
     plan: &mut Plan,
 ) -> Result<(), AllocError> {
     let (alloc, text, end) = (document.alloc, document.text, line_end(document.text));
     match target {
-        InsertionPoint::Top => put_at_top(document, entry, plan),
-        InsertionPoint::Body(section) => {
+        EntrySite::Top => put_at_top(document, entry, plan),
+        EntrySite::Body(section) => {
             let front = body_indent(text, section);
             let lines = format!(in alloc; "{front}{entry}{end}")?;
             put_lines(
@@ -149,19 +147,12 @@ fn put_entry(
                 plan,
             )
         }
-        InsertionPoint::Dotted(assignment, index, home) => {
+        EntrySite::Dotted(assignment, index, home) => {
             let key = document.dotted_text(assignment, index);
             put_sibling(document, assignment, home, key, entry, plan)
         }
-        InsertionPoint::Braces(list) => put_item(
-            alloc,
-            text,
-            list,
-            count_of(list),
-            bare(entry),
-            plan,
-        ),
-        InsertionPoint::Header(section, index) => {
+        EntrySite::Braces(list) => put_item(alloc, text, list, count_of(list), bare(entry), plan),
+        EntrySite::Header(section, index) => {
             let header = document.header_text(section, index);
             let start = line_start(text, section.header_span.start);
             let lines = format!(in alloc; "[{header}]{end}{entry}{end}{end}")?;
@@ -198,7 +189,10 @@ fn put_sibling(
 
 /// Returns the number of segments in the longest prefix of `path`, shorter than `path`, that names an existing value.
 /// The empty prefix names the root.
-pub(crate) fn known(document: Document<'_, '_>, path: &[&str]) -> Result<usize, AllocError> {
+pub(crate) fn known_prefix_len(
+    document: Document<'_, '_>,
+    path: &[&str],
+) -> Result<usize, AllocError> {
     for depth in (1..path.len()).rev() {
         if !document.mentions(front_of(path, depth))?.is_empty() {
             return Ok(depth);
@@ -221,29 +215,29 @@ pub(crate) fn dotted(document: Document<'_, '_>, parts: &[&str]) -> Result<Strin
 }
 
 /// Returns where an entry of the root can be written. `mentions` are the mentions of the root.
-fn root_insertion_point<'s, 'de>(mentions: &[Mention<'s, 'de>]) -> InsertionPoint<'s, 'de> {
+fn root_entry_site<'s, 'de>(mentions: &[PathMention<'s, 'de>]) -> EntrySite<'s, 'de> {
     let Some(first) = mentions.first() else {
-        return InsertionPoint::Top;
+        return EntrySite::Top;
     };
     match *first {
-        Mention::Own(section) if section.header.as_slice().is_empty() => InsertionPoint::Body(
+        PathMention::Own(section) if section.header.as_slice().is_empty() => EntrySite::Body(
             section,
         ),
-        _ => InsertionPoint::Top,
+        _ => EntrySite::Top,
     }
 }
 
 /// Returns where an entry of the table at `path` can be written. Fails with `Nothing` if `path` names nothing, and with
 /// `NoTable` if the value there is not a table.
-fn table_insertion_point<'s, 'de>(
+fn table_entry_site<'s, 'de>(
     document: Document<'s, 'de>,
     path: &[&str],
-) -> Result<InsertionPoint<'s, 'de>, Stop<Reason>> {
+) -> Result<EntrySite<'s, 'de>, Stop<Reason>> {
     let mentions = document.mentions(path)?;
     if path.is_empty() {
-        return Ok(root_insertion_point(mentions.as_slice()));
+        return Ok(root_entry_site(mentions.as_slice()));
     }
-    match insertion_point(mentions.as_slice()) {
+    match entry_site(mentions.as_slice()) {
         Some(target) => Ok(target),
         None if mentions.is_empty() => Err(Stop::Fault(Reason::Nothing)),
         None => Err(Stop::Fault(Reason::NoTable)),
@@ -260,11 +254,11 @@ pub(crate) fn add(
 ) -> Result<(), Stop<Reason>> {
     check_value(document.alloc, value)?;
     let [front @ .., name] = path else {
-        return Err(Stop::Fault(Reason::There));
+        return Err(Stop::Fault(Reason::AlreadyThere));
     };
-    let target = table_insertion_point(document, front)?;
+    let target = table_entry_site(document, front)?;
     if !document.mentions(path)?.is_empty() {
-        return Err(Stop::Fault(Reason::There));
+        return Err(Stop::Fault(Reason::AlreadyThere));
     }
     let key = key_text(document.alloc, *name)?;
     let entry = format!(in document.alloc; "{key} = {value}")?;
@@ -285,14 +279,14 @@ pub(crate) fn section_place<'s>(
     let mut place = None;
     for mention in document.mentions(path)? {
         place = match mention {
-            Mention::Own(section) => {
+            PathMention::Own(section) => {
                 let index = section.header.len().saturating_sub(1);
                 Some((
                     document.body_end(section),
                     document.header_text(section, index),
                 ))
             }
-            Mention::Below(section, index) => {
+            PathMention::Below(section, index) => {
                 Some((
                     document.body_end(section),
                     document.header_text(section, index),
@@ -339,18 +333,18 @@ fn entry_text(
 }
 
 /// Returns the indent of a new line at `target`: that of the section's lines for `Body`, otherwise an empty string.
-fn indent_there<'s>(text: &'s str, target: InsertionPoint<'_, '_>) -> &'s str {
+fn indent_there<'s>(text: &'s str, target: EntrySite<'_, '_>) -> &'s str {
     match target {
-        InsertionPoint::Body(section) => body_indent(text, section),
+        EntrySite::Body(section) => body_indent(text, section),
         _ => "",
     }
 }
 
 /// Returns whether an entry at `target` keeps the comments of a moved value.
-fn takes_comments(target: InsertionPoint<'_, '_>) -> bool {
+fn takes_comments(target: EntrySite<'_, '_>) -> bool {
     match target {
-        InsertionPoint::Top | InsertionPoint::Body(_) | InsertionPoint::Header(_, _) => true,
-        InsertionPoint::Dotted(_, _, _) | InsertionPoint::Braces(_) => false,
+        EntrySite::Top | EntrySite::Body(_) | EntrySite::Header(_, _) => true,
+        EntrySite::Dotted(_, _, _) | EntrySite::Braces(_) => false,
     }
 }
 
@@ -363,10 +357,10 @@ pub(crate) fn add_lines(
     moved: Moved<'_>,
     plan: &mut Plan,
 ) -> Result<(), Stop<Reason>> {
-    let depth = known(document, path)?;
+    let depth = known_prefix_len(document, path)?;
     let (table, missing) = (front_of(path, depth), rest_of(path, depth));
     let [names @ .., name] = missing else {
-        return Err(Stop::Fault(Reason::There));
+        return Err(Stop::Fault(Reason::AlreadyThere));
     };
     let place = section_place(document, table)?;
     if let (Some((at, header)), false) = (place, names.is_empty()) {
@@ -377,7 +371,7 @@ pub(crate) fn add_lines(
         put_section(document, at, lines.as_str(), plan)?;
         return Ok(());
     }
-    let target = table_insertion_point(document, table)?;
+    let target = table_entry_site(document, table)?;
     let key = dotted(document, missing)?;
     let entry = if takes_comments(target) {
         let front = indent_there(document.text, target);
@@ -415,17 +409,17 @@ pub(crate) fn dot_after(header: &str) -> &'static str {
 }
 
 /// Adds to `plan` the insertion of an empty table at `path`: a header or, in a table that braces or dotted keys define,
-/// an entry with `{}`. Fails with `There` if `path` is empty or names a value, and with another reason if the insertion
-/// is not possible.
+/// an entry with `{}`. Fails with `AlreadyThere` if `path` is empty or names a value, and with another reason if the
+/// insertion is not possible.
 pub(crate) fn add_table(
     document: Document<'_, '_>,
     path: &[&str],
     plan: &mut Plan,
 ) -> Result<(), Stop<Reason>> {
     if path.is_empty() || !document.mentions(path)?.is_empty() {
-        return Err(Stop::Fault(Reason::There));
+        return Err(Stop::Fault(Reason::AlreadyThere));
     }
-    let depth = known(document, path)?;
+    let depth = known_prefix_len(document, path)?;
     let Some((at, header)) = section_place(document, front_of(path, depth))? else {
         return add_deep(document, path, "{}", plan);
     };

@@ -4,7 +4,7 @@ ghost use Rattle.toml_span_read.specs.Data.{depth_limit, parsed_section};
 ghost use Rattle.toml_span_read.specs.Read.{document};
 
 use crate::lines::part;
-use crate::mentions::{Mention, mentions_of, part_at};
+use crate::mentions::{PathMention, mentions_of, part_at};
 use crate::reason::Reason;
 use std::alloc::{AllocError, Global};
 use toml_span::value::Key;
@@ -38,11 +38,11 @@ pub(crate) fn sections_of<'t>(
 
 /// Returns the value that `mentions` name if it is written as a literal, such as `1` or `[1, 2]`. Returns `None` if
 /// `mentions` is empty, or if headers or dotted keys define the value.
-pub(crate) fn written<'s, 'de>(mentions: &[Mention<'s, 'de>]) -> Option<&'s Val<'de>> {
+pub(crate) fn written<'s, 'de>(mentions: &[PathMention<'s, 'de>]) -> Option<&'s Val<'de>> {
     for mention in mentions {
         match *mention {
-            Mention::Assigned(assignment, _) => return Some(&assignment.value),
-            Mention::Element(list, index) => return element_of(list, index),
+            PathMention::Assigned(assignment, _) => return Some(&assignment.value),
+            PathMention::Element(list, index) => return element_of(list, index),
             _ => {}
         }
     }
@@ -66,7 +66,7 @@ fn header_key<'s, 'de>(section: &'s Section<'de>, index: usize) -> Option<&'s Ke
 impl<'s, 'de> Document<'s, 'de> {
     /// Returns the places that name the value at `path`, in the order of the text. Returns an empty list if nothing
     /// names the value.
-    pub(crate) fn mentions(&self, path: &[&str]) -> Result<Vec<Mention<'s, 'de>>, AllocError> {
+    pub(crate) fn mentions(&self, path: &[&str]) -> Result<Vec<PathMention<'s, 'de>>, AllocError> {
         mentions_of(self.alloc, self.sections, path)
     }
 

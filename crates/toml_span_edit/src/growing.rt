@@ -1,15 +1,16 @@
 //! Adds elements to arrays.
-use crate::adding::{add_deep, dot_after, dotted, known, put_section, section_place};
+use crate::adding::{add_deep, dot_after, dotted, known_prefix_len, put_section, section_place};
 use crate::document::{Document, written};
 use crate::given::{check_value, probe_text, probed};
 use crate::items::{Item, bare, count_of, put_item};
 use crate::lines::{comments_above, line_end, line_start, part, point};
-use crate::mentions::{Mention, opens_element};
+use crate::mentions::{PathMention, opens_element};
 use crate::paths::{front_of, rest_of};
 use crate::plan::Plan;
 use crate::reason::Reason;
 use toml_span::Stop;
 use toml_span_read::{Section, Val, ValKind};
+use toml_span_tree::pointer::position;
 
 /// Returns a section for a new element of an array of tables: the header `[[header]]`, and a line for each pair of
 /// `value`. Fails with `NoValue` if `value` is not a TOML value, and with `NoInlineTable` if it is not an inline table.
@@ -44,16 +45,16 @@ fn given_value<'s, 'de>(sections: &'s [Section<'de>]) -> Option<&'s Val<'de>> {
 /// array's last section. Returns `None` if `mentions` is empty, or if they name anything but an array of tables.
 fn elements_end<'s>(
     document: Document<'s, '_>,
-    mentions: &[Mention<'s, '_>],
+    mentions: &[PathMention<'s, '_>],
 ) -> Option<(&'s str, usize)> {
     match (mentions.first()?, mentions.last()?) {
-        (Mention::Below(first, index), Mention::Below(last, _)) if opens_element(*first, *index) =>
-            {
-                Some((
-                    document.header_text(*first, *index),
-                    document.body_end(*last),
-                ))
-            }
+        (PathMention::Below(first, index), PathMention::Below(last, _))
+            if opens_element(*first, *index) => {
+            Some((
+                document.header_text(*first, *index),
+                document.body_end(*last),
+            ))
+        }
         _ => None,
     }
 }
@@ -77,7 +78,7 @@ fn append_first(
     value: &str,
     plan: &mut Plan,
 ) -> Result<(), Stop<Reason>> {
-    let depth = known(document, path)?;
+    let depth = known_prefix_len(document, path)?;
     let place = section_place(document, front_of(path, depth))?;
     if let (Some((at, table)), true) = (place, is_inline(document, value)?) {
         let (dot, name) = (dot_after(table), dotted(document, rest_of(path, depth))?);
@@ -170,17 +171,19 @@ pub(crate) fn insert(
     }
     let there = document.mentions(path)?;
     match there.as_slice().first() {
-        Some(Mention::Own(next)) if next.array => put_element(document, *next, value, plan),
-        _ if at == elements(mentions.as_slice()) && at > 0 => append(document, front, value, plan),
+        Some(PathMention::Own(next)) if next.array => put_element(document, *next, value, plan),
+        _ if at == element_count(mentions.as_slice()) && at > 0 => append(
+            document, front, value, plan,
+        ),
         _ => Err(Stop::Fault(Reason::NoArray)),
     }
 }
 
 /// Returns how many of `mentions`, the mentions of an array, are sections that open an element of the array.
-fn elements(mentions: &[Mention<'_, '_>]) -> usize {
+fn element_count(mentions: &[PathMention<'_, '_>]) -> usize {
     let mut count: usize = 0;
     for mention in mentions {
-        if let Mention::Below(section, index) = mention {
+        if let PathMention::Below(section, index) = mention {
             if opens_element(*section, *index) {
                 count = count.saturating_add(1);
             }

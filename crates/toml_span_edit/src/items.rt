@@ -5,24 +5,9 @@ use crate::lines::{
 };
 use crate::plan::Plan;
 use std::alloc::{AllocError, Global};
-use std::borrow::CowStr;
 use toml_span::Span;
-use toml_span::value::{Value, ValueInner};
-use toml_span_places::literal_span;
+use toml_span_places::val_literal_span;
 use toml_span_read::{Val, ValKind};
-
-/// Returns the span of the literal that spells `value`: for a string, quotes included.
-pub(crate) fn literal_of(text: &str, value: &Val<'_>) -> Span {
-    let ValKind::String(string) = &value.kind else {
-        return value.span;
-    };
-    let shown = if string.is_empty() { "" } else { "x" };
-    let inner = ValueInner::String(CowStr::Borrowed(shown));
-    let shown = Value::with_span(inner, value.span);
-    let span = literal_span(text, &shown);
-    drop(shown);
-    span
-}
 
 /// Returns the number of items in an array or inline table, and 0 for any other value.
 pub(crate) fn count_of(list: &Val<'_>) -> usize {
@@ -37,7 +22,7 @@ pub(crate) fn count_of(list: &Val<'_>) -> usize {
 /// value. Returns `None` if `list` has no such item.
 pub(crate) fn item_span(text: &str, list: &Val<'_>, index: usize) -> Option<Span> {
     match &list.kind {
-        ValKind::Array(items) => Some(literal_of(text, items.get(index)?)),
+        ValKind::Array(items) => Some(val_literal_span(text, items.get(index)?)),
         ValKind::Inline(pairs) => Some(pairs.get(index)?.extent),
         _ => None,
     }

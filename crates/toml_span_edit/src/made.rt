@@ -1,6 +1,5 @@
 //! Compares the tree before an edit with the tree after it.
-ghost use Rattle.std.specs.Prelude.{◌≡◌, ◌&&◌, None, Some, map, option_map, option_and_then};
-ghost use Rattle.toml_span_tree.specs.Node.{get_item, get_member};
+ghost use Rattle.std.specs.Prelude.{◌≡◌, ◌&&◌, None, Some, map, option_map};
 ghost use Rattle.toml_span_tree.specs.Pointer.{position_of};
 ghost use Rattle.toml_span_tree.specs.Value.{inner_of, items_view, members_view, view};
 ghost use Rattle.toml_span_edit.specs.Made as spec;

@@ -1,7 +1,6 @@
 //! Finds the places where a document names the value at a path.
 use crate::paths::{has_position, has_segment, rest_of};
 use std::alloc::{AllocError, Global};
-use toml_span::Span;
 use toml_span::value::Key;
 use toml_span_read::{Assignment, DottedKey, Section, Val, ValKind};
 
@@ -16,7 +15,7 @@ pub(crate) enum Home<'s, 'de> {
 
 /// A place in the text that names the value at a path.
 #[derive(Clone, Copy)]
-pub(crate) enum Mention<'s, 'de> {
+pub(crate) enum PathMention<'s, 'de> {
     /// The section of the table at the path. For the root, the section without a header.
     Own(&'s Section<'de>),
     /// The section of a table inside the value. The part of the section's header with this index names the value. For
@@ -120,17 +119,17 @@ fn push_assigned<'s, 'de>(
     assignment: &'s Assignment<'de>,
     home: Home<'s, 'de>,
     path: &[&str],
-    out: &mut Vec<Mention<'s, 'de>>,
+    out: &mut Vec<PathMention<'s, 'de>>,
 ) -> Result<(), AllocError> {
     let Some(count) = common(&assignment.parts, path) else {
         return Ok(());
     };
     if count <= assignment.parts.inner.len() {
-        out.push(Mention::Dotted(assignment, count.saturating_sub(1), home))?;
+        out.push(PathMention::Dotted(assignment, count.saturating_sub(1), home))?;
         return Ok(());
     }
     if count >= path.len() {
-        out.push(Mention::Assigned(assignment, home))?;
+        out.push(PathMention::Assigned(assignment, home))?;
         return Ok(());
     }
     push_inside(&assignment.value, rest_of(path, count), out)
@@ -141,10 +140,10 @@ fn push_element<'s, 'de>(
     array: &'s Val<'de>,
     index: usize,
     rest: &[&str],
-    out: &mut Vec<Mention<'s, 'de>>,
+    out: &mut Vec<PathMention<'s, 'de>>,
 ) -> Result<(), AllocError> {
     if rest.is_empty() {
-        out.push(Mention::Element(array, index))?;
+        out.push(PathMention::Element(array, index))?;
     }
     Ok(())
 }
@@ -155,7 +154,7 @@ fn push_element<'s, 'de>(
 fn push_inside<'s, 'de>(
     value: &'s Val<'de>,
     path: &[&str],
-    out: &mut Vec<Mention<'s, 'de>>,
+    out: &mut Vec<PathMention<'s, 'de>>,
 ) -> Result<(), AllocError> {
     match &value.kind {
         ValKind::Inline(pairs) if !path.is_empty() => {
@@ -181,12 +180,12 @@ fn push_section<'s, 'de>(
     section: &'s Section<'de>,
     path: &[&str],
     counts: &mut Vec<usize>,
-    out: &mut Vec<Mention<'s, 'de>>,
+    out: &mut Vec<PathMention<'s, 'de>>,
 ) -> Result<(), AllocError> {
     match placement_of(section, path, counts) {
         Placement::Apart => {}
-        Placement::Below(part) => out.push(Mention::Below(section, part))?,
-        Placement::Above(depth) if depth >= path.len() => out.push(Mention::Own(section))?,
+        Placement::Below(part) => out.push(PathMention::Below(section, part))?,
+        Placement::Above(depth) if depth >= path.len() => out.push(PathMention::Own(section))?,
         Placement::Above(depth) => {
             for assignment in &section.assignments {
                 push_assigned(assignment, Home::Lines, rest_of(path, depth), out)?;
@@ -202,7 +201,7 @@ pub(crate) fn mentions_of<'s, 'de>(
     alloc: Global,
     sections: &'s [Section<'de>],
     path: &[&str],
-) -> Result<Vec<Mention<'s, 'de>>, AllocError> {
+) -> Result<Vec<PathMention<'s, 'de>>, AllocError> {
     let mut counts = vec![in alloc; 0usize; path.len().saturating_add(1)]?;
     let mut out = Vec::new(alloc);
     for section in sections {
@@ -214,9 +213,4 @@ pub(crate) fn mentions_of<'s, 'de>(
 /// Returns whether the header of `section` has double brackets, and its last part has the index `part`.
 pub(crate) fn opens_element(section: &Section<'_>, part: usize) -> bool {
     section.array && part.saturating_add(1) == section.header.len()
-}
-
-/// Returns the span of an assignment, from its key to the end of its value.
-pub(crate) fn pair_span(assignment: &Assignment<'_>) -> Span {
-    assignment.extent
 }

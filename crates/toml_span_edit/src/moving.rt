@@ -3,14 +3,14 @@ use crate::adding::add_lines;
 use crate::document::{Document, written};
 use crate::given::key_text;
 use crate::growing::insert;
-use crate::items::{Item, comments_of, item_span, literal_of};
+use crate::items::{Item, comments_of, item_span};
 use crate::lines::{begins_line, comments_above, line_start, line_stop, part};
-use crate::mentions::{Home, Mention, opens_element};
+use crate::mentions::{Home, PathMention, opens_element};
 use crate::plan::Plan;
 use crate::reason::Reason;
 use std::alloc::AllocError;
 use toml_span::{Span, Stop};
-use toml_span_places::with_quotes;
+use toml_span_places::{val_literal_span, with_quotes};
 use toml_span_read::{Section, ValKind};
 
 /// A value to move: its text, with its comments.
@@ -40,15 +40,15 @@ pub(crate) fn moved_value<'s>(
     let Some(value) = written(mentions.as_slice()) else {
         return Ok(None);
     };
-    let literal = literal_of(text, value);
+    let literal = val_literal_span(text, value);
     let value = part(text, literal.start, literal.end);
     let (above, note) = match mentions.as_slice().first() {
-        Some(Mention::Assigned(assignment, Home::Lines)) => {
+        Some(PathMention::Assigned(assignment, Home::Lines)) => {
             let start = line_start(text, assignment.extent.start);
             let above = part(text, comments_start(text, assignment.extent), start);
             (above, part(text, literal.end, line_stop(text, literal.end)))
         }
-        Some(Mention::Element(_, _)) => comments_of(text, literal),
+        Some(PathMention::Element(_, _)) => comments_of(text, literal),
         _ => ("", ""),
     };
     Ok(Some(Moved { above, value, note }))
@@ -56,10 +56,10 @@ pub(crate) fn moved_value<'s>(
 
 /// Returns the span of the assignment on a line, or of the element of an array in brackets, that `mention` names.
 /// Returns `None` for any other mention.
-fn extent_of(text: &str, mention: &Mention<'_, '_>) -> Option<Span> {
+fn extent_of(text: &str, mention: &PathMention<'_, '_>) -> Option<Span> {
     match *mention {
-        Mention::Assigned(assignment, Home::Lines) => Some(assignment.extent),
-        Mention::Element(list, index) => item_span(text, list, index),
+        PathMention::Assigned(assignment, Home::Lines) => Some(assignment.extent),
+        PathMention::Element(list, index) => item_span(text, list, index),
         _ => None,
     }
 }
@@ -94,7 +94,7 @@ fn is_array(document: Document<'_, '_>, path: &[&str]) -> Result<bool, AllocErro
         return Ok(matches!(&value.kind, ValKind::Array(_)));
     }
     Ok(match mentions.as_slice().first() {
-        Some(Mention::Below(section, index)) => opens_element(*section, *index),
+        Some(PathMention::Below(section, index)) => opens_element(*section, *index),
         _ => false,
     })
 }
@@ -108,7 +108,7 @@ pub(crate) fn put_moved(
     plan: &mut Plan,
 ) -> Result<(), Stop<Reason>> {
     let [front @ .., _] = path else {
-        return Err(Stop::Fault(Reason::There));
+        return Err(Stop::Fault(Reason::AlreadyThere));
     };
     if is_array(document, front)? {
         let item = Item {
@@ -133,10 +133,10 @@ fn new_header(document: Document<'_, '_>, path: &[&str]) -> Result<Option<String
     }
     let mentions = document.mentions(front)?;
     let table = match mentions.as_slice().first() {
-        Some(Mention::Own(section)) => {
+        Some(PathMention::Own(section)) => {
             document.header_text(*section, section.header.len().saturating_sub(1))
         }
-        Some(Mention::Below(section, index)) => document.header_text(*section, *index),
+        Some(PathMention::Below(section, index)) => document.header_text(*section, *index),
         _ => return Ok(None),
     };
     Ok(Some(format!(in document.alloc; "{table}.{key}")?))
@@ -156,7 +156,7 @@ fn header_span(text: &str, section: &Section<'_>, index: usize) -> Span {
 }
 
 /// Adds to `plan` the changes that write `target` instead of `path` in the headers of the table, or array of tables, at
-/// `path`, and of the tables inside it. Fails with `NotSpelled` if `path` leads to an array element, if anything but
+/// `path`, and of the tables inside it. Fails with `NotLiteral` if `path` leads to an array element, if anything but
 /// headers names the value at `path`, or if `new_header` returns `None` for `target`.
 pub(crate) fn rename_headers(
     document: Document<'_, '_>,
@@ -165,16 +165,16 @@ pub(crate) fn rename_headers(
     plan: &mut Plan,
 ) -> Result<(), Stop<Reason>> {
     let Some(header) = new_header(document, target)? else {
-        return Err(Stop::Fault(Reason::NotSpelled));
+        return Err(Stop::Fault(Reason::NotLiteral));
     };
     for mention in document.mentions(path)? {
         let span = match mention {
-            Mention::Own(section) if !section.array => {
+            PathMention::Own(section) if !section.array => {
                 let index = section.header.len().saturating_sub(1);
                 header_span(document.text, section, index)
             }
-            Mention::Below(section, index) => header_span(document.text, section, index),
-            _ => return Err(Stop::Fault(Reason::NotSpelled)),
+            PathMention::Below(section, index) => header_span(document.text, section, index),
+            _ => return Err(Stop::Fault(Reason::NotLiteral)),
         };
         plan.put(span, String::from_str(document.alloc, header.as_str())?)?;
     }

@@ -3,8 +3,6 @@ ghost use Rattle.std.specs.Cow.{cow_str_bytes};
 ghost use Rattle.std.specs.Prelude.{◌≡◌, IfOk, Ok, map};
 ghost use Rattle.toml_span_places.specs.Dotted.{IsPath};
 ghost use Rattle.toml_span_tree.specs.Nodes.{step_of};
-ghost use Rattle.toml_span_tree.specs.Pointer.{position_of};
-ghost use Rattle.toml_span_tree.specs.code.Pointer.{PositionIs};
 ghost use Rattle.toml_span_edit.specs.Paths as spec;
 
 use crate::reason::Reason;

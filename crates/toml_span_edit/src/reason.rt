@@ -8,7 +8,7 @@ pub enum Reason {
     /// The document is not valid UTF-8.
     NotUtf8,
     /// The document is not valid TOML. The string is its error with line and column.
-    NoDocument(String),
+    InvalidDocument(String),
     /// The path is neither a pointer nor a dotted key. The string says at which column reading the path failed, and
     /// why.
     WrongPath(String),
@@ -17,12 +17,14 @@ pub enum Reason {
     /// The new value is not a TOML value. For a word such as `abc`, the string is `'"abc"'?`: what was probably meant,
     /// quoted for a shell, to complete `did you mean`.
     NoValue(Option<String>),
-    /// Headers or dotted keys define the value at the path, or the path leads to the root.
-    NotSpelled,
+    /// The path leads to the root, which can't be replaced or removed.
+    Root,
+    /// Headers or dotted keys define the value at the path.
+    NotLiteral,
     /// The path does not name a key.
     NoKey,
     /// The path already names a value.
-    There,
+    AlreadyThere,
     /// The value to which an entry would be added is not a table.
     NoTable,
     /// The value to which an element would be added is not an array, or the array can't have an element at the position
@@ -31,7 +33,7 @@ pub enum Reason {
     /// The new element of an array of tables is not written as an inline table.
     NoInlineTable,
     /// The result would not be valid TOML. The string is its error with line and column.
-    WouldBeNone(String),
+    ResultInvalid(String),
     /// The edit would change something else too.
     WouldDiffer,
 }
@@ -42,23 +44,28 @@ impl Reason {
         match self {
             Reason::TooLong => "the file is larger than 16 MiB",
             Reason::NotUtf8 => "the file is not valid UTF-8",
-            Reason::NoDocument(_) => "the file is not valid TOML: ",
-            Reason::WrongPath(_) => "the path is wrong at ",
-            Reason::Nothing => "there is no value at this path",
+            Reason::InvalidDocument(_) => "the file is not valid TOML: ",
+            Reason::WrongPath(_) => "invalid path: ",
+            Reason::Nothing => "there is nothing at this path",
             Reason::NoValue(None) =>
-                "the given value is not one TOML value (strings need quotes: `'\"b\"'`)",
-            Reason::NoValue(Some(_)) => "the given value is not one TOML value: did you mean ",
-            Reason::NotSpelled => {
+                "the new value is not a single TOML value (strings need quotes: `'\"b\"'`)",
+            Reason::NoValue(Some(_)) => "the new value is not a single TOML value: did you mean ",
+            Reason::Root => {
+                "the path names the whole document; set or remove the values in it instead"
+            }
+            Reason::NotLiteral => {
                 "headers or dotted keys define this table or array; set the values in it instead"
             }
             Reason::NoKey => "the path does not name a key",
-            Reason::There => "there is a value at this path already",
+            Reason::AlreadyThere => "this path already has a value",
             Reason::NoTable => "the path does not name a table",
-            Reason::NoArray => "the path does not name an array, or a position in one",
+            Reason::NoArray => {
+                "the path does not name an array, or a position in one (0 to the number of elements)"
+            }
             Reason::NoInlineTable => {
                 "sections define the elements of this array; the value must be an inline table"
             }
-            Reason::WouldBeNone(_) => "the result would not be valid TOML: ",
+            Reason::ResultInvalid(_) => "the result would not be valid TOML: ",
             Reason::WouldDiffer => "this would change more than the value at the path",
         }
     }
@@ -67,9 +74,9 @@ impl Reason {
     /// was probably meant. Returns an empty string for other reasons.
     pub fn detail(&self) -> &str {
         match self {
-            Reason::NoDocument(fault) => fault.as_str(),
+            Reason::InvalidDocument(fault) => fault.as_str(),
             Reason::WrongPath(fault) => fault.as_str(),
-            Reason::WouldBeNone(fault) => fault.as_str(),
+            Reason::ResultInvalid(fault) => fault.as_str(),
             Reason::NoValue(Some(string)) => string.as_str(),
             _ => "",
         }

@@ -2,7 +2,7 @@
 use crate::document::Document;
 use crate::items::cut_items;
 use crate::lines::{line_end, line_stop};
-use crate::mentions::{Home, Mention};
+use crate::mentions::{Home, PathMention};
 use crate::plan::Plan;
 use crate::reason::Reason;
 use std::alloc::AllocError;
@@ -20,11 +20,11 @@ struct Run<'s, 'de> {
 
 /// Returns the item that a mention in brackets or braces names, as a run of one item. Returns `None` for a mention on
 /// lines.
-fn run_of<'s, 'de>(mention: &Mention<'s, 'de>) -> Option<Run<'s, 'de>> {
+fn run_of<'s, 'de>(mention: &PathMention<'s, 'de>) -> Option<Run<'s, 'de>> {
     let (list, index) = match *mention {
-        Mention::Dotted(_, _, Home::Braces(list, index)) => (list, index),
-        Mention::Assigned(_, Home::Braces(list, index)) => (list, index),
-        Mention::Element(list, index) => (list, index),
+        PathMention::Dotted(_, _, Home::Braces(list, index)) => (list, index),
+        PathMention::Assigned(_, Home::Braces(list, index)) => (list, index),
+        PathMention::Element(list, index) => (list, index),
         _ => return None,
     };
     Some(Run {
@@ -35,12 +35,12 @@ fn run_of<'s, 'de>(mention: &Mention<'s, 'de>) -> Option<Run<'s, 'de>> {
 }
 
 /// Returns the lines to remove for a mention, or `None` for a mention in brackets or braces.
-fn lines_of(text: &str, mention: &Mention<'_, '_>) -> Option<Span> {
+fn lines_of(text: &str, mention: &PathMention<'_, '_>) -> Option<Span> {
     match *mention {
-        Mention::Own(section) => Some(section_lines(text, section)),
-        Mention::Below(section, _) => Some(section_lines(text, section)),
-        Mention::Dotted(assignment, _, Home::Lines) => Some(assignment_lines(text, assignment)),
-        Mention::Assigned(assignment, Home::Lines) => Some(assignment_lines(text, assignment)),
+        PathMention::Own(section) => Some(section_lines(text, section)),
+        PathMention::Below(section, _) => Some(section_lines(text, section)),
+        PathMention::Dotted(assignment, _, Home::Lines) => Some(assignment_lines(text, assignment)),
+        PathMention::Assigned(assignment, Home::Lines) => Some(assignment_lines(text, assignment)),
         _ => None,
     }
 }
@@ -68,7 +68,11 @@ fn cut_run(text: &str, run: Option<Run<'_, '_>>, plan: &mut Plan) -> Result<(), 
 }
 
 /// Adds to `plan` the removal of the lines and items that `mentions` name.
-fn cut_all(text: &str, mentions: &[Mention<'_, '_>], plan: &mut Plan) -> Result<(), AllocError> {
+fn cut_all(
+    text: &str,
+    mentions: &[PathMention<'_, '_>],
+    plan: &mut Plan,
+) -> Result<(), AllocError> {
     let mut open = None;
     for mention in mentions {
         if let Some(lines) = lines_of(text, mention) {
@@ -90,17 +94,17 @@ fn cut_all(text: &str, mentions: &[Mention<'_, '_>], plan: &mut Plan) -> Result<
 
 /// Returns whether a mention names a table only on the way to a value inside the table, by a longer header or a dotted
 /// key.
-fn passes(mention: &Mention<'_, '_>) -> bool {
+fn passes(mention: &PathMention<'_, '_>) -> bool {
     match *mention {
-        Mention::Below(_, _) => true,
-        Mention::Dotted(_, _, _) => true,
+        PathMention::Below(_, _) => true,
+        PathMention::Dotted(_, _, _) => true,
         _ => false,
     }
 }
 
 /// Returns whether a table exists only because of one value in it. `table` has the mentions of the table, and `values`
 /// is the number of mentions of the value.
-fn is_implied(table: &[Mention<'_, '_>], values: usize) -> bool {
+fn is_implied(table: &[PathMention<'_, '_>], values: usize) -> bool {
     table.len() == values && table.iter().all(|mention| passes(mention))
 }
 
@@ -108,17 +112,17 @@ fn is_implied(table: &[Mention<'_, '_>], values: usize) -> bool {
 /// dotted key with `{}`. Does nothing for a mention other than `Below` and `Dotted`.
 fn keep_table(
     document: Document<'_, '_>,
-    table: &Mention<'_, '_>,
+    table: &PathMention<'_, '_>,
     plan: &mut Plan,
 ) -> Result<(), AllocError> {
     let text = document.text;
     match *table {
-        Mention::Below(section, index) => {
+        PathMention::Below(section, index) => {
             let (header, end) = (document.header_text(section, index), line_end(text));
             let new = format!(in document.alloc; "[{header}]{end}")?;
             plan.put(section_lines(text, section), new)
         }
-        Mention::Dotted(assignment, index, home) => {
+        PathMention::Dotted(assignment, index, home) => {
             let mut new = String::from_str(
                 document.alloc,
                 document.dotted_text(assignment, index),
@@ -142,7 +146,7 @@ fn keep_table(
 }
 
 /// Adds to `plan` the removal of the value at `path`. A table that exists only because of this value stays as an empty
-/// table, written as a header or as `{}`. Fails with `WouldDiffer` for the root, and with `Nothing` if `path` names
+/// table, written as a header or as `{}`. Fails with `Root` for the root, and with `Nothing` if `path` names
 /// nothing.
 pub(crate) fn remove(
     document: Document<'_, '_>,
@@ -151,7 +155,7 @@ pub(crate) fn remove(
 ) -> Result<(), Stop<Reason>> {
     let mentions = document.mentions(path)?;
     let [front @ .., _] = path else {
-        return Err(Stop::Fault(Reason::WouldDiffer));
+        return Err(Stop::Fault(Reason::Root));
     };
     let [_, rest @ ..] = mentions.as_slice() else {
         return Err(Stop::Fault(Reason::Nothing));

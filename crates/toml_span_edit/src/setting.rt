@@ -10,7 +10,7 @@ ghost use Rattle.toml_span_edit.specs.Kept as spec;
 use crate::document::{Document, sections_of, written};
 use crate::given::{check_value, key_text};
 use crate::made::value_at;
-use crate::mentions::Mention;
+use crate::mentions::PathMention;
 use crate::paths::names_steps;
 use crate::reason::Reason;
 use std::alloc::{AllocError, Global};
@@ -86,8 +86,8 @@ pub(crate) fn write_over(
 }
 
 /// Returns `text` with the TOML value `value` written over the value at `path`. `old` is the tree of `text`. Fails with
-/// `NoValue` if `value` is not a TOML value, with `Nothing` if `path` names nothing, and with `NotSpelled` for the root
-/// and for a value that headers or dotted keys define.
+/// `NoValue` if `value` is not a TOML value, with `Root` for the root, with `Nothing` if `path` names nothing, and with
+/// `NotLiteral` if headers or dotted keys define the value at `path`.
 pub(crate) fn set_text(
     alloc: Global,
     text: &str,
@@ -101,8 +101,9 @@ pub(crate) fn set_text(
     check_value(alloc, value)?;
     match how_written(alloc, text, path)? {
         Written::Literal => write_over(alloc, text, path, value, old),
-        Written::Nowhere if !path.is_empty() => Err(Stop::Fault(Reason::Nothing)),
-        _ => Err(Stop::Fault(Reason::NotSpelled)),
+        _ if path.is_empty() => Err(Stop::Fault(Reason::Root)),
+        Written::Nowhere => Err(Stop::Fault(Reason::Nothing)),
+        Written::Otherwise => Err(Stop::Fault(Reason::NotLiteral)),
     }
 }
 
@@ -166,8 +167,8 @@ fn check_keys(document: Document<'_, '_>, path: &[&str]) -> Result<(), Stop<Reas
     }
     for mention in &mentions {
         match mention {
-            Mention::Own(section) if section.array => return Err(Stop::Fault(Reason::NoKey)),
-            Mention::Element(_, _) => return Err(Stop::Fault(Reason::NoKey)),
+            PathMention::Own(section) if section.array => return Err(Stop::Fault(Reason::NoKey)),
+            PathMention::Element(_, _) => return Err(Stop::Fault(Reason::NoKey)),
             _ => {}
         }
     }

@@ -5,7 +5,7 @@ ghost use Rattle.toml_span_tree.specs.Value.{view};
 ghost use Rattle.toml_span.specs.Parsing.{IsTree};
 ghost use Rattle.toml_span_edit.specs.Edited as spec;
 ghost use Rattle.toml_span_edit.specs.Kept as kept;
-ghost use Rattle.toml_span_edit.specs.declared.step.Spot.TheVariants.{Here, End};
+ghost use Rattle.toml_span_edit.specs.declared.step.Destination.TheVariants.{Here, End};
 ghost use Rattle.toml_span_edit.specs.Made.{local};
 
 use crate::edits::{Change, Edit};
@@ -19,7 +19,7 @@ use toml_span::{Error, Stop, parse};
 
 /// Where a new value goes, relative to the value at a path.
 #[derive(Clone, Copy)]
-pub(crate) enum Spot<'l> {
+pub(crate) enum Destination<'l> {
     /// In place of the value at the path.
     Here,
     /// In the table at the path, under this key; or in the array at the path, at this position.
@@ -63,34 +63,35 @@ fn given_tree<'p>(alloc: Global, probe: &'p str, value: &str) -> Result<Value<'p
     }
 }
 
-/// Returns the `Local` change that puts `given` at `spot`.
-fn local_of<'l, 'v, 'de>(spot: Spot<'l>, given: &'v Value<'de>) -> Local<'l, 'v, 'de>
-    ensures { local result ≡ spec.goes spot.entry (view given.now) }
+/// Returns the `Local` change that puts `given` at `destination`.
+fn local_of<'l, 'v, 'de>(destination: Destination<'l>, given: &'v Value<'de>) -> Local<'l, 'v, 'de>
+    ensures { local result ≡ spec.is_placed destination.entry (view given.now) }
 {
-    match spot {
-        Spot::Here => Local::Set(given),
-        Spot::Under(segment) => Local::Put(segment, given),
-        Spot::End => Local::Last(given),
+    match destination {
+        Destination::Here => Local::Set(given),
+        Destination::Under(segment) => Local::Put(segment, given),
+        Destination::End => Local::Last(given),
     }
 }
 
-/// Returns whether the tree `new` is the tree `old` with the TOML value `value` at `spot`, relative to the value at
-/// `path`. Fails with `NoValue` if `value` can't be read.
-fn goes(
+/// Returns whether the tree `new` is the tree `old` with the TOML value `value` at `destination`, relative to the value
+/// at `path`. Fails with `NoValue` if `value` can't be read.
+fn is_placed(
     alloc: Global,
-    spot: Spot<'_>,
+    destination: Destination<'_>,
     value: &str,
     path: &[&str],
     old: &Value<'_>,
     new: &Value<'_>,
 ) -> Result<bool, Stop<Reason>>
     ensures { IfOk result (λ holds. holds ≡ true
-        → spec.Goes (spec.goes spot.entry) value.now (map (λ s. s.now) path.now) (view old.now) (view new.now)) }
+        → spec.IsPlaced (spec.is_placed destination.entry) value.now (map (λ s. s.now) path.now) (view old.now)
+        (view new.now)) }
 {
     let probe = probe_text(alloc, value)?;
     let root = given_tree(alloc, probe.as_str(), value)?;
     match child(&root, "v") {
-        Some(given) => Ok(changed(path, local_of(spot, given), old, new)),
+        Some(given) => Ok(changed(path, local_of(destination, given), old, new)),
         None => Ok(false),
     }
 }
@@ -128,8 +129,8 @@ fn is_made(
 {
     let Edit { path, change } = edit;
     match change {
-        Change::Set(value) => goes(alloc, Spot::Here, value, path, old, new),
-        Change::Replace(value) => goes(alloc, Spot::Here, value, path, old, new),
+        Change::Set(value) => is_placed(alloc, Destination::Here, value, path, old, new),
+        Change::Replace(value) => is_placed(alloc, Destination::Here, value, path, old, new),
         Change::SetOrAdd(value) => is_set_or_new(alloc, value, path, old, new),
         Change::Append(value) => is_appended(alloc, value, path, old, new),
         Change::AddTable => is_new(alloc, "{}", path, old, new),
@@ -152,12 +153,12 @@ fn is_set_or_new(
 ) -> Result<bool, Stop<Reason>>
     ensures { IfOk result (λ holds. holds ≡ true
         → (spec.IsNew value.now (map (λ s. s.now) path.now) (view old.now) (view new.now))
-        ⊎ (spec.Goes (spec.goes Here) value.now (map (λ s. s.now) path.now) (view old.now) (view new.now))) }
+        ⊎ (spec.IsPlaced (spec.is_placed Here) value.now (map (λ s. s.now) path.now) (view old.now) (view new.now))) }
 {
     if is_new(alloc, value, path, old, new)? {
         return Ok(true);
     }
-    goes(alloc, Spot::Here, value, path, old, new)
+    is_placed(alloc, Destination::Here, value, path, old, new)
 }
 
 /// Returns whether the tree `new` is the tree `old` with the TOML value `value` added at the end of the array at
@@ -171,7 +172,7 @@ fn is_appended(
 ) -> Result<bool, Stop<Reason>>
     ensures { IfOk result (λ holds. holds ≡ true
         → (spec.IsNew (codes "[" ++ (value.now ++ codes "]")) (map (λ s. s.now) path.now) (view old.now) (view new.now))
-        ⊎ (spec.Goes (spec.goes End) value.now (map (λ s. s.now) path.now) (view old.now) (view new.now))) }
+        ⊎ (spec.IsPlaced (spec.is_placed End) value.now (map (λ s. s.now) path.now) (view old.now) (view new.now))) }
 {
     let mut list = String::from_str(alloc, "[")?;
     list.push_str(value)?;
@@ -179,7 +180,7 @@ fn is_appended(
     if is_new(alloc, list.as_str(), path, old, new)? {
         return Ok(true);
     }
-    goes(alloc, Spot::End, value, path, old, new)
+    is_placed(alloc, Destination::End, value, path, old, new)
 }
 
 /// Returns whether the tree `new` is the tree `old` with the TOML value `value` added at `path`, in a table or array
@@ -195,7 +196,7 @@ fn is_under(
         → spec.IsUnder value.now (map (λ s. s.now) path.now) (view old.now) (view new.now)) }
 {
     match path {
-        [front @ .., name] => goes(alloc, Spot::Under(*name), value, front, old, new),
+        [front @ .., name] => is_placed(alloc, Destination::Under(*name), value, front, old, new),
         [] => Ok(false),
     }
 }
@@ -238,29 +239,29 @@ fn is_put(path: &[&str], value: &Value<'_>, old: &Value<'_>, new: &Value<'_>) ->
     }
 }
 
-/// Returns the tree of `text`, the text to edit. Fails with `NoDocument` if `text` is not valid TOML.
+/// Returns the tree of `text`, the text to edit. Fails with `InvalidDocument` if `text` is not valid TOML.
 pub(crate) fn old_tree<'t>(alloc: Global, text: &'t str) -> Result<Value<'t>, Stop<Reason>>
     ensures { IfOk result (λ root. IsTree text.now depth_limit root) }
 {
     match tree(alloc, text)? {
         Ok(root) => Ok(root),
-        Err(fault) => Err(Stop::Fault(Reason::NoDocument(fault))),
+        Err(fault) => Err(Stop::Fault(Reason::InvalidDocument(fault))),
     }
 }
 
-/// Returns the tree of `text`, the result of an edit. Fails with `WouldBeNone` if `text` is not valid TOML.
+/// Returns the tree of `text`, the result of an edit. Fails with `ResultInvalid` if `text` is not valid TOML.
 pub(crate) fn new_tree<'t>(alloc: Global, text: &'t str) -> Result<Value<'t>, Stop<Reason>>
     ensures { IfOk result (λ root. IsTree text.now depth_limit root) }
 {
     match tree(alloc, text)? {
         Ok(root) => Ok(root),
-        Err(fault) => Err(Stop::Fault(Reason::WouldBeNone(fault))),
+        Err(fault) => Err(Stop::Fault(Reason::ResultInvalid(fault))),
     }
 }
 
-/// Checks that `new` is a document whose tree is `old` with `edit` made. Fails with `WouldBeNone` if `new` is not valid
-/// TOML, with `NoValue` if the edit's value can't be read, and with `WouldDiffer` if `new` has a different tree or
-/// `edit` is a move.
+/// Checks that `new` is a document whose tree is `old` with `edit` made. Fails with `ResultInvalid` if `new` is not
+/// valid TOML, with `NoValue` if the edit's value can't be read, and with `WouldDiffer` if `new` has a different tree
+/// or `edit` is a move.
 fn check_made(alloc: Global, edit: Edit<'_>, old: &Value<'_>, new: &str) -> Result<(), Stop<Reason>>
     ensures { OnOk result (spec.IsMade edit.entry.change (map (λ s. s.now) edit.entry.path.now) (view old.now)
         new.now) }
@@ -273,8 +274,8 @@ fn check_made(alloc: Global, edit: Edit<'_>, old: &Value<'_>, new: &str) -> Resu
     }
 }
 
-/// Checks that `new` is a document whose tree is `rest` with `value` added at `path`. Fails with `WouldBeNone` if `new`
-/// is not valid TOML, and with `WouldDiffer` if it has a different tree.
+/// Checks that `new` is a document whose tree is `rest` with `value` added at `path`. Fails with `ResultInvalid` if
+/// `new` is not valid TOML, and with `WouldDiffer` if it has a different tree.
 fn check_put_back(
     alloc: Global,
     path: &[&str],
@@ -337,7 +338,7 @@ fn move_value(
 
 /// Returns `text` with `edit` made. `old` is the tree of `text`. Fails with a reason if `edit` is refused. Always
 /// refuses a move.
-fn edited(
+fn edit_value(
     alloc: Global,
     text: &str,
     edit: Edit<'_>,
@@ -361,6 +362,6 @@ pub(crate) fn step(alloc: Global, text: &str, edit: Edit<'_>) -> Result<String, 
     let old = old_tree(alloc, text)?;
     match edit.change {
         Change::MoveTo(target) => move_value(alloc, text, edit.path, target, &old),
-        _ => edited(alloc, text, edit, &old),
+        _ => edit_value(alloc, text, edit, &old),
     }
 }

@@ -63,8 +63,8 @@ fn inserted_text(
 }
 
 /// Returns `text` with `value` written over the value at `path` or, if `path` names nothing, added at `path`. `old` is
-/// the tree of `text`. Fails with `NotSpelled` if headers or dotted keys define the value at `path`, and with another
-/// reason if `value` can't be written there.
+/// the tree of `text`. Fails with `Root` for the root, with `NotLiteral` if headers or dotted keys define the value at
+/// `path`, and with another reason if `value` can't be written there.
 fn set_or_added_text(
     alloc: Global,
     text: &str,
@@ -79,22 +79,23 @@ fn set_or_added_text(
     check_value(alloc, value)?;
     match how_written(alloc, text, path)? {
         Written::Literal => write_over(alloc, text, path, value, old),
-        Written::Otherwise => Err(Stop::Fault(Reason::NotSpelled)),
+        _ if path.is_empty() => Err(Stop::Fault(Reason::Root)),
+        Written::Otherwise => Err(Stop::Fault(Reason::NotLiteral)),
         Written::Nowhere => inserted_text(alloc, text, path, Change::SetOrAdd(value)),
     }
 }
 
 // ---- what is removed
 
-/// Returns the text of `document` without the value at `path` and, if `has_comments`, without the comment lines
+/// Returns the text of `document` without the value at `path` and, if `cuts_comments`, without the comment lines
 /// directly above the value. Fails with a reason if the value can't be removed.
 fn removed(
     document: Document<'_, '_>,
     path: &[&str],
-    has_comments: bool,
+    cuts_comments: bool,
 ) -> Result<String, Stop<Reason>> {
     let mut pieces = Plan::new(document.alloc);
-    if has_comments {
+    if cuts_comments {
         cut_comments(document, path, &mut pieces)?;
     }
     remove(document, path, &mut pieces)?;

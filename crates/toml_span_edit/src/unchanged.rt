@@ -12,8 +12,8 @@ use toml_span::Stop;
 /// where floats and dates are compared by their texts. Blanks, comments, the order of entries, and the spelling of
 /// strings and integers may differ.
 ///
-/// Fails with `NoDocument` if `text` is not valid TOML, with `WouldBeNone` if `new` is not, with `WouldDiffer` if the
-/// trees differ, and with `Stop::Memory` if an allocation fails.
+/// Fails with `InvalidDocument` if `text` is not valid TOML, with `ResultInvalid` if `new` is not, with `WouldDiffer`
+/// if the trees differ, and with `Stop::Memory` if an allocation fails.
 pub fn validated(alloc: Global, text: &str, new: String) -> Result<String, Stop<Reason>>
     ensures same { IfOk result (λ out. IsSameDocument text.now (string_bytes out)) }
     ensures text { IfOk result (λ out. string_bytes out ≡ string_bytes new) }

@@ -11,7 +11,7 @@ use Rattle.toml_span.specs.Parsing.{IsTree}
 use Rattle.toml_span_laws.specs.Outcomes.{HasOutcome, resolved}
 use Rattle.toml_span_places.specs.Literals.{literal_span}
 use Rattle.toml_span_places.specs.declared.replace.ReplaceError.{ReplaceError}
-use Rattle.toml_span_places.specs.Replace.{edited, replaced, first_fault, if_right}
+use Rattle.toml_span_places.specs.Replace.{edited_from, replaced, first_fault, if_right}
 use Rattle.toml_span_laws.specs.Again.{ReadsAsScalar, with_part}
 use Rattle.toml_span_laws.proofs.WrittenOver.{tree-takes-scalar, tree-text-reads}
 use Rattle.toml_span_edit.specs.Edited.{Spells}
@@ -34,7 +34,7 @@ start_is text i = grind (arith, nat_tests, common_steps)
 over : (text value new : List ℕ) (span : Span) → replaced text ((span, value) ∷ []) ≡ Some new → new ≡ with_part text span.start span.end value
 over text value new span h = by (first_fault text 0 0 ((span, value) ∷ [])) h
   where
-    by : (o : Option ReplaceError) → if_right o (edited text 0 ((span, value) ∷ [])) ≡ Some new → new ≡ with_part text span.start span.end value
+    by : (o : Option ReplaceError) → if_right o (edited_from text 0 ((span, value) ∷ [])) ≡ Some new → new ≡ with_part text span.start span.end value
     by None e =
         let a = start_is text span.start in
         let b = same_Some (slice_range text 0 span.start ++ (value ++ drop span.end text)) new e in

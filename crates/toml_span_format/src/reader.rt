@@ -276,7 +276,7 @@ impl<'t> Reader<'t> {
 
     /// Adds the columns of `frame`, which was just closed, to the innermost open array or inline table, if there is
     /// one. Also updates `has_line_end` and `has_lines` there. `form` is the form of `frame`.
-    fn hold(&mut self, frame: &Frame, form: Form) {
+    fn add_to_outer(&mut self, frame: &Frame, form: Form) {
         self.widen(frame.whole_width());
         if let Some(outer) = self.open.last_mut() {
             outer.has_line_end |= frame.is_table && form != Form::OneLine;
@@ -302,7 +302,7 @@ impl<'t> Reader<'t> {
                 Kind::OpenArray(form)
             };
         }
-        self.hold(&frame, form);
+        self.add_to_outer(&frame, form);
         Ok(())
     }
 

@@ -4,7 +4,7 @@ use Rattle.toml_span_lex.specs.declared.key.Key.{Key}
 use Rattle.toml_span_read.specs.Data.{SimpleKey, parsed_assignment, pairs_onto, no_pairs}
 use Rattle.toml_span_read.specs.declared.value.Assignment.{Assignment}
 use Rattle.toml_span_places.specs.Keys.{with_quotes}
-use Rattle.toml_span_places.specs.Newer.{begins_escape, byte_forms, ends_gap, escape, escapes, gap_after, gap_before, gap_forms}
+use Rattle.toml_span_places.specs.Newer.{begins_escape, byte_forms, ends_gap, escape, escapes, gap_after, gap_after_pair, gap_forms}
 use Rattle.toml_span_places.specs.Newer.{gap_from, keys_end, next_comment, pair_forms, pairs_forms}
 use Rattle.toml_span_places.specs.declared.newer.Gap.{Gap}
 use Rattle.toml_span_places.specs.declared.newer.Gap.TheVariants.{BeforePair, AfterLast}
@@ -61,15 +61,15 @@ keys_end_last text end (key ∷ keys) last = keys_end_last text (with_quotes tex
 abbrev pub assigned_forms : List ℕ → List Assignment → List NewerForm
 assigned_forms text es = pairs_forms text (pairs_onto (map parsed_assignment es) no_pairs)
 
-after_last : (i : ℕ) (es : List Assignment) → i + 1 ≡ length es → gap_before (pairs_onto (map parsed_assignment (drop (i + 1) es)) no_pairs) ≡ AfterLast
-after_last i es is = ap (λ rest. gap_before (pairs_onto (map parsed_assignment rest) no_pairs)) (drop_all (i + 1) es (omega arith))
+after_last : (i : ℕ) (es : List Assignment) → i + 1 ≡ length es → gap_after_pair (pairs_onto (map parsed_assignment (drop (i + 1) es)) no_pairs) ≡ AfterLast
+after_last i es is = ap (λ rest. gap_after_pair (pairs_onto (map parsed_assignment rest) no_pairs)) (drop_all (i + 1) es (omega arith))
 
 before_pair : (i : ℕ) (es : List Assignment) (e : Assignment) → i + 1 < length es →
-    gap_before (pairs_onto (map parsed_assignment (drop (i + 1) es)) no_pairs) ≡ BeforePair
-before_pair i es e below = ap (λ rest. gap_before (pairs_onto (map parsed_assignment rest) no_pairs)) (drop_more es (i + 1) e below)
+    gap_after_pair (pairs_onto (map parsed_assignment (drop (i + 1) es)) no_pairs) ≡ BeforePair
+before_pair i es e below = ap (λ rest. gap_after_pair (pairs_onto (map parsed_assignment rest) no_pairs)) (drop_more es (i + 1) e below)
 
 gap_is : (i : ℕ) (es : List Assignment) (e : Assignment) → i < length es →
-    gap_before (pairs_onto (map parsed_assignment (drop (i + 1) es)) no_pairs) ≡ gap_after i (length es)
+    gap_after_pair (pairs_onto (map parsed_assignment (drop (i + 1) es)) no_pairs) ≡ gap_after i (length es)
 gap_is i es e below = grind (arith, nat_tests, common_steps, after_last i es, before_pair i es e)
 
 pairs_more : (text : List ℕ) (i : ℕ) (es : List Assignment) (e : Assignment) → i < length es → get_or es i e ≡ e →

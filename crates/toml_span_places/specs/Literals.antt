@@ -4,7 +4,8 @@ use Rattle.std.specs.Prelude.{Option, Some, None}
 use Rattle.toml_span_lex.specs.Bytes.{line_feed, carriage_return}
 use Rattle.toml_span_lex.specs.declared.span.Span.{Span}
 use Rattle.toml_span_tree.specs.Node.{Node}
-use Rattle.toml_span_tree.specs.Value.{inner_of, span_of, text_in}
+use Rattle.toml_span_tree.specs.Value.{inner_of, span_of, text_in, text_of}
+use Rattle.toml_span_read.specs.Data.{ParsedInner, ParsedValue, parsed, scalar, array, inline}
 use Rattle.toml_span_places.specs.Keys.{is_quote}
 
 -- the byte `back` bytes before the offset `at`, or 0 if the text has no such byte
@@ -43,3 +44,13 @@ string_or_span text span None = span
 -- the span of a value's literal
 abbrev pub literal_span : List ℕ → Node → Span
 literal_span text n = string_or_span text (span_of n) (text_in (inner_of n))
+
+-- the text of a value in the sections of a document, if it is a string
+abbrev pub parsed_text : ParsedInner → Option (List ℕ)
+parsed_text (scalar s) = text_of s
+parsed_text (array vs) = None
+parsed_text (inline ps) = None
+
+-- the span of the literal of a value in the sections of a document
+abbrev pub val_literal_span : List ℕ → ParsedValue → Span
+val_literal_span text (parsed i span) = string_or_span text span (parsed_text i)

@@ -21,8 +21,8 @@ use Rattle.toml_span_places.specs.declared.newer.NewerKind.{NewerKind}
 use Rattle.toml_span_places.specs.declared.newer.NewerKind.TheVariants as kinds
 
 -- a list of one use, of the kind `kind`, with the span from `start` to `end`
-abbrev pub form : NewerKind → ℕ → ℕ → List NewerForm
-form kind start end = record { kind = kind; span = from_to start end } ∷ []
+abbrev pub one_form : NewerKind → ℕ → ℕ → List NewerForm
+one_form kind start end = record { kind = kind; span = from_to start end } ∷ []
 
 -- ---- strings and keys
 
@@ -30,8 +30,8 @@ form kind start end = record { kind = kind; span = from_to start end } ∷ []
 -- is one of these; `is_letter` says whether the byte there is the letter of an escape
 abbrev pub escape : List ℕ → Bool → ℕ → List NewerForm
 escape text is_letter at =
-    if slice_index text at == small_e && is_letter then form kinds.EscapeEscape (at - 1) (at + 1)
-    else if slice_index text at == small_x && is_letter then form kinds.HexEscape (at - 1) (at + 3)
+    if slice_index text at == small_e && is_letter then one_form kinds.EscapeEscape (at - 1) (at + 1)
+    else if slice_index text at == small_x && is_letter then one_form kinds.HexEscape (at - 1) (at + 3)
     else []
 
 abbrev pub begins_escape : List ℕ → Bool → ℕ → Bool
@@ -67,7 +67,7 @@ abbrev pub date_forms : List ℕ → Span → List NewerForm
 date_forms date span =
     let from = time_start date in
     if nat_le (length date) from || slice_index date (from + 5) == colon then []
-    else form kinds.NoSeconds (span.end - (length date - from)) (span.end - (length date - (from + 5)))
+    else one_form kinds.NoSeconds (span.end - (length date - from)) (span.end - (length date - (from + 5)))
 
 -- ---- gaps in inline tables
 
@@ -88,14 +88,14 @@ comment_kind AfterLast = kinds.Comment
 -- the comment that begins at `start`, up to the offset `end`; none without a start
 abbrev pub comment_form : Gap → Option ℕ → ℕ → List NewerForm
 comment_form gap None end = []
-comment_form gap (Some start) end = form (comment_kind gap) start end
+comment_form gap (Some start) end = one_form (comment_kind gap) start end
 
 -- `[ comment ] newline` of a `ws-comment-newline`: the comment that begins at `comment`, if that is not None, and the
 -- newline whose %x0A is at the offset `at`
 abbrev pub line_end : List ℕ → Gap → Option ℕ → ℕ → List NewerForm
 line_end text gap comment at =
     comment_form gap comment (line_end_start text at)
-    ++ form (line_end_kind gap) (line_end_start text at) (at + 1)
+    ++ one_form (line_end_kind gap) (line_end_start text at) (at + 1)
 
 abbrev pub is_after_last : Gap → Bool
 is_after_last BeforePair = false
@@ -108,7 +108,7 @@ abbrev pub byte_forms : List ℕ → Gap → Option ℕ → ℕ → List NewerFo
 byte_forms text gap comment at =
     if slice_index text at == line_feed then line_end text gap comment at
     else if slice_index text at == comma && (is_after_last gap && is_none comment)
-    then form kinds.TrailingComma at (at + 1)
+    then one_form kinds.TrailingComma at (at + 1)
     else []
 
 -- the start of the comment that the byte after the offset `at` continues or ends, if there is one; `comment` is the
@@ -152,9 +152,9 @@ keys_end text end [] = end
 keys_end text end (key ∷ keys) = keys_end text (with_quotes text key.span).end keys
 
 -- the kind of the gap after a pair, given the pairs after it
-abbrev pub gap_before : ParsedPairs → Gap
-gap_before no_pairs = AfterLast
-gap_before (pair keys v extent ps) = BeforePair
+abbrev pub gap_after_pair : ParsedPairs → Gap
+gap_after_pair no_pairs = AfterLast
+gap_after_pair (pair keys v extent ps) = BeforePair
 
 abbrev mutual
   pub value_forms : List ℕ → ParsedValue → List NewerForm
@@ -174,7 +174,7 @@ abbrev mutual
   pairs_forms text no_pairs = []
   pairs_forms text (pair keys v extent ps) =
       (((key_forms text keys ++ gap_forms text AtEquals (keys_end text 0 keys)) ++ value_forms text v)
-      ++ gap_forms text (gap_before ps) extent.end)
+      ++ gap_forms text (gap_after_pair ps) extent.end)
       ++ pairs_forms text ps
 
 -- the kind of the gap after the pair at a position, given the number of pairs
@@ -196,7 +196,7 @@ abbrev pub section_forms : List ℕ → ParsedSection → List NewerForm
 section_forms text b = key_forms text b.header ++ assignments_forms text b.assignments
 
 abbrev pub mark_forms : List ℕ → List NewerForm
-mark_forms text = if text_start text == 0 then [] else form kinds.ByteOrderMark 0 (text_start text)
+mark_forms text = if text_start text == 0 then [] else one_form kinds.ByteOrderMark 0 (text_start text)
 
 -- all uses in the text, whose sections are `bs`
 abbrev pub newer_forms : List ℕ → List ParsedSection → List NewerForm

@@ -12,16 +12,16 @@ use Rattle.toml_span_places.specs.declared.replace.SpanFault.{SpanFault}
 use Rattle.toml_span_places.specs.declared.replace.SpanFault.TheVariants as faults
 
 -- a span, and the text that replaces it
-abbrev pub Edit : Type 0
-Edit = Span × List ℕ
+abbrev pub SpanEdit : Type 0
+SpanEdit = Span × List ℕ
 
-abbrev pub edit_of : Replacement → Edit
+abbrev pub edit_of : Replacement → SpanEdit
 edit_of r = (r.span, r.text.now)
 
 -- the text from an offset on, with each span replaced; the other bytes are unchanged
-abbrev pub edited : List ℕ → ℕ → List Edit → List ℕ
-edited text from [] = drop from text
-edited text from ((s, with) ∷ es) = slice_range text from s.start ++ (with ++ edited text s.end es)
+abbrev pub edited_from : List ℕ → ℕ → List SpanEdit → List ℕ
+edited_from text from [] = drop from text
+edited_from text from ((s, with) ∷ es) = slice_range text from s.start ++ (with ++ edited_from text s.end es)
 
 -- Whether the offset is at the start of a character, or not below the length of the text. Bytes from 0x80 to 0xBF
 -- continue a character.
@@ -43,14 +43,14 @@ or_later index None later = later
 
 -- the index of the first edit whose span is invalid, and what is wrong with the span; `index` is the index of the first
 -- edit in the list, and `from` the end of the span before it
-abbrev pub first_fault : List ℕ → ℕ → ℕ → List Edit → Option ReplaceError
+abbrev pub first_fault : List ℕ → ℕ → ℕ → List SpanEdit → Option ReplaceError
 first_fault text index from [] = None
 first_fault text index from ((s, with) ∷ es) =
     or_later index (fault_of text from s) (first_fault text (suc index) s.end es)
 
 -- The result is the text with all spans replaced or, if a span is invalid, the error about the first such span.
-abbrev pub Replaces : List ℕ → List Edit → Result (String Global) (Stop ReplaceError) → Type 0
-Replaces text es (Ok new) = (first_fault text 0 0 es ≡ None) × (string_bytes new ≡ edited text 0 es)
+abbrev pub Replaces : List ℕ → List SpanEdit → Result (String Global) (Stop ReplaceError) → Type 0
+Replaces text es (Ok new) = (first_fault text 0 0 es ≡ None) × (string_bytes new ≡ edited_from text 0 es)
 Replaces text es (Err (stops.Fault e)) = first_fault text 0 0 es ≡ Some e
 Replaces text es (Err (stops.Memory e)) = ⊤
 
@@ -58,5 +58,5 @@ abbrev pub if_right : Option ReplaceError → List ℕ → Option (List ℕ)
 if_right (Some e) new = None
 if_right None new = Some new
 
-abbrev pub replaced : List ℕ → List Edit → Option (List ℕ)
-replaced text es = if_right (first_fault text 0 0 es) (edited text 0 es)
+abbrev pub replaced : List ℕ → List SpanEdit → Option (List ℕ)
+replaced text es = if_right (first_fault text 0 0 es) (edited_from text 0 es)

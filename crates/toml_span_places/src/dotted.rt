@@ -1,6 +1,6 @@
 //! Reads paths that are written as text, as pointers or as dotted keys with positions in brackets, and finds the values
 //! that they name.
-ghost use Rattle.std.specs.Prelude.{◌≡◌, ◌<◌, ◌++◌, IfOk, OnOk, length, map, option_and_then, option_map, slice_index};
+ghost use Rattle.std.specs.Prelude.{◌≡◌, ◌<◌, ◌++◌, IfOk, OnOk, length, map, option_map, slice_index};
 ghost use Rattle.std.specs.Char.{is_ascii_digit};
 ghost use Rattle.std.specs.Cow.{cow_str_bytes};
 ghost use Rattle.std.specs.List.{list_all};
@@ -8,10 +8,8 @@ ghost use Rattle.std.specs.Str.{IsCharBoundary};
 ghost use Rattle.toml_span_lex.specs.Bytes.{left_bracket};
 ghost use Rattle.toml_span_lex.specs.Strings.{IsQuote};
 ghost use Rattle.toml_span_lex.specs.declared.stop.Stop.TheVariants.{Fault};
-ghost use Rattle.toml_span_tree.specs.Node.{get_item, get_member};
-ghost use Rattle.toml_span_tree.specs.Pointer.{position_of, segments};
-ghost use Rattle.toml_span_tree.specs.Value.{inner_view, items_view, members_view, view};
-ghost use Rattle.toml_span_tree.specs.code.Pointer.{PositionIs, SplitAtSlash, entry, untaken_entry};
+ghost use Rattle.toml_span_tree.specs.Pointer.{segments};
+ghost use Rattle.toml_span_tree.specs.Value.{view};
 ghost use Rattle.toml_span_places.specs.Dotted as spec;
 ghost use Rattle.toml_span_places.specs.Dotted.{IsDotted, IsPath, Reads};
 ghost use Rattle.toml_span_places.specs.code.Dotted.{KeyGives, PositionGives, StepGives, StringGives};
@@ -33,9 +31,9 @@ use toml_span_tree::pointer::cut;
 pub enum PathFault {
     #[error("expected a key")]
     Key,
-    #[error("this key is not closed")]
+    #[error("this key has no closing quote")]
     Open,
-    #[error("this key can't be read")]
+    #[error("invalid quoted key")]
     Quoted,
     #[error("expected a position in brackets, such as `[0]`")]
     Position,

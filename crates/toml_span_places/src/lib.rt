@@ -22,7 +22,7 @@ mod tables;
 pub use dotted::{PathError, PathFault, path_segments, segment_names, value_at};
 pub use keys::{KeyPlace, Role, key_places, with_quotes};
 pub use lines::{assignment_lines, section_lines};
-pub use literals::literal_span;
+pub use literals::{literal_span, val_literal_span};
 pub use newer::{NewerForm, NewerKind, newer_forms};
 pub use order::nodes_in_text_order;
 pub use points::{InsertionPoint, insertion_point};

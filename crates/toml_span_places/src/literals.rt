@@ -1,11 +1,13 @@
 //! Finds the literals that spell values.
 ghost use Rattle.std.specs.Prelude.{◌≡◌};
 ghost use Rattle.toml_span_tree.specs.Value.{view};
+ghost use Rattle.toml_span_read.specs.Data.{parsed_value};
 ghost use Rattle.toml_span_places.specs.Literals as spec;
 
 use crate::keys::is_quote;
 use toml_span_lex::span::Span;
 use toml_span_read::gaps::byte_at;
+use toml_span_read::{Val, ValKind};
 use toml_span_tree::Value;
 
 /// Returns the byte at the byte offset `at - back`, or 0 if the text has no such byte.
@@ -79,5 +81,21 @@ pub fn literal_span(text: &str, value: &Value<'_>) -> Span
     match value.as_str() {
         Some(string) => string_literal(text, value.span, string.is_empty()),
         None => value.span,
+    }
+}
+
+/// Returns the span of the literal `value`, as `literal_span` does for the same value in a tree. `value` must be in the
+/// sections that `read_sections` returned for `text`.
+pub fn val_literal_span(text: &str, value: &Val<'_>) -> Span
+    ensures { result ≡ spec.val_literal_span text.now (parsed_value value.now) }
+{
+    match &value.kind {
+        ValKind::String(string) => string_literal(text, value.span, string.is_empty()),
+        ValKind::Integer(_)
+        | ValKind::Float(_)
+        | ValKind::Boolean(_)
+        | ValKind::Datetime(_)
+        | ValKind::Array(_)
+        | ValKind::Inline(_) => value.span,
     }
 }

@@ -10,7 +10,7 @@ ghost use Rattle.toml_span_places.specs.Mentions.{below, mentioned, steps_of};
 ghost use Rattle.toml_span_places.specs.code.Opened.{counts_of, counts_after};
 
 use crate::keys::Role;
-use crate::opened::{Opened, elements_of, section_path};
+use crate::opened::{ElementCounts, elements_of, section_path};
 use crate::paths::{copied, element_path, entered, latest, with_key};
 use crate::tables::TableForm;
 use std::alloc::{AllocError, Global};
@@ -102,7 +102,7 @@ fn push_last<'t, 'de>(
     alloc: Global,
     section: &Section<'_>,
     key: &Key<'de>,
-    opened: &Opened<'t>,
+    opened: &ElementCounts<'t>,
     path: &[Step<'t>],
     out: &mut Vec<Mention<'t>>,
 ) -> Result<(), AllocError>
@@ -135,7 +135,7 @@ fn push_header<'t, 'de>(
     alloc: Global,
     section: &Section<'_>,
     parts: &'t [Key<'de>],
-    opened: &Opened<'t>,
+    opened: &ElementCounts<'t>,
     path: Vec<Step<'t>>,
     out: &mut Vec<Mention<'t>>,
 ) -> Result<Vec<Step<'t>>, AllocError>
@@ -280,7 +280,7 @@ fn push_section<'t, 'de>(
     alloc: Global,
     section: &'t Section<'de>,
     with_assignments: bool,
-    opened: &mut Opened<'t>,
+    opened: &mut ElementCounts<'t>,
     out: &mut Vec<Mention<'t>>,
 ) -> Result<(), AllocError>
     ensures mentions { OnOk result (map mentioned out.new.items ≡ map mentioned out.old.items
@@ -312,7 +312,7 @@ pub(crate) fn mentions<'t, 'de>(
     ensures { IfOk result (λ list. map mentioned list.items
         ≡ spec.mentions with_assignments (map parsed_section sections.now)) }
 {
-    let mut opened = Opened::new(alloc);
+    let mut opened = ElementCounts::new(alloc);
     let mut out = Vec::new(alloc);
     for section in sections {
         push_section(alloc, section, with_assignments, &mut opened, &mut out)?;

@@ -66,7 +66,7 @@ fn push(
     end: usize,
     out: &mut Vec<NewerForm>,
 ) -> Result<(), AllocError>
-    ensures { OnOk result (out.new.items ≡ out.old.items ++ spec.form kind start end) }
+    ensures { OnOk result (out.new.items ≡ out.old.items ++ spec.one_form kind start end) }
 {
     let span = Span { start, end };
     out.push(NewerForm { kind, span })?;

@@ -19,7 +19,7 @@ enum SortedStep<'t> {
 
 /// The number of elements that the headers so far have added to each array of tables, by the path of the array.
 #[derive(Drop)]
-pub(crate) struct Opened<'t> {
+pub(crate) struct ElementCounts<'t> {
     elements: BTreeMap<Vec<SortedStep<'t>>, usize>,
 }
 
@@ -44,12 +44,12 @@ fn sorted_path<'t>(alloc: Global, path: &[Step<'t>]) -> Result<Vec<SortedStep<'t
     Ok(sorted)
 }
 
-impl<'t> Opened<'t> {
-    /// Returns an `Opened` in which every count is 0.
+impl<'t> ElementCounts<'t> {
+    /// Returns an `ElementCounts` in which every count is 0.
     pub fn new(alloc: Global) -> Self
         ensures { counts_of result ≡ spec.no_counts }
     {
-        Opened {
+        ElementCounts {
             elements: BTreeMap::new(alloc),
         }
     }
@@ -58,7 +58,7 @@ impl<'t> Opened<'t> {
 /// Returns how many elements `opened` counts for the array of tables at `path`, or 0 if `opened` has no such array.
 pub(crate) fn elements_of<'t>(
     alloc: Global,
-    opened: &Opened<'t>,
+    opened: &ElementCounts<'t>,
     path: &[Step<'t>],
 ) -> Result<usize, AllocError>
     ensures { IfOk result (λ added. added ≡ counts_of opened.now (map step_of path.now)) }
@@ -74,7 +74,7 @@ pub(crate) fn elements_of<'t>(
 /// `AllocError`, if the number would not fit into a `usize`.
 pub(crate) fn add<'t>(
     alloc: Global,
-    opened: &mut Opened<'t>,
+    opened: &mut ElementCounts<'t>,
     path: &[Step<'t>],
 ) -> Result<(), AllocError>
     ensures { OnOk result (counts_of opened.new ≡ spec.one_more (counts_of opened.old) (map step_of path.now)) }
@@ -95,7 +95,7 @@ pub(crate) fn section_path<'t>(
     alloc: Global,
     array: bool,
     path: Vec<Step<'t>>,
-    opened: &mut Opened<'t>,
+    opened: &mut ElementCounts<'t>,
 ) -> Result<Vec<Step<'t>>, AllocError>
     ensures path { IfOk result (λ below. steps_of below
         ≡ spec.assigned_below (counts_of opened.old) array (steps_of path.entry)) }

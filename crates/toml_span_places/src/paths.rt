@@ -7,7 +7,7 @@ ghost use Rattle.toml_span_places.specs.Mentions as mentions;
 ghost use Rattle.toml_span_places.specs.Mentions.{inside, steps_of};
 ghost use Rattle.toml_span_places.specs.code.Opened.{counts_of};
 
-use crate::opened::{Opened, elements_of};
+use crate::opened::{ElementCounts, elements_of};
 use std::alloc::{AllocError, Global};
 use toml_span_lex::key::Key;
 use toml_span_tree::nodes::Step;
@@ -88,7 +88,7 @@ pub(crate) fn same_path(path: &[Step<'_>], other: &[Step<'_>]) -> bool
 /// `opened` counts no elements there.
 pub(crate) fn latest<'t>(
     alloc: Global,
-    opened: &Opened<'t>,
+    opened: &ElementCounts<'t>,
     path: &[Step<'t>],
 ) -> Result<Option<usize>, AllocError>
     ensures { IfOk result (λ element. element ≡ mentions.latest (counts_of opened.now (map step_of path.now))) }

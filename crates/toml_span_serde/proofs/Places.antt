@@ -8,7 +8,7 @@ use Rattle.toml_span_tree.specs.Path.{Step, key, position, Path, at_step, reache
 use Rattle.toml_span_tree.specs.Value.{inner_of}
 use Rattle.toml_span.specs.Ordered.{IsOrdered, HasOneEach, InnerHasOneEach, ItemsHaveOneEach, MembersHaveOneEach}
 use Rattle.toml_span.proofs.Ordered.{one-each, same-name}
-use Rattle.toml_span_serde.specs.Misfits.{IsAt, Names, path_of}
+use Rattle.toml_span_serde.specs.Misfits.{IsAt, IsPlaceIn, path_of}
 use Rattle.toml_span_serde.specs.Pieces.{Piece, pieces}
 use Rattle.toml_span_serde.specs.TextOrder.{put_entry, in_text_order, inner_in_order, items_in_order, members_in_order}
 use Rattle.toml_span_serde.specs.declared.misfit.Misfit.{Misfit}
@@ -163,7 +163,7 @@ places-sorted (Some x) = ap Some (place-sorted x)
 pub place-in-order : (path : Path) (n : Node) → HasOneEach n → place_at path (in_text_order n) ≡ place_at path n
 place-in-order path n h = ap (option_map place_of) (reached-in-order path (None, n) h) ∙ places-sorted (reached path (None, n))
 
-pub names-in-order : (path : Path) (span : Span) (n : Node) → HasOneEach n → Names path span (in_text_order n) → Names path span n
+pub names-in-order : (path : Path) (span : Span) (n : Node) → HasOneEach n → IsPlaceIn path span (in_text_order n) → IsPlaceIn path span n
 names-in-order path span n h named = (named.0, sym (place-in-order path n h) ∙ named.1, named.2)
 
 at-in-order : (n : Node) (s : Stop Misfit) → HasOneEach n → IsAt (in_text_order n) s → IsAt n s

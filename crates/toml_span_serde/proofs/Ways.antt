@@ -6,7 +6,7 @@ use Rattle.toml_span_tree.specs.Value.{inner_of}
 use Rattle.toml_span_tree.specs.Path.{Step, key, position, Path, at_step, reached, place_of}
 use Rattle.toml_span.specs.Ordered.{HasOneEach, InnerHasOneEach, ItemsHaveOneEach, MembersHaveOneEach}
 use Rattle.toml_span.proofs.Ordered.{same-name, first-entry, later-entry}
-use Rattle.toml_span_serde.specs.Misfits.{Names}
+use Rattle.toml_span_serde.specs.Misfits.{IsPlaceIn}
 use Rattle.toml_span_serde.specs.Pieces.{Piece, pieces, held_pieces, items_pieces, members_pieces}
 use Rattle.toml_span_serde.specs.Tasks.{piece_content, piece_of}
 use Rattle.toml_span_serde.specs.Walk.{Way, ended, after, walked, way_at}
@@ -19,7 +19,7 @@ Found = Option Span × Node
 abbrev pub AllNamed : Node → Way → List Piece → Type 0
 AllNamed root way [] = Unit {0}
 AllNamed root way (p ∷ ps) =
-    Names (reverse (way_at p.content way)) p.span root × AllNamed root (after p.content way) ps
+    IsPlaceIn (reverse (way_at p.content way)) p.span root × AllNamed root (after p.content way) ps
 
 -- ---- a walk
 
@@ -85,7 +85,7 @@ module _ (root : Node) where
   append-named way [] ys a b = b
   append-named way (x ∷ xs) ys a b = (a.0, append-named (after x.content way) xs ys a.1 b)
 
-  here : (way : Way) (k : Option Span) (i : Inner) (span : Span) → Leads way (k, node i span) → Names (reverse way) span root
+  here : (way : Way) (k : Option Span) (i : Inner) (span : Span) → Leads way (k, node i span) → IsPlaceIn (reverse way) span root
   here way k i span there = (place_of (k, node i span), ap (option_map place_of) there, inl refl)
 
   mutual
@@ -117,7 +117,7 @@ module _ (root : Node) where
     named-members no_members way one there = tt
     named-members (member name span n ms) way one there =
         let found : Leads (key name ∷ way) (Some span, n) = there name (Some span, n) (first-entry name span n ms) in
-        let by_key : Names (reverse (key name ∷ way)) span root = (place_of (Some span, n), ap (option_map place_of) found, inr refl) in (
+        let by_key : IsPlaceIn (reverse (key name ∷ way)) span root = (place_of (Some span, n), ap (option_map place_of) found, inr refl) in (
           by_key,
           append-named (key name ∷ way) (pieces n) (members_pieces ms) (named-node n (key name ∷ way) (Some span) one.1 found)
               (subst (λ w. AllNamed root w (members_pieces ms)) (sym (walked-node n (key name ∷ way)))
@@ -126,13 +126,13 @@ module _ (root : Node) where
 
 -- each piece of a row is where the way to it leads
 pub named-at : (root : Node) (k : ℕ) (ps : List Made) (p : Made) (way : Way) → k < length ps → get_or ps k p ≡ p → AllNamed root way (map piece_of ps)
-    → Names (reverse (way_at (piece_content p.content) (walked (map piece_of (take k ps)) way))) p.span root
+    → IsPlaceIn (reverse (way_at (piece_content p.content) (walked (map piece_of (take k ps)) way))) p.span root
 named-at root k [] p way inside is named = absurd (omega (arith, inside))
 named-at root zero (q ∷ ps) p way inside is named = grind (arith, nat_tests, common_steps)
 named-at root (suc k) (q ∷ ps) p way inside is named = named-at root k ps p (after (piece_content q.content) way) (omega arith) is named.1
 
 -- so does each piece of a tree's row
 pub named : (root : Node) (k : ℕ) (ps : List Made) (p : Made) → map piece_of ps ≡ pieces root → HasOneEach root → k < length ps → get_or ps k p ≡ p
-    → Names (reverse (way_at (piece_content p.content) (walked (map piece_of (take k ps)) []))) p.span root
+    → IsPlaceIn (reverse (way_at (piece_content p.content) (walked (map piece_of (take k ps)) []))) p.span root
 named root k ps p is one inside here =
     named-at root k ps p [] inside here (subst (AllNamed root []) (sym is) (named-node root root [] None one refl))

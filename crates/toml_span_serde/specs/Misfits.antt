@@ -130,14 +130,14 @@ abbrev pub path_of : List Step → tree.Path
 path_of steps = map step_of steps
 
 -- The path leads to a value of the tree, and the span is that of the value or of its key.
-abbrev pub Names : tree.Path → Span → Node → Type 0
-Names path span root = (place : Place) × (place_at path root ≡ Some place)
+abbrev pub IsPlaceIn : tree.Path → Span → Node → Type 0
+IsPlaceIn path span root = (place : Place) × (place_at path root ≡ Some place)
     × ((span ≡ place.span) ⊎ (place.key_span ≡ Some span))
 
 -- An allocation failed, or the misfit is at a place in the tree.
 abbrev pub IsAt : Node → Stop Misfit → Type 0
 IsAt root (stop.Memory e) = ⊤
-IsAt root (stop.Fault m) = Names (path_of m.path.items) m.span root
+IsAt root (stop.Fault m) = IsPlaceIn (path_of m.path.items) m.span root
 
 -- The misfit has the line and the column of its span, if that starts in the text.
 abbrev pub HasLine : List ℕ → Misfit → Type 0
@@ -152,4 +152,4 @@ HasTree text P = (root : Value) × IsTree text depth_limit root × P (view root)
 abbrev pub IsRefused : List ℕ → Stop Error → Type 0
 IsRefused text (stop.Memory e) = ⊤
 IsRefused text (stop.Fault (error.Refused e)) = IsRefusal text depth_limit (stop.Fault e)
-IsRefused text (stop.Fault (error.Misfit m)) = HasTree text (Names (path_of m.path.items) m.span) × HasLine text m
+IsRefused text (stop.Fault (error.Misfit m)) = HasTree text (IsPlaceIn (path_of m.path.items) m.span) × HasLine text m

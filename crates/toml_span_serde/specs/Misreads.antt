@@ -20,7 +20,7 @@ use Rattle.toml_span_serde.specs.Pieces.{Content, Piece, value, nothing, array_b
 use Rattle.toml_span_serde.specs.Pieces.{table_ends, key}
 use Rattle.toml_span_serde.specs.Names.{all_forms, forms_of}
 use Rattle.toml_span_serde.specs.Reads.{IsText, IsWritten}
-use Rattle.toml_span_serde.specs.Tried.{Tries, taken, tries}
+use Rattle.toml_span_serde.specs.Tried.{Tries, noted_read, tries}
 use Rattle.toml_span_serde.specs.Twice.{earlier, key_place}
 use Rattle.toml_span_serde.specs.Walk.{elements_in}
 use Rattle.toml_span_serde.specs.declared.misfit.Expected.{Expected}
@@ -178,7 +178,7 @@ IsOtherIn kinds (Some p) why = IsOther kinds (found_of p.content) why
 -- the attempts after the reader goes back to the position `mark`: unless it is there already, an attempt that has read
 -- the piece at `mark`
 abbrev pub tries_back_at : ℕ → Reader → Tries
-tries_back_at mark r = if r.next == mark then tries r.tried else taken mark
+tries_back_at mark r = if r.next == mark then tries r.tried else noted_read mark
 
 -- the reason for an array of the wrong length: `Length` if the end of the array was read, otherwise `TooLong`
 abbrev pub length_reason : Reader → Reason
@@ -194,7 +194,7 @@ is_unknown (Some at) count = not (nat_lt at count)
 -- the piece of an unknown variant: the key that was just compared with the names, or the text that was last read as the
 -- name of a variant
 abbrev pub variant_place : Reader → ℕ
-variant_place r = if r.is_unknown then r.at else r.variant
+variant_place r = if r.is_unknown then r.at else r.variant_at
 
 -- ---- the names with which a key or a text was compared
 
@@ -221,33 +221,33 @@ held_by names (Some at) before = held names at before
 -- ---- two keys of the same field
 
 -- the last key that names a field with aliases, and all forms of that field's name
-abbrev pub Twin : Type 0
-Twin = (ℕ × Span) × List (List ℕ)
+abbrev pub AliasedKey : Type 0
+AliasedKey = (ℕ × Span) × List (List ℕ)
 
-abbrev pub twin : Reader → Twin
-twin r = (key_place r.key, map string_bytes r.forms.items)
+abbrev pub aliased_key : Reader → AliasedKey
+aliased_key r = (key_place r.key, map string_bytes r.forms.items)
 
--- the twin after a key at this place was read: that key if it is a form of a name with aliases, otherwise the twin from
--- before
-abbrev pub twin_after : Option Name → ℕ × Span → Twin → Twin
-twin_after None place before = before
-twin_after (Some n) place before = if length n.aliases.now == 0 then before else (place, forms_of n)
+-- the aliased key after a key at this place was read: that key if it is a form of a name with aliases, otherwise the
+-- aliased key from before
+abbrev pub aliased_key_after : Option Name → ℕ × Span → AliasedKey → AliasedKey
+aliased_key_after None place before = before
+aliased_key_after (Some n) place before = if length n.aliases.now == 0 then before else (place, forms_of n)
 
 -- the position of the key that is later in the text, and the span of the other key
 abbrev pub later_of : ℕ × Span → ℕ × Span → ℕ × Option Span
 later_of own other = if nat_lt own.1.start other.1.start then (other.0, Some own.1) else (own.0, Some other.1)
 
 -- like `later_of` if there is another key, otherwise the given position and no span
-abbrev pub twice_of : ℕ → ℕ × Span → Option (ℕ × Span) → ℕ × Option Span
-twice_of at own None = (at, None)
-twice_of at own (Some other) = later_of own other
+abbrev pub duplicate_place_of : ℕ → ℕ × Span → Option (ℕ × Span) → ℕ × Option Span
+duplicate_place_of at own None = (at, None)
+duplicate_place_of at own (Some other) = later_of own other
 
 -- The position of the later of two keys that name the same field, and the span of the other key. If no key before the
--- twin names its field, the position `r.at` and no span.
-abbrev pub twice : Reader → ℕ × Option Span
-twice r = twice_of r.at (key_place r.key)
+-- aliased key names its field, the position `r.at` and no span.
+abbrev pub duplicate_place : Reader → ℕ × Option Span
+duplicate_place r = duplicate_place_of r.at (key_place r.key)
     (earlier (map string_bytes r.forms.items) 0 (reverse (take r.key.at (laid r))))
 
--- the names and the twin that a reader remembers, which most steps don't change
-abbrev pub kept : Reader → List (List ℕ) × (List (List ℕ) × Twin)
-kept r = (fields r, (variants r, twin r))
+-- the names and the aliased key that a reader remembers, which most steps don't change
+abbrev pub kept : Reader → List (List ℕ) × (List (List ℕ) × AliasedKey)
+kept r = (fields r, (variants r, aliased_key r))

@@ -9,11 +9,11 @@ use Rattle.toml_span_serde.specs.declared.tried.Tried.{Tried}
 -- the position of the piece, whether one of the attempts has read it, and which kinds the others expected
 pub record Tries : Type 0 where
   pub at : ℕ
-  pub is_taken : Bool
+  pub is_read : Bool
   pub kinds : List Expected
 
 abbrev pub tries : Tried → Tries
-tries t = record { at = t.at; is_taken = t.is_taken; kinds = t.kinds.items }
+tries t = record { at = t.at; is_read = t.is_read; kinds = t.kinds.items }
 
 -- whether the kind is among these
 abbrev pub is_among : Expected → List Expected → Bool
@@ -27,13 +27,13 @@ with_kind e kinds = if is_among e kinds then kinds else kinds ++ (e ∷ [])
 abbrev pub missed : ℕ → Expected → Tries → Tries
 missed at e t =
     if t.at == at then record t { kinds = with_kind e t.kinds }
-    else record { at = at; is_taken = false; kinds = e ∷ [] }
+    else record { at = at; is_read = false; kinds = e ∷ [] }
 
 -- the record after an attempt that has read this piece, and failed later
-abbrev pub taken : ℕ → Tries
-taken at = record { at = at; is_taken = true; kinds = [] }
+abbrev pub noted_read : ℕ → Tries
+noted_read at = record { at = at; is_read = true; kinds = [] }
 
 -- The kinds that failed attempts expected at a piece. If an attempt has read the piece, its kind was accepted, so the
 -- list is empty.
 abbrev pub kinds_at : ℕ → Tries → List Expected
-kinds_at at t = if (t.at == at) && not t.is_taken then t.kinds else []
+kinds_at at t = if (t.at == at) && not t.is_read then t.kinds else []

@@ -49,7 +49,7 @@ pub(crate) fn path_to<'v>(
         ≡ reverse (way_at (piece_content content.entry) (walked (map piece_of before.now) []))) }
 {
     let mut downs = way_after(alloc, before)?;
-    turn_to(&mut downs, content)?;
+    go_to_value(&mut downs, content)?;
     steps_of(alloc, downs.as_slice())
 }
 
@@ -95,7 +95,7 @@ fn pass<'v>(downs: &mut Vec<Down<'v>>, content: Content<'v>) -> Result<(), Alloc
 
 /// Changes `downs`, the path to a piece with this content, to the path to the value of the piece. For a key, this is
 /// the value that the key names.
-fn turn_to<'v>(downs: &mut Vec<Down<'v>>, content: Content<'v>) -> Result<(), AllocError>
+fn go_to_value<'v>(downs: &mut Vec<Down<'v>>, content: Content<'v>) -> Result<(), AllocError>
     ensures { OnOk result (way_of downs.new.items ≡ way_at (piece_content content.entry) (way_of downs.old.items)) }
 {
     match content {

@@ -15,8 +15,8 @@ ghost use Rattle.toml_span_serde.specs.Misreads.{IsKeyOrEnd, IsMemory, IsMisread
 ghost use Rattle.toml_span_serde.specs.Misreads.{IsNotOneCharacter, IsOpening, IsOther, IsOtherIn, IsUnreadable};
 ghost use Rattle.toml_span_serde.specs.Misreads.{Lists, Misses, MissesOr, RunsOut, Says, UnlessMemory, fields};
 ghost use Rattle.toml_span_serde.specs.Misreads.{found_of, held, held_by, is_unknown, kept, kind_ahead, length_reason};
-ghost use Rattle.toml_span_serde.specs.Misreads.{refusal_in, piece_text_in, tries_back_at, twice, twin, twin_after};
-ghost use Rattle.toml_span_serde.specs.Misreads.{variant_names, variant_place, variants};
+ghost use Rattle.toml_span_serde.specs.Misreads.{aliased_key, aliased_key_after, duplicate_place, piece_text_in};
+ghost use Rattle.toml_span_serde.specs.Misreads.{refusal_in, tries_back_at, variant_names, variant_place, variants};
 ghost use Rattle.toml_span_serde.specs.Pieces.{Piece as Laid, array_begins, pieces, table_begins, value};
 ghost use Rattle.toml_span_serde.specs.Reads.{IsText, Picks, Reads, Sees, TakesPiece};
 ghost use Rattle.toml_span_serde.specs.Tasks.{piece_content, piece_of};
@@ -55,7 +55,7 @@ pub struct Reader<'p, 'v> {
     /// The position of the piece that was looked at last or, after `rewind`, of the next piece.
     at: usize,
     /// The position that `next` had when the function `variant` was last called.
-    variant: usize,
+    variant_at: usize,
     /// Whether the piece that was looked at last was read as a key and has none of the expected names.
     is_unknown: bool,
     /// The names and aliases with which the last unknown key was compared.
@@ -80,7 +80,7 @@ impl<'p, 'v> Reader<'p, 'v> {
             pieces,
             next: 0,
             at: 0,
-            variant: 0,
+            variant_at: 0,
             is_unknown: false,
             fields: Vec::new(alloc),
             variants: Vec::new(alloc),
@@ -101,7 +101,7 @@ impl<'p, 'v> Reader<'p, 'v> {
         ensures small { OnOk result (self.old.next < 2 ^ 64 - 1) }
         ensures none { IfErr result (RunsOut self.old) }
         ensures stays { (self.new.next ≡ self.old.next) × (self.new.pieces ≡ self.old.pieces) }
-        ensures notes { (self.new.at ≡ self.old.next) × (self.new.variant ≡ self.old.variant)
+        ensures notes { (self.new.at ≡ self.old.next) × (self.new.variant_at ≡ self.old.variant_at)
             × (self.new.is_unknown ≡ false) }
         ensures kept { kept self.new ≡ kept self.old }
         ensures tried { self.new.tried ≡ self.old.tried }
@@ -118,7 +118,7 @@ impl<'p, 'v> Reader<'p, 'v> {
     fn take(&mut self) -> Result<Piece<'v>, Stop<Misread>>
         ensures next { IfOk result (λ p. ahead self.old ≡ piece_of p ∷ ahead self.new) }
         ensures none { IfErr result (RunsOut self.old) }
-        ensures notes { (self.new.at ≡ self.old.next) × (self.new.variant ≡ self.old.variant)
+        ensures notes { (self.new.at ≡ self.old.next) × (self.new.variant_at ≡ self.old.variant_at)
             × (self.new.is_unknown ≡ false) }
         ensures kept { kept self.new ≡ kept self.old }
         ensures tried { self.new.tried ≡ self.old.tried }
@@ -154,7 +154,7 @@ impl<'p, 'v> Reader<'p, 'v> {
         if self.is_unknown {
             self.at
         } else {
-            self.variant
+            self.variant_at
         }
     }
 
@@ -179,8 +179,8 @@ impl<'p, 'v> Reader<'p, 'v> {
     /// Looks for a key before `self.key` that names the same field in the same table. If there is one, returns the
     /// position of whichever of the two keys is later in the text, and the span of the other key. Otherwise, returns
     /// `self.at` and `None`.
-    fn twice(&self) -> (usize, Option<Span>)
-        ensures { result ≡ twice self.now }
+    fn duplicate_place(&self) -> (usize, Option<Span>)
+        ensures { result ≡ duplicate_place self.now }
     {
         let key = self.key;
         match earlier(self.before(key.at), self.forms.as_slice()) {
@@ -200,11 +200,11 @@ impl<'p, 'v> Reader<'p, 'v> {
         found: usize,
     ) -> Result<(), Stop<Misread>>
         ensures stays { ahead self.new ≡ ahead self.old }
-        ensures notes { OnOk result ((self.new.at ≡ self.old.at) × (self.new.variant ≡ self.old.variant)
+        ensures notes { OnOk result ((self.new.at ≡ self.old.at) × (self.new.variant_at ≡ self.old.variant_at)
             × (self.new.is_unknown ≡ (self.old.is_unknown || not (nat_lt found (length names.now))))) }
         ensures fields { OnOk result (fields self.new ≡ held names.now found (fields self.old)) }
-        ensures twin { OnOk result (twin self.new
-            ≡ twin_after (slice_get names.now found) (self.old.at, span) (twin self.old)) }
+        ensures aliased_key { OnOk result (aliased_key self.new
+            ≡ aliased_key_after (slice_get names.now found) (self.old.at, span) (aliased_key self.old)) }
         ensures variants { variants self.new ≡ variants self.old }
         ensures memory { IfErr result IsMemory }
     {
@@ -231,7 +231,7 @@ impl<'p, 'v> Reader<'p, 'v> {
         if self.next == mark {
             return;
         }
-        self.tried.take(mark);
+        self.tried.note_read(mark);
     }
 
     /// Goes back to the piece that was looked at last, whose content is `found`, and records that the kind `expected`
@@ -240,7 +240,7 @@ impl<'p, 'v> Reader<'p, 'v> {
         ensures reported { IsMisread (λ why. why ≡ is.Wanted expected (found_of (piece_content found.entry)))
             self.old.at result }
         ensures stays { (self.new.next ≡ self.old.at) × (self.new.pieces ≡ self.old.pieces) }
-        ensures notes { (self.new.at ≡ self.old.at) × (self.new.variant ≡ self.old.variant)
+        ensures notes { (self.new.at ≡ self.old.at) × (self.new.variant_at ≡ self.old.variant_at)
             × (self.new.is_unknown ≡ self.old.is_unknown) }
         ensures kept { kept self.new ≡ kept self.old }
         ensures tried { UnlessMemory result
@@ -289,7 +289,7 @@ impl<'p, 'v> Reader<'p, 'v> {
     fn text(&mut self, expected: Expected) -> Result<&'v str, Stop<Misread>>
         ensures text { IfOk result (λ text. TakesPiece (IsText text.now) (ahead self.old) (ahead self.new)) }
         ensures misses { IfErr result (IsMisread (Misses IsAnyText expected (ahead self.old)) self.old.next) }
-        ensures notes { (self.new.at ≡ self.old.next) × (self.new.variant ≡ self.old.variant)
+        ensures notes { (self.new.at ≡ self.old.next) × (self.new.variant_at ≡ self.old.variant_at)
             × (self.new.is_unknown ≡ false) }
         ensures kept { kept self.new ≡ kept self.old }
     {
@@ -536,11 +536,12 @@ impl Format for Reader<'_, '_> {
     ) -> Result<Option<usize>, Stop<Misread>>
         ensures key { IfOk result (λ o. MatchOption o (Reads (ahead self.old) event.map_ends (ahead self.new))
             (λ at. Picks (ahead self.old) true names.now at (ahead self.new))) }
-        ensures notes { IfOk result (λ o. (self.new.at ≡ self.old.next) × (self.new.variant ≡ self.old.variant)
+        ensures notes { IfOk result (λ o. (self.new.at ≡ self.old.next) × (self.new.variant_at ≡ self.old.variant_at)
             × (self.new.is_unknown ≡ is_unknown o (length names.now))) }
         ensures fields { IfOk result (λ o. fields self.new ≡ held_by names.now o (fields self.old)) }
-        ensures twin { IfOk result (λ o. (p : Laid) (rest : List Laid) → ahead self.old ≡ p ∷ rest → twin self.new
-            ≡ twin_after (option_and_then (slice_get names.now) o) (self.old.next, p.span) (twin self.old)) }
+        ensures aliased_key { IfOk result (λ o. (p : Laid) (rest : List Laid) → ahead self.old ≡ p ∷ rest
+            → aliased_key self.new ≡ aliased_key_after (option_and_then (slice_get names.now) o)
+            (self.old.next, p.span) (aliased_key self.old)) }
         ensures variants { variants self.new ≡ variants self.old }
         ensures misses { IfErr result (IsMisread (Misses IsKeyOrEnd expected.Key (ahead self.old)) self.old.next) }
     {
@@ -573,12 +574,12 @@ impl Format for Reader<'_, '_> {
 
     fn variant(&mut self, _input: &[u8], names: &[Name<'_>]) -> Result<usize, Stop<Misread>>
         ensures picks { IfOk result (λ at. Picks (ahead self.old) false names.now at (ahead self.new)) }
-        ensures notes { OnOk result ((self.new.variant ≡ self.old.next) × (self.new.is_unknown ≡ false)) }
+        ensures notes { OnOk result ((self.new.variant_at ≡ self.old.next) × (self.new.is_unknown ≡ false)) }
         ensures variants { IfOk result (λ at. ¬ AsksStart names.now → ¬ AsksEnd names.now
             → variants self.new ≡ held names.now at (variants self.old)) }
         ensures misses { IfErr result (IsMisread (Misses IsAnyText expected.Variant (ahead self.old)) self.old.next) }
     {
-        self.variant = self.next;
+        self.variant_at = self.next;
         if let [name] = names {
             match name.name {
                 START => return Ok(self.look()?.span.start),
@@ -601,7 +602,7 @@ impl Format for Reader<'_, '_> {
             → IsOk result × (ahead self.new ≡ rest) }
         ensures single { (p : Laid) (rest : List Laid) → ahead self.old ≡ p ∷ rest → ¬ IsOpening p.content
             → IsOk result × (ahead self.new ≡ rest) }
-        ensures notes { (self.new.variant ≡ self.old.variant) × (variants self.new ≡ variants self.old) }
+        ensures notes { (self.new.variant_at ≡ self.old.variant_at) × (variants self.new ≡ variants self.old) }
         ensures misses { IfErr result (IsMisread (λ why. why ≡ is.Invalid) self.old.next) }
     {
         self.look()?;
@@ -655,9 +656,10 @@ impl Format for Reader<'_, '_> {
 
     /// Returns the error for two keys of a table that name the field `name`. At least one of the keys is an alias.
     fn duplicate(&self, name: &str) -> Stop<Misread>
-        ensures { IsMisread (Says (λ s. is.DuplicateField s (twice self.now).1) name.now) (twice self.now).0 result }
+        ensures { IsMisread (Says (λ s. is.DuplicateField s (duplicate_place self.now).1) name.now)
+            (duplicate_place self.now).0 result }
     {
-        let (at, first) = self.twice();
+        let (at, first) = self.duplicate_place();
         match String::from_str(self.alloc, name) {
             Ok(name) => Stop::Fault(Misread {
                 reason: Reason::DuplicateField { name, first },

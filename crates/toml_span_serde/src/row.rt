@@ -5,7 +5,7 @@ ghost use Rattle.toml_span.specs.Ordered.{HasOneEach, IsOrdered};
 ghost use Rattle.toml_span_tree.specs.Node.{Node};
 ghost use Rattle.toml_span_tree.specs.Value.{view};
 ghost use Rattle.toml_span_serde.specs.Ahead.{ahead, pieces_in};
-ghost use Rattle.toml_span_serde.specs.Misfits.{IsAt, Names, path_of};
+ghost use Rattle.toml_span_serde.specs.Misfits.{IsAt, IsPlaceIn, path_of};
 ghost use Rattle.toml_span_serde.specs.Pieces.{pieces};
 ghost use Rattle.toml_span_serde.specs.TextOrder.{in_text_order};
 ghost use Rattle.toml_span_serde.specs.Stops.{IsOf, IsStopOf, spots};
@@ -63,7 +63,7 @@ impl<'v> Row<'v> {
     /// Converts an error of a reader to a misfit, at the piece of the error or, if no piece was left, at the root.
     fn placed(&self, alloc: Global, misread: Misread) -> Result<Misfit, AllocError>
         ensures place { IfOk result (λ m. (n : Node) → pieces_in self.now ≡ pieces n → HasOneEach n
-            → Names (path_of m.path.items) m.span n) }
+            → IsPlaceIn (path_of m.path.items) m.span n) }
         ensures reported { IfOk result (λ m. (n : Node) → pieces_in self.now ≡ pieces n → IsOf n misread m) }
     {
         if misread.at < self.pieces.len() {
@@ -79,7 +79,7 @@ impl<'v> Row<'v> {
     fn misfit_at(&self, alloc: Global, reason: Reason, at: usize) -> Result<Misfit, AllocError>
         requires { at < length self.now.pieces.items }
         ensures place { IfOk result (λ m. (n : Node) → pieces_in self.now ≡ pieces n → HasOneEach n
-            → Names (path_of m.path.items) m.span n) }
+            → IsPlaceIn (path_of m.path.items) m.span n) }
         ensures reported { IfOk result (λ m. (n : Node) → pieces_in self.now ≡ pieces n → (m.reason ≡ reason)
             × (slice_get (spots [] n) at ≡ Some (path_of m.path.items, m.span))) }
     {

@@ -3,7 +3,7 @@ ghost use Rattle.std.specs.List.{list_any};
 ghost use Rattle.std.specs.Prelude.{◌≡◌, [], false, OnErr, OnOk};
 ghost use Rattle.std.specs.Str.{bytes_eq};
 ghost use Rattle.toml_span_serde.specs.Misfits.{words_of};
-ghost use Rattle.toml_span_serde.specs.Tried.{is_among, kinds_at, missed, taken, tries, with_kind};
+ghost use Rattle.toml_span_serde.specs.Tried.{is_among, kinds_at, missed, noted_read, tries, with_kind};
 
 use crate::misfit::Expected;
 use std::alloc::{AllocError, Global};
@@ -14,7 +14,7 @@ pub(crate) struct Tried {
     /// The position of the piece among all pieces, counted from 0.
     at: usize,
     /// Whether an attempt has read the piece, and failed at a later piece.
-    is_taken: bool,
+    is_read: bool,
     /// The kinds that other attempts expected, each once.
     kinds: Vec<Expected>,
 }
@@ -22,11 +22,11 @@ pub(crate) struct Tried {
 impl Tried {
     /// Returns a record of no attempts.
     pub(crate) fn new(alloc: Global) -> Tried
-        ensures { tries result ≡ record { at = 0; is_taken = false; kinds = [] } }
+        ensures { tries result ≡ record { at = 0; is_read = false; kinds = [] } }
     {
         Tried {
             at: 0,
-            is_taken: false,
+            is_read: false,
             kinds: Vec::new(alloc),
         }
     }
@@ -40,7 +40,7 @@ impl Tried {
             return self.add(expected);
         }
         self.at = at;
-        self.is_taken = false;
+        self.is_read = false;
         self.kinds.clear();
         self.kinds.push(expected)?;
         Ok(())
@@ -49,7 +49,7 @@ impl Tried {
     /// Appends `expected` to `kinds`, unless it is there already.
     fn add(&mut self, expected: Expected) -> Result<(), AllocError>
         ensures kinds { OnOk result (self.new.kinds.items ≡ with_kind expected self.old.kinds.items) }
-        ensures stays { (self.new.at ≡ self.old.at) × (self.new.is_taken ≡ self.old.is_taken) }
+        ensures stays { (self.new.at ≡ self.old.at) × (self.new.is_read ≡ self.old.is_read) }
     {
         if is_among(self.kinds.as_slice(), expected) {
             return Ok(());
@@ -59,11 +59,11 @@ impl Tried {
     }
 
     /// Records an attempt that has read the piece at the position `at`, and failed later. Forgets all other attempts.
-    pub(crate) fn take(&mut self, at: usize)
-        ensures { tries self.new ≡ taken at }
+    pub(crate) fn note_read(&mut self, at: usize)
+        ensures { tries self.new ≡ noted_read at }
     {
         self.at = at;
-        self.is_taken = true;
+        self.is_read = true;
         self.kinds.clear();
     }
 
@@ -72,7 +72,7 @@ impl Tried {
     pub(crate) fn kinds_at(&self, at: usize) -> &[Expected]
         ensures { result.now ≡ kinds_at at (tries self.now) }
     {
-        if self.at == at && !self.is_taken {
+        if self.at == at && !self.is_read {
             self.kinds.as_slice()
         } else {
             &[]

@@ -5,7 +5,7 @@ use Rattle.std.specs.Map.{lookup}
 use Rattle.toml_span_tree.specs.Path.{Path, Step, key, position}
 use Rattle.toml_span_read.specs.Data.{ParsedSection}
 use Rattle.toml_span.specs.Paths.{same_path, target, with_position}
-use Rattle.toml_span_places.specs.declared.opened.Opened.{Opened}
+use Rattle.toml_span_places.specs.declared.opened.ElementCounts.{ElementCounts}
 use Rattle.toml_span_places.specs.declared.opened.SortedStep.{SortedStep}
 use Rattle.toml_span_places.specs.declared.opened.SortedStep.TheVariants as sorted
 
@@ -20,7 +20,7 @@ sorted_steps v = map sorted_step v.items
 abbrev pub counts_in : List (Vec SortedStep Global × ℕ) → Path → ℕ
 counts_in es p = unwrap_or (lookup (λ k. same_path p (sorted_steps k)) es) 0
 
-abbrev pub counts_of : Opened → Path → ℕ
+abbrev pub counts_of : ElementCounts → Path → ℕ
 counts_of o = counts_in o.elements.entries
 
 abbrev pub no_counts : Path → ℕ
