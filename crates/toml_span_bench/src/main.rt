@@ -18,8 +18,8 @@ const SECOND: u128 = 1_000_000_000;
 /// The usage message.
 const USAGE: &str = "usage: toml_span_bench FILE N
        toml_span_bench tokens FILE N
-Parses FILE N times, or for about a second where N is 0, and prints the best and the mean
-time of a pass in nanoseconds. The second form goes through the tokens alone.";
+Parses FILE N times, or for about a second if N is 0, and prints the best and the mean
+time of a pass in nanoseconds. The second form only splits FILE into tokens.";
 
 /// Parses a text or, if `in_tokens`, splits it into tokens. Returns whether this succeeded.
 fn is_read(alloc: Global, text: &str, in_tokens: bool) -> bool {

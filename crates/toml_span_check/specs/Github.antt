@@ -6,8 +6,8 @@ use Rattle.std.specs.Fmt.{decimal}
 use Rattle.std.specs.List.{flat_map}
 use Rattle.std.specs.Str.{chars}
 use Rattle.toml_span_lex.specs.declared.span.Span.{Span}
-use Rattle.toml_span_report.specs.Places.{place, line_number, column}
-use Rattle.toml_span_report.specs.Report.{Place, ReportContent}
+use Rattle.toml_span_report.specs.Places.{floor_boundary, line_number, column}
+use Rattle.toml_span_report.specs.Report.{ReportLabel, ReportContent}
 use Rattle.toml_span_report.specs.declared.report.Severity.{Severity}
 use Rattle.toml_span_report.specs.declared.report.Severity.TheVariants.{Error, Warning, Note}
 use Rattle.toml_span_report.specs.Visible.{visible}
@@ -52,7 +52,7 @@ marked_end text span =
 
 -- the line and the column of an offset, both counted from 1
 abbrev pub line_column : List ℕ → ℕ → ℕ × ℕ
-line_column text at = (line_number text (place text at), column text (place text at))
+line_column text at = (line_number text (floor_boundary text at), column text (floor_boundary text at))
 
 -- GitHub accepts columns only if the start and the end are on the same line. The end is after the last character.
 unfoldable pub columns : ℕ × ℕ → ℕ × ℕ → List ℕ
@@ -67,7 +67,7 @@ abbrev pub region_properties : List ℕ → Span → List ℕ
 region_properties text span = line_properties (line_column text span.start) (line_column text (marked_end text span))
 
 -- the line numbers of the first primary label and, if it is on one line, its columns; nothing if no label is primary
-abbrev pub primary_region : List ℕ → List Place → List ℕ
+abbrev pub primary_region : List ℕ → List ReportLabel → List ℕ
 primary_region text [] = []
 primary_region text (label ∷ labels) = if label.primary then region_properties text label.span else primary_region text labels
 

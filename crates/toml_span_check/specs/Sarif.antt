@@ -6,7 +6,7 @@ use Rattle.std.specs.Fmt.{decimal}
 use Rattle.std.specs.List.{flat_map}
 use Rattle.toml_span_lex.specs.declared.span.Span.{Span}
 use Rattle.toml_span_lines.specs.Lines.{hex_digit}
-use Rattle.toml_span_report.specs.Report.{Place, Repair, ReportContent}
+use Rattle.toml_span_report.specs.Report.{ReportLabel, Repair, ReportContent}
 use Rattle.toml_span_report.specs.declared.report.Severity.{Severity}
 use Rattle.toml_span_report.specs.declared.report.Severity.TheVariants.{Error, Warning, Note}
 use Rattle.toml_span_report.specs.Visible.{quoted}
@@ -64,7 +64,7 @@ within text start end =
 abbrev pub region : List ℕ → Span → List ℕ
 region text span = within text (min span.start (length text)) (min span.end (length text))
 
-unfoldable pub location : List ℕ → List ℕ → Place → List ℕ
+unfoldable pub location : List ℕ → List ℕ → ReportLabel → List ℕ
 location name text label =
     codes "{\"physicalLocation\":" ++ artifact name ++ codes ",\"region\":" ++ region text label.span
     ++ codes "},\"message\":{\"text\":" ++ quoted label.message ++ codes "}}"
@@ -73,13 +73,13 @@ unfoldable pub file_alone : List ℕ → List ℕ
 file_alone name = codes "{\"physicalLocation\":" ++ artifact name ++ codes "}}"
 
 -- the location of the first primary label or, without one, of the file
-abbrev pub primary_location : List ℕ → List ℕ → List Place → List ℕ
+abbrev pub primary_location : List ℕ → List ℕ → List ReportLabel → List ℕ
 primary_location name text [] = file_alone name
 primary_location name text (label ∷ labels) =
     if label.primary then location name text label else primary_location name text labels
 
 -- the location of a secondary label, after a comma
-abbrev pub other : List ℕ → List ℕ → Place → List ℕ
+abbrev pub other : List ℕ → List ℕ → ReportLabel → List ℕ
 other name text label = if label.primary then [] else codes "," ++ location name text label
 
 -- the text without the comma at its start, if there is one
@@ -87,10 +87,10 @@ abbrev pub without_comma : List ℕ → List ℕ
 without_comma [] = []
 without_comma (c ∷ cs) = if c == 44 then cs else c ∷ cs
 
-unfoldable pub related : List ℕ → List ℕ → List Place → List ℕ
+unfoldable pub related : List ℕ → List ℕ → List ReportLabel → List ℕ
 related name text labels = without_comma (flat_map (other name text) labels)
 
-unfoldable pub places : List ℕ → List ℕ → List Place → List ℕ
+unfoldable pub places : List ℕ → List ℕ → List ReportLabel → List ℕ
 places name text labels =
     codes ",\"locations\":[" ++ primary_location name text labels ++ codes "],\"relatedLocations\":["
     ++ related name text labels ++ codes "]"

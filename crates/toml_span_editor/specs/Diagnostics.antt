@@ -15,7 +15,7 @@ use Rattle.toml_span_check.specs.Newer.{Lacks}
 use Rattle.toml_span_check.specs.Schemas.{Says}
 use Rattle.toml_span_check.specs.declared.newer.Version.{Version}
 use Rattle.toml_span_check.specs.declared.schemas.Chooser.{Chooser}
-use Rattle.toml_span_report.specs.Report.{Place, ReportContent}
+use Rattle.toml_span_report.specs.Report.{ReportLabel, ReportContent}
 use Rattle.toml_span_report.specs.declared.report.Severity.{Severity}
 use Rattle.toml_span_editor.specs.declared.diagnostics.Diagnostic.{Diagnostic}
 use Rattle.toml_span_editor.specs.declared.diagnostics.Related.{Related}
@@ -44,7 +44,7 @@ diagnostic_content d = record {
 }
 
 -- the span of the first primary label, or 0..0 without such a label
-abbrev pub main_span : List Place → Span
+abbrev pub main_span : List ReportLabel → Span
 main_span [] = record { start = 0; end = 0 }
 main_span (label ∷ labels) = if label.primary then label.span else main_span labels
 
@@ -56,7 +56,7 @@ with_line front out line =
 
 -- the text `out` followed by a line with the message of the label; `out` alone if the label is not primary, or if its
 -- message is empty or `message`, the message of the report
-abbrev pub with_label : List ℕ → List ℕ → Place → List ℕ
+abbrev pub with_label : List ℕ → List ℕ → ReportLabel → List ℕ
 with_label message out label =
     if label.primary && not (bytes_eq label.message message) then with_line [] out label.message else out
 
@@ -68,7 +68,7 @@ message_of report =
     report.help
 
 -- the ranges and messages of the labels that are not primary
-abbrev pub related_of : Encoding → List ℕ → List Place → List (Range × List ℕ)
+abbrev pub related_of : Encoding → List ℕ → List ReportLabel → List (Range × List ℕ)
 related_of encoding text [] = []
 related_of encoding text (label ∷ labels) =
     if label.primary then related_of encoding text labels

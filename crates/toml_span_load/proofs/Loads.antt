@@ -9,11 +9,11 @@ use Rattle.toml_span.specs.FromText.{NotRead, NotReadWithWarnings}
 use Rattle.toml_span_load.specs.Load.{AreShown, NotLoadedWithWarnings, failed}
 use Rattle.toml_span_report.specs.Report.{ReportContent, report_content}
 use Rattle.toml_span_report.specs.declared.reported.Reported.{Reported}
-use Rattle.toml_span_report.specs.Reported.{AreReported, AreTold}
+use Rattle.toml_span_report.specs.Reported.{AreReported, AreReportsOfStop}
 use Rattle.toml_span_report.specs.declared.colours.Style.{Style}
 
 pub are_told : {T : Type 0} (reads : Node → Result T Errors → Node → Type 0) (style : Style) (name text : List ℕ) (stop : Stop Errors) (reports : List ReportContent) (out : List ℕ)
-    → NotRead reads text stop → AreTold style name text stop reports out
+    → NotRead reads text stop → AreReportsOfStop style name text stop reports out
     → (faults : Errors) × NotRead reads text (stops.Fault faults) × AreReported style name text (all faults) reports out
 are_told reads style name text (stops.Fault faults) reports out not_read told = (faults, not_read, told)
 are_told reads style name text (stops.Memory e) reports out not_read told = absurd told

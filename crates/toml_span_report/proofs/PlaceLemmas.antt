@@ -1,7 +1,7 @@
--- Places between two characters, and the line of a place.
+-- Character boundaries, and the start of a line.
 use Rattle.toml_span_lex.proofs.Common.{◌≡◌, ℕ, zero, suc, ◌+◌, ◌-◌, ◌<◌, ◌≤◌, true, List, [], ◌∷◌, ◌++◌, length, get_or, arith, refl, inl, inr, ◌==◌, ◌||◌, if◌then◌else◌, slice_index, IsUtf8, IsCharBoundary, cases_lt, cond_both, nat_tests, IsCharBoundary-after_ascii, IsCharBoundary-past_char, common_steps}
 use lib.Utf8.{encode}
-use Rattle.toml_span_report.specs.Places.{is_between, place, line_start, mark_end}
+use Rattle.toml_span_report.specs.Places.{is_between, floor_boundary, line_start, bom_end}
 
 pub between_true : (text : List ℕ) (i : ℕ) → IsCharBoundary text i → is_between text i ≡ true
 between_true text i h = grind (arith, nat_tests, common_steps)
@@ -9,22 +9,22 @@ between_true text i h = grind (arith, nat_tests, common_steps)
 pub true_between : (text : List ℕ) (i : ℕ) → is_between text i ≡ true → IsCharBoundary text i
 true_between text i h = (grind (arith, nat_tests), λ lt big. grind (arith, nat_tests))
 
--- the nearest place before an offset is its place
-pub place_is : (text : List ℕ) (at r : ℕ) → r ≤ at → IsCharBoundary text r → ((i : ℕ) → r < i → i ≤ at → ¬ (IsCharBoundary text i)) → r ≡ place text at
-unfolding place
-place_is text zero r le b none = omega arith
-place_is text (suc i) r le b none = cond_both (is_between text (suc i)) (suc i) (place text i) (λ n. r ≡ n)
+-- the nearest character boundary at or before an offset is its `floor_boundary`
+pub floor_boundary_is : (text : List ℕ) (at r : ℕ) → r ≤ at → IsCharBoundary text r → ((i : ℕ) → r < i → i ≤ at → ¬ (IsCharBoundary text i)) → r ≡ floor_boundary text at
+unfolding floor_boundary
+floor_boundary_is text zero r le b none = omega arith
+floor_boundary_is text (suc i) r le b none = cond_both (is_between text (suc i)) (suc i) (floor_boundary text i) (λ n. r ≡ n)
     (λ here. elim (cases_lt r (suc i)) [
       | inl lt ↦ absurd (none (suc i) lt (omega arith) (true_between text (suc i) here))
       | inr ge ↦ omega arith
     ])
     (λ past. elim (cases_lt r (suc i)) [
-      | inl lt ↦ place_is text i r (omega arith) b (λ j above below. none j above (omega arith))
+      | inl lt ↦ floor_boundary_is text i r (omega arith) b (λ j above below. none j above (omega arith))
       | inr ge ↦ let same : r ≡ suc i = omega arith in let met = between_true text (suc i) (rw same at b) in cc
     ])
 
--- the line of a place, from that of the place one byte before it
-pub line_start-step : (text : List ℕ) (n : ℕ) → 0 < n → line_start text n ≡ (if n == mark_end text || slice_index text (n - 1) == 10 then n else line_start text (n - 1))
+-- the start of the line of an offset, from that of the offset one byte before it
+pub line_start-step : (text : List ℕ) (n : ℕ) → 0 < n → line_start text n ≡ (if n == bom_end text || slice_index text (n - 1) == 10 then n else line_start text (n - 1))
 unfolding line_start
 line_start-step text n some = grind (arith, nat_tests, common_steps)
 

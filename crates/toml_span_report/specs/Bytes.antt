@@ -2,7 +2,7 @@
 use Rattle.std.specs.Prelude.{ℕ, zero, suc, ◌+◌, ◌-◌, max, Bool, ◌==◌, ◌&&◌, ◌||◌, not, nat_eq, nat_lt, nat_le, List}
 use Rattle.std.specs.Prelude.{[], ◌∷◌, min, length, drop, slice_index, slice_range, if◌then◌else◌}
 use Rattle.std.specs.List.{position_or_len, starts_with}
-use Rattle.toml_span_report.specs.Places.{place}
+use Rattle.toml_span_report.specs.Places.{floor_boundary}
 use Rattle.toml_span_report.specs.declared.bytes.Class.{Class}
 use Rattle.toml_span_report.specs.declared.bytes.Class.TheVariants as class
 
@@ -99,4 +99,5 @@ is_last text at = byte_after text at == 0 || byte_after text at == 10 || byte_af
 
 -- the part of a text between two offsets, which are moved back to character boundaries
 unfoldable pub part : List ℕ → ℕ → ℕ → List ℕ
-part text from to = slice_range text (place text from) (max (place text to) (place text from))
+part text from to =
+    slice_range text (floor_boundary text from) (max (floor_boundary text to) (floor_boundary text from))

@@ -16,7 +16,7 @@ use Rattle.toml_span_report.specs.Many.{AreReportTexts}
 use Rattle.toml_span_report.specs.Finding.{FindingContent}
 use Rattle.toml_span_report.specs.Mistakes.{mistake_of}
 use Rattle.toml_span_report.specs.Rendering.{report_text}
-use Rattle.toml_span_report.specs.Report.{Place, ReportContent}
+use Rattle.toml_span_report.specs.Report.{ReportLabel, ReportContent}
 use Rattle.toml_span_report.specs.Tokens.{IsMarked}
 use Rattle.toml_span_report.specs.UnknownKeys.{key_label, one_of, unknown_keys, what_is_expected, suggestions}
 use Rattle.toml_span_report.specs.UnknownKeys.{deprecated as renamed}
@@ -34,10 +34,10 @@ message (missing_field field) = codes "missing key `" ++ field ++ codes "`"
 message (deprecated old new) = renamed old new
 message kind = display_text kind
 
-abbrev pub one_label : Span → List ℕ → List Place
+abbrev pub one_label : Span → List ℕ → List ReportLabel
 one_label span text = primary tt span text ∷ []
 
-abbrev pub labels : Span → Kind → List Place
+abbrev pub labels : Span → Kind → List ReportLabel
 labels span (unexpected_keys keys expected) = map key_label keys
 labels span (unexpected c) = one_label span []
 labels span (missing_field field) = one_label span (codes "this table lacks the key")
@@ -81,10 +81,10 @@ mistaken severity kind f = record {
   severity = severity;
   code = code_of kind;
   message = headline kind f;
-  labels = repairs.labels f;
+  labels = repairs.finding_labels f;
   notes = [];
-  help = repairs.help f;
-  replacements = repairs.repairs f;
+  help = repairs.finding_help f;
+  replacements = repairs.finding_repairs f;
 }
 
 -- whether `report` is the report of an error: that of the mistake, if one is recognized

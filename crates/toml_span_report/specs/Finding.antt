@@ -5,7 +5,7 @@ use Rattle.toml_span_report.specs.Bytes.{end_of, part}
 use Rattle.toml_span_report.specs.declared.bytes.Class.TheVariants as class
 use Rattle.toml_span_report.specs.declared.finding.Code.{Code}
 use Rattle.toml_span_report.specs.declared.finding.Finding.{Finding}
-use Rattle.toml_span_report.specs.declared.finding.Meant.{Meant}
+use Rattle.toml_span_report.specs.declared.finding.Substitute.{Substitute}
 use Rattle.toml_span_report.specs.Words.{WordsContent, words_content, texts}
 
 -- a text in pieces, with a number after them
@@ -51,16 +51,16 @@ finding_content f = record {
 }
 
 -- what to write instead of a word or character that TOML does not have, as plain data
-pub record MeantContent : Type 0 where
+pub record SubstituteContent : Type 0 where
   pub mistake : WordsContent
   pub name : List ℕ
   pub code : List ℕ
 
-abbrev pub meant_content : Meant → MeantContent
-meant_content m = record { mistake = texts m.mistake; name = m.name.now; code = m.code.now }
+abbrev pub substitute_content : Substitute → SubstituteContent
+substitute_content m = record { mistake = texts m.mistake; name = m.name.now; code = m.code.now }
 
-abbrev pub as_meant : WordsContent → List ℕ → List ℕ → MeantContent
-as_meant mistake name code = record { mistake = mistake; name = name; code = code }
+abbrev pub as_substitute : WordsContent → List ℕ → List ℕ → SubstituteContent
+as_substitute mistake name code = record { mistake = mistake; name = name; code = code }
 
 -- a text of six pieces, and one of three, without a number
 abbrev pub six : List ℕ → List ℕ → List ℕ → List ℕ → List ℕ → List ℕ → CodeContent
@@ -74,8 +74,8 @@ abbrev pub span_of : ℕ → ℕ → Span
 span_of start end = record { start = start; end = end }
 
 -- a finding with code to write but without a replacement, and one without code
-abbrev pub shown : WordsContent → Span → Span → CodeContent → FindingContent
-shown words mark also code = record {
+abbrev pub without_replacement : WordsContent → Span → Span → CodeContent → FindingContent
+without_replacement words mark also code = record {
   words = words;
   mark = mark;
   also = also;
@@ -86,12 +86,12 @@ shown words mark also code = record {
 }
 
 abbrev pub marked : WordsContent → ℕ → ℕ → FindingContent
-marked words from to = shown words (span_of from to) (span_of from to) (pieces [] [] [])
+marked words from to = without_replacement words (span_of from to) (span_of from to) (pieces [] [] [])
 
 -- findings with a replacement: of the span `edit` by code, of the marked span by code, and of the marked span by
 -- nothing
 abbrev pub mended : WordsContent → Span → Span → CodeContent → FindingContent
-mended words mark edit code = record (shown words mark mark code) { edit = Some edit }
+mended words mark edit code = record (without_replacement words mark mark code) { edit = Some edit }
 
 abbrev pub replaced : WordsContent → ℕ → ℕ → CodeContent → FindingContent
 replaced words from to code = mended words (span_of from to) (span_of from to) code
@@ -104,8 +104,8 @@ removed words from to = replaced words from to (pieces [] [] [])
 abbrev pub quote_for : List ℕ → ℕ → ℕ → List ℕ
 quote_for text from to = if nat_lt (end_of class.Unescaped text from) to then codes "'" else codes "\""
 
-abbrev pub quoted : WordsContent → List ℕ → ℕ → ℕ → FindingContent
-quoted words text from to =
+abbrev pub in_quotes : WordsContent → List ℕ → ℕ → ℕ → FindingContent
+in_quotes words text from to =
     replaced words from to (pieces (quote_for text from to) (part text from to) (quote_for text from to))
 
 -- the first finding or, if it is None, the second

@@ -3,9 +3,9 @@ use Rattle.std.specs.Prelude.{ℕ, Bool, true, false, List, ◌++◌, codes}
 use Rattle.std.specs.Fmt.{decimal}
 use Rattle.std.specs.List.{join_by}
 use Rattle.toml_span_lex.specs.declared.span.Span.{Span}
-use Rattle.toml_span_report.specs.Places.{place, line_number, column}
-use Rattle.toml_span_report.specs.Rendering.{word}
-use Rattle.toml_span_report.specs.Report.{Place, Repair, ReportContent}
+use Rattle.toml_span_report.specs.Places.{floor_boundary, line_number, column}
+use Rattle.toml_span_report.specs.Rendering.{severity_word}
+use Rattle.toml_span_report.specs.Report.{ReportLabel, Repair, ReportContent}
 use Rattle.toml_span_report.specs.Visible.{quoted}
 
 -- ---- labels
@@ -22,8 +22,8 @@ span_json span = codes ",\"start\":" ++ decimal span.start ++ codes ",\"end\":" 
 -- the members `line` and `column` for the offset `at`, both counted from 1
 unfoldable pub place_json : List ℕ → ℕ → List ℕ
 place_json text at =
-    codes ",\"line\":" ++ decimal (line_number text (place text at))
-    ++ codes ",\"column\":" ++ decimal (column text (place text at))
+    codes ",\"line\":" ++ decimal (line_number text (floor_boundary text at))
+    ++ codes ",\"column\":" ++ decimal (column text (floor_boundary text at))
 
 -- the members `start`, `end`, `line` and `column` of a label at `span`
 unfoldable pub spot_json : List ℕ → Span → List ℕ
@@ -38,13 +38,13 @@ unfoldable pub parts_json : List ℕ → Bool → Span → List ℕ → List ℕ
 parts_json text is_primary span message =
     role_json is_primary ++ spot_json text span ++ member_json (codes ",\"message\":") message ++ codes "}"
 
-unfoldable pub label_json : List ℕ → Place → List ℕ
+unfoldable pub label_json : List ℕ → ReportLabel → List ℕ
 label_json text mark = parts_json text mark.primary mark.span mark.message
 
 -- ---- reports
 
 -- an array of labels, and an array of strings
-abbrev pub labels_json : List ℕ → List Place → List ℕ
+abbrev pub labels_json : List ℕ → List ReportLabel → List ℕ
 labels_json text marks = codes "[" ++ join_by (label_json text) (codes ",") marks ++ codes "]"
 
 abbrev pub texts_json : List (List ℕ) → List ℕ
@@ -74,7 +74,7 @@ head_json r name =
 -- the severity, the notes and the help
 abbrev pub remarks_json : ReportContent → List ℕ
 remarks_json r =
-    member_json (codes ",\"severity\":") (word r.severity) ++ codes ",\"notes\":" ++ texts_json r.notes
+    member_json (codes ",\"severity\":") (severity_word r.severity) ++ codes ",\"notes\":" ++ texts_json r.notes
     ++ codes ",\"help\":" ++ texts_json r.help
 
 -- the whole line, with a line feed at the end

@@ -5,22 +5,22 @@ use Rattle.std.specs.Fmt.{decimal}
 use Rattle.std.specs.List.{count_by, flat_map}
 use Rattle.std.specs.List.Sorted.{IsNonDecreasingBy, IsStableByKey}
 use Rattle.std.specs.Ordering.{nat_cmp}
-use Rattle.toml_span_report.specs.Rendering.{before, drawn_report, main_part, word}
+use Rattle.toml_span_report.specs.Rendering.{before, drawn_report, main_strip, severity_word}
 use Rattle.toml_span_report.specs.Report.{ReportContent}
-use Rattle.toml_span_report.specs.Strips.{MarkedLine, all_marked_lines}
+use Rattle.toml_span_report.specs.Strips.{StripContent, all_strips}
 use Rattle.toml_span_report.specs.declared.colours.Style.{Style}
 use Rattle.toml_span_report.specs.declared.many.Drawn.{Drawn}
 use Rattle.toml_span_report.specs.declared.report.Severity.{Severity}
 use Rattle.toml_span_report.specs.declared.report.Severity.TheVariants.{Error, Warning, Note}
 
 -- the offset by which a report is sorted, which is 0 without labels; and this offset with the text of the report
-abbrev pub place_of : Option MarkedLine → ℕ
-place_of None = 0
-place_of (Some p) = p.at
+abbrev pub sort_offset : Option StripContent → ℕ
+sort_offset None = 0
+sort_offset (Some p) = p.at
 
-abbrev pub drawn : Style → List ℕ → List ℕ → ReportContent → ℕ × List ℕ
-drawn style name text r =
-    let parts = all_marked_lines text r.labels in (place_of (main_part parts), drawn_report style r name parts)
+abbrev pub drawn_with_offset : Style → List ℕ → List ℕ → ReportContent → ℕ × List ℕ
+drawn_with_offset style name text r =
+    let parts = all_strips text r.labels in (sort_offset (main_strip parts), drawn_report style r name parts)
 
 abbrev pub drawn_content : Drawn → ℕ × List ℕ
 drawn_content d = (d.at, string_bytes d.text)
@@ -46,21 +46,21 @@ is_of severity r = is_same severity r.severity
 
 -- How a count, such as `2 errors`, is added to a line: after a comma unless the line is empty, in the plural unless the
 -- count is 1, and not at all if the count is 0.
-abbrev pub comma : List ℕ → List ℕ
-comma [] = []
-comma (x ∷ xs) = codes ", "
+abbrev pub separator : List ℕ → List ℕ
+separator [] = []
+separator (x ∷ xs) = codes ", "
 
 abbrev pub plural : ℕ → List ℕ
 plural n = if n == 1 then [] else codes "s"
 
 abbrev pub with_count : List ℕ → ℕ → List ℕ → List ℕ
 with_count line zero word = line
-with_count line (suc n) word = line ++ comma line ++ decimal (suc n) ++ codes " " ++ word ++ plural (suc n)
+with_count line (suc n) word = line ++ separator line ++ decimal (suc n) ++ codes " " ++ word ++ plural (suc n)
 
 abbrev pub total : List ReportContent → List ℕ
 total rs =
-    with_count (with_count (with_count [] (count_by (is_of Error) rs) (word Error))
-    (count_by (is_of Warning) rs) (word Warning)) (count_by (is_of Note) rs) (word Note)
+    with_count (with_count (with_count [] (count_by (is_of Error) rs) (severity_word Error))
+    (count_by (is_of Warning) rs) (severity_word Warning)) (count_by (is_of Note) rs) (severity_word Note)
 
 abbrev pub joined : List (ℕ × List ℕ) → List ReportContent → List ℕ
 joined ordered rs = flat_map with_blank_line ordered ++ before (codes "\n") (total rs)
@@ -69,4 +69,5 @@ joined ordered rs = flat_map with_blank_line ordered ++ before (codes "\n") (tot
 -- line that counts the reports
 abbrev pub AreReportTexts : Style → List ℕ → List ℕ → List ReportContent → List ℕ → Type 0
 AreReportTexts style name text rs out =
-    (ordered : List (ℕ × List ℕ)) × AreInOrder (map (drawn style name text) rs) ordered × (out ≡ joined ordered rs)
+    (ordered : List (ℕ × List ℕ)) × AreInOrder (map (drawn_with_offset style name text) rs) ordered
+    × (out ≡ joined ordered rs)

@@ -10,23 +10,23 @@ abbrev pub is_between : List ℕ → ℕ → Bool
 is_between text i = nat_le i (length text) && not (nat_le 128 (slice_index text i) && nat_lt (slice_index text i) 192)
 
 -- the nearest character boundary at or before i, at most the length of the text
-unfoldable pub place : List ℕ → ℕ → ℕ
-place text zero = 0
-place text (suc i) = if is_between text (suc i) then suc i else place text i
+unfoldable pub floor_boundary : List ℕ → ℕ → ℕ
+floor_boundary text zero = 0
+floor_boundary text (suc i) = if is_between text (suc i) then suc i else floor_boundary text i
 
 abbrev pub is_line_feed : ℕ → Bool
 is_line_feed byte = byte == 10
 
 -- the length of the byte order mark at the start of the text, or 0 without a mark
-unfoldable pub mark_end : List ℕ → ℕ
-mark_end text =
+unfoldable pub bom_end : List ℕ → ℕ
+bom_end text =
     if slice_index text 0 == 0xEF && (slice_index text 1 == 0xBB && slice_index text 2 == 0xBF) then 3 else 0
 
 -- the start of the line that contains an offset: after the last line feed before the offset or, on the first line,
 -- after a byte order mark
 unfoldable pub line_start : List ℕ → ℕ → ℕ
 line_start text zero = 0
-line_start text (suc i) = if suc i == mark_end text || slice_index text i == 10 then suc i else line_start text i
+line_start text (suc i) = if suc i == bom_end text || slice_index text i == 10 then suc i else line_start text i
 
 -- the end of the line that contains `at`: before its LF or CRLF (`without_return`), or at the end of the text
 abbrev pub without_return : List ℕ → ℕ → ℕ → ℕ
@@ -47,12 +47,12 @@ column text at = length (chars (slice_range text (line_start text at) at)) + 1
 -- The start and the end of a span, as character boundaries. A byte order mark at the start of the text and a line feed
 -- at the span's end are left out, and a reversed span is empty.
 unfoldable pub span_start : List ℕ → Span → ℕ
-span_start text span = max (place text span.start) (mark_end text)
+span_start text span = max (floor_boundary text span.start) (bom_end text)
 
 abbrev pub without_feed : List ℕ → ℕ → ℕ → ℕ
 without_feed text from to = if nat_lt from to && slice_index text (to - 1) == 10 then to - 1 else to
 
 unfoldable pub span_end : List ℕ → Span → ℕ
 span_end text span =
-    without_feed text (max (place text span.start) (mark_end text))
-    (max (place text (max span.start span.end)) (mark_end text))
+    without_feed text (max (floor_boundary text span.start) (bom_end text))
+    (max (floor_boundary text (max span.start span.end)) (bom_end text))

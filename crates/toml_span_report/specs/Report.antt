@@ -7,8 +7,8 @@ use Rattle.toml_span_report.specs.declared.report.Report.{Report}
 use Rattle.toml_span_report.specs.declared.report.Severity.{Severity}
 
 -- a label as plain data: whether it is primary, its span, and its message
-abbrev pub Place : Type 0
-Place = LabelContent (Unit {0})
+abbrev pub ReportLabel : Type 0
+ReportLabel = LabelContent (Unit {0})
 
 -- a replacement as plain data
 pub record Repair : Type 0 where
@@ -23,7 +23,7 @@ pub record ReportContent : Type 0 where
   pub severity : Severity
   pub code : List ℕ
   pub message : List ℕ
-  pub labels : List Place
+  pub labels : List ReportLabel
   pub notes : List (List ℕ)
   pub help : List (List ℕ)
   pub replacements : List Repair

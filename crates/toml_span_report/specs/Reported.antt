@@ -16,6 +16,6 @@ AreReported style name text errors reports out =
     AddsReports severities.Error text errors [] reports × AreReportTexts style name text reports out
 
 -- whether `reports` has a report of each error in a Fault, and `out` is the text of these reports; never for Memory
-abbrev pub AreTold : Style → List ℕ → List ℕ → Stop Errors → List ReportContent → List ℕ → Type 0
-AreTold style name text (stop.Fault faults) reports out = AreReported style name text (all faults) reports out
-AreTold style name text (stop.Memory e) reports out = ⊥
+abbrev pub AreReportsOfStop : Style → List ℕ → List ℕ → Stop Errors → List ReportContent → List ℕ → Type 0
+AreReportsOfStop style name text (stop.Fault faults) reports out = AreReported style name text (all faults) reports out
+AreReportsOfStop style name text (stop.Memory e) reports out = ⊥

@@ -19,7 +19,7 @@ opened text state at =
     }
     else if slice_index text at == 91 || slice_index text at == 123 then record state {
       bracket = if state.depth == 0 then at else state.bracket;
-      depth = min (state.depth + 1) (length text);
+      depth = min (state.depth + 1) 18446744073709551615;
     }
     else if slice_index text at == 93 || slice_index text at == 125 then record state { depth = state.depth - 1 }
     else state
@@ -46,13 +46,29 @@ step text state at =
     else inside text state at
 
 -- what is open after this many bytes of the text
+abbrev pub nothing_open : Open
+nothing_open = record { depth = 0; bracket = 0; quote = 0; string = 0; is_long = false; skip = 0 }
+
 unfoldable pub scanned : List ℕ → ℕ → Open
-scanned text zero =
-    record { depth = 0; bracket = 0; quote = 0; string = 0; is_long = false; skip = 0 }
+scanned text zero = nothing_open
 scanned text (suc i) = step text (scanned text i) i
 
 abbrev pub open_before : List ℕ → ℕ → Open
 open_before text at = scanned text (min at (length text))
+
+-- `at` if the byte there opens a bracket, with which `depth` of them are open, otherwise `bracket`; the last such
+-- offset among this many bytes, or 0; and the innermost bracket that is open before an offset, or 0 if none is open
+abbrev pub latest_opened : ℕ → Open → Open → ℕ → ℕ → ℕ
+latest_opened depth before after at bracket =
+    if nat_lt before.depth depth && after.depth == depth then at else bracket
+
+unfoldable pub last_opened : List ℕ → ℕ → ℕ → ℕ
+last_opened text depth zero = 0
+last_opened text depth (suc i) =
+    latest_opened depth (scanned text i) (step text (scanned text i) i) i (last_opened text depth i)
+
+abbrev pub innermost : List ℕ → ℕ → ℕ
+innermost text at = last_opened text (open_before text at).depth (min at (length text))
 
 -- whether the outermost open bracket begins a table header: it is the first non-blank byte of its line
 abbrev pub is_in_header : List ℕ → Open → Bool

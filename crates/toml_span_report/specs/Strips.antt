@@ -5,10 +5,11 @@ use Rattle.std.specs.List.{fold, insert, position_or_len}
 use Rattle.toml_span_tree.specs.Diagnostic.{LabelContent}
 use Rattle.toml_span_report.specs.declared.strips.Strip.{Strip}
 use Rattle.toml_span_report.specs.declared.strips.Window.{Window}
-use Rattle.toml_span_report.specs.Places.{place, line_start, line_end, line_number, column, span_start, span_end}
+use Rattle.toml_span_report.specs.Places.{floor_boundary, line_start, line_end, line_number, column, span_start}
+use Rattle.toml_span_report.specs.Places.{span_end}
 
 -- a marked part of a line, with the text before and after it on the line, which may be cut
-pub record MarkedLine : Type 0 where
+pub record StripContent : Type 0 where
   pub at : ℕ
   pub number : ℕ
   pub column : ℕ
@@ -21,8 +22,8 @@ pub record MarkedLine : Type 0 where
   pub message : List ℕ
 
 -- a strip as plain data
-abbrev pub marked_line_of : Strip → MarkedLine
-marked_line_of s = record {
+abbrev pub strip_content : Strip → StripContent
+strip_content s = record {
   at = s.at;
   number = s.number;
   column = s.column;
@@ -36,8 +37,8 @@ marked_line_of s = record {
 }
 
 -- the strip from the offset `from` to the offset `to`, or to the end of the line of `from` if that comes first
-unfoldable pub marked_line : List ℕ → ℕ → ℕ → Bool → List ℕ → MarkedLine
-marked_line text from to is_primary message =
+unfoldable pub strip_at : List ℕ → ℕ → ℕ → Bool → List ℕ → StripContent
+strip_at text from to is_primary message =
     let end = line_end text from in
     record {
       at = from;
@@ -54,49 +55,49 @@ marked_line text from to is_primary message =
 
 -- The strips of the span `from..to`: one on its first line and, if it ends on another line, one there. The line of `to`
 -- starts at `again`. Only the last strip has the message.
-abbrev pub marked_lines_between : List ℕ → ℕ → ℕ → ℕ → Bool → List ℕ → List MarkedLine
-marked_lines_between text from again to is_primary message =
-    if nat_le again from then marked_line text from to is_primary message ∷ []
-    else marked_line text from to is_primary [] ∷ marked_line text again to is_primary message ∷ []
+abbrev pub strips_between : List ℕ → ℕ → ℕ → ℕ → Bool → List ℕ → List StripContent
+strips_between text from again to is_primary message =
+    if nat_le again from then strip_at text from to is_primary message ∷ []
+    else strip_at text from to is_primary [] ∷ strip_at text again to is_primary message ∷ []
 
-unfoldable pub marked_lines_of : {F : Type 0} → List ℕ → LabelContent F → List MarkedLine
-marked_lines_of text mark =
+unfoldable pub strips_of : {F : Type 0} → List ℕ → LabelContent F → List StripContent
+strips_of text mark =
     let to = span_end text mark.span in
-    marked_lines_between text (span_start text mark.span) (line_start text to) to mark.primary mark.message
+    strips_between text (span_start text mark.span) (line_start text to) to mark.primary mark.message
 
 -- the position of the first strip that begins after the offset, or the number of strips if all begin at or before it
-abbrev pub earlier : List MarkedLine → ℕ → ℕ
+abbrev pub earlier : List StripContent → ℕ → ℕ
 earlier parts at = position_or_len (λ p. nat_lt at p.at) parts
 
 -- the strips `parts` with `p` inserted, after those that begin at the same offset
-abbrev pub placed : List MarkedLine → MarkedLine → List MarkedLine
+abbrev pub placed : List StripContent → StripContent → List StripContent
 placed parts p = insert parts (earlier parts p.at) p
 
 -- the strips of all labels, sorted by their offsets
-unfoldable pub all_marked_lines : {F : Type 0} → List ℕ → List (LabelContent F) → List MarkedLine
-all_marked_lines text marks = fold (λ parts mark. fold placed parts (marked_lines_of text mark)) [] marks
+unfoldable pub all_strips : {F : Type 0} → List ℕ → List (LabelContent F) → List StripContent
+all_strips text marks = fold (λ parts mark. fold placed parts (strips_of text mark)) [] marks
 
 -- ---- what is printed of a long line
 
 -- A window shows the strips of one line that begin at most 240 bytes after the start of its first strip.
-abbrev pub is_near : Window → MarkedLine → Bool
+abbrev pub is_near : Window → StripContent → Bool
 is_near window p = p.number == window.number && nat_le (p.at - window.first) 240
 
 -- the start of the last strip in the window, widened to show the strips of the list before the first one that is not
 -- near
-abbrev pub last_near : Window → List MarkedLine → ℕ
+abbrev pub last_near : Window → List StripContent → ℕ
 last_near window [] = window.last
 last_near window (p ∷ ps) =
     if is_near window p then last_near (record { number = window.number; first = window.first; last = p.at }) ps
     else window.last
 
-abbrev pub window_from : Window → List MarkedLine → Window
+abbrev pub window_from : Window → List StripContent → Window
 window_from window ps =
     record { number = window.number; first = window.first; last = last_near window ps }
 
 -- the window that shows `p`: the given one if `p` is near, otherwise a new one for `p` and, of the next strips `ps`,
 -- those before the first one that is not near
-abbrev pub window_of : Option Window → MarkedLine → List MarkedLine → Window
+abbrev pub window_of : Option Window → StripContent → List StripContent → Window
 window_of None p ps = window_from (record { number = p.number; first = p.at; last = p.at }) ps
 window_of (Some window) p ps =
     if is_near window p then window
@@ -105,17 +106,17 @@ window_of (Some window) p ps =
 -- A window shows its line from 80 bytes before its first strip to 160 bytes after the start of its last strip: `hidden`
 -- is the number of bytes before `p` that are cut, and `room` the number of bytes from the start of `p` on that can be
 -- shown.
-abbrev pub hidden : Window → MarkedLine → ℕ
+abbrev pub hidden : Window → StripContent → ℕ
 hidden window p = length p.before - (p.at - window.first) - 80
 
-abbrev pub room : Window → MarkedLine → ℕ
+abbrev pub room : Window → StripContent → ℕ
 room window p = min (window.last - p.at) 240 + 160
 
-unfoldable pub seen_in : Window → MarkedLine → MarkedLine
+unfoldable pub seen_in : Window → StripContent → StripContent
 seen_in window p =
-    let left = place p.before (hidden window p) in
-    let marked = place p.marked (room window p) in
-    let after = place p.after (room window p - length p.marked) in
+    let left = floor_boundary p.before (hidden window p) in
+    let marked = floor_boundary p.marked (room window p) in
+    let after = floor_boundary p.after (room window p - length p.marked) in
     record {
       at = p.at;
       number = p.number;

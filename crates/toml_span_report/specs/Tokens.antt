@@ -4,8 +4,8 @@ use Rattle.std.specs.Prelude.{Option, Some, None, if◌then◌else◌, slice_ind
 use Rattle.std.specs.List.{starts_with}
 use Rattle.toml_span_lex.specs.declared.span.Span.{Span}
 use Rattle.toml_span_lex.specs.Tokens.{Lexeme, IsLexeme}
-use Rattle.toml_span_tree.specs.Error.{Kind, wanted, missing_field, multiline_string_key}
-use Rattle.toml_span_report.specs.Places.{place, line_end}
+use Rattle.toml_span_tree.specs.Error.{Kind, wanted, missing_field}
+use Rattle.toml_span_report.specs.Places.{floor_boundary, line_end}
 
 -- whether a token begins at the offset and ends at j, or, for None, whether no token begins there, as at the end of the
 -- text
@@ -28,10 +28,9 @@ names_token found =
     || starts_with nat_eq found (codes "eof") || starts_with nat_eq found (codes "whitespace")
 
 -- Whether only the start of an error's span is exact: the unexpected token begins there. The span is as long as the
--- name of the token or, for a multi-line string, as the string's value, so it may be longer than the token.
+-- name of the token, so it may be longer than the token.
 abbrev pub is_at_token : Kind → Span → Bool
 is_at_token (wanted expected found) span = names_token found && span.end - span.start == length found
-is_at_token multiline_string_key span = true
 is_at_token _ span = false
 
 -- What is marked for a field that is missing from the table at the span `reported`. For the root, whose span is the
@@ -39,7 +38,7 @@ is_at_token _ span = false
 -- otherwise the whole span.
 unfoldable pub table_mark : List ℕ → Span → Span
 table_mark text reported =
-    let at = place text reported.start in
+    let at = floor_boundary text reported.start in
     if reported.start == 0 && reported.end == length text then record { start = reported.start; end = 0 }
     else if slice_index text at == 91 then record { start = reported.start; end = min reported.end (line_end text at) }
     else reported
@@ -50,7 +49,7 @@ own_mark text _ reported = reported
 
 abbrev pub IsMarkedWhere : List ℕ → Kind → Bool → Span → Span → Type 0
 IsMarkedWhere text kind true reported span =
-    (span.start ≡ reported.start) × MarksToken text (place text reported.start) span.end
+    (span.start ≡ reported.start) × MarksToken text (floor_boundary text reported.start) span.end
 IsMarkedWhere text kind false reported span = span ≡ own_mark text kind reported
 
 -- Whether `span` is marked for an error of this kind at the span `reported`: the token that begins there, the header of

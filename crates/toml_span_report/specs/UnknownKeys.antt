@@ -5,7 +5,7 @@ use Rattle.std.specs.Option.{option_map, option_to_list}
 use Rattle.toml_span_lex.specs.declared.span.Span.{Span}
 use Rattle.toml_span_tree.specs.Diagnostic.{primary}
 use Rattle.toml_span_report.specs.Names.{nearest}
-use Rattle.toml_span_report.specs.Report.{Place}
+use Rattle.toml_span_report.specs.Report.{ReportLabel}
 
 abbrev pub named : List ℕ → List ℕ
 named name = codes "`" ++ name ++ codes "`"
@@ -17,9 +17,9 @@ listed names = join_by named (codes ", ") names
 abbrev pub unknown_keys : List (List ℕ) → List ℕ
 unknown_keys names = (if length names == 1 then codes "unknown key " else codes "unknown keys ") ++ listed names
 
--- the note that lists the expected keys, or says that no key is expected
+-- the note that lists the expected keys, or says that the table can't have keys
 abbrev pub what_is_expected : List (List ℕ) → List ℕ
-what_is_expected [] = codes "no key is expected"
+what_is_expected [] = codes "this table can't have keys"
 what_is_expected (name ∷ names) = codes "expected " ++ listed (name ∷ names)
 
 -- the message for a value that is not one of `names`
@@ -31,7 +31,7 @@ abbrev pub deprecated : List ℕ → List ℕ → List ℕ
 deprecated old new = named old ++ codes " is deprecated, use " ++ named new
 
 -- the label of an unknown key
-abbrev pub key_label : List ℕ × Span → Place
+abbrev pub key_label : List ℕ × Span → ReportLabel
 key_label key = primary tt key.1 (codes "unknown key")
 
 -- the help: for each unknown key that is near enough to an expected key, a line that suggests the expected key; if

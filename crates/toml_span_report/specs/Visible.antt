@@ -15,11 +15,11 @@ abbrev pub digit : ℕ → List ℕ
 digit n = encode_utf8 (digit_char n)
 
 -- the escape of a character by its number, as in JSON: `\u202e`
-unfoldable pub escape : ℕ → List ℕ
-escape c = codes "\\u" ++ digit (c / 4096) ++ digit (c / 256 % 16) ++ digit (c / 16 % 16) ++ digit (c % 16)
+unfoldable pub unicode_escape : ℕ → List ℕ
+unicode_escape c = codes "\\u" ++ digit (c / 4096) ++ digit (c / 256 % 16) ++ digit (c / 16 % 16) ++ digit (c % 16)
 
 abbrev pub visible_char : ℕ → List ℕ
-visible_char c = if is_escaped c then escape c else encode_utf8 c
+visible_char c = if is_escaped c then unicode_escape c else encode_utf8 c
 
 -- a text with escapes for the characters of `is_escaped`
 unfoldable pub visible : List ℕ → List ℕ

@@ -4,7 +4,7 @@ ghost use Rattle.std.specs.Prelude.{◌≡◌, ◌≤◌, length, slice_index};
 ghost use Rattle.std.specs.List.{position_or_len};
 ghost use Rattle.toml_span_report.specs.Bytes as spec;
 
-use crate::places::place;
+use crate::places::floor_boundary;
 
 /// A class of bytes.
 #[derive(Clone, Copy)]
@@ -263,7 +263,7 @@ pub(crate) fn is_last(text: &str, at: usize) -> bool
 pub(crate) fn part<'a>(text: &'a str, from: usize, to: usize) -> &'a str
     ensures { result.now ≡ spec.part text.now from to }
 {
-    let start = place(text, from);
-    let end = place(text, to).max(start);
+    let start = floor_boundary(text, from);
+    let end = floor_boundary(text, to).max(start);
     &text[start..end]
 }

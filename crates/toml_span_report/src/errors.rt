@@ -207,9 +207,9 @@ impl Report {
     ///   end of the line at most. If no token begins there, as at the end of the source, the mark is empty.
     /// - For a table that lacks a key, the primary label marks the table, or only the header's line if the table begins
     ///   with a header. For the root, which is the whole source, the mark is empty, at the start of the source.
-    /// - Each unknown key has a primary label. A note lists the expected keys, or says that no key is expected. For
-    ///   each unknown key, a line of help names the nearest expected key, if one is near enough (`nearest`). Help for
-    ///   an unexpected value names the nearest expected value, if one is near enough.
+    /// - Each unknown key has a primary label. A note lists the expected keys, or says that the table can't have keys.
+    ///   For each unknown key, a line of help names the nearest expected key, if one is near enough (`nearest`). Help
+    ///   for an unexpected value names the nearest expected value, if one is near enough.
     /// - The label at an unexpected character is empty, since the message names the character. Most errors of typed
     ///   reads have other messages or labels, such as "missing key" with the name of the key. For most types of
     ///   numbers, help for a number that is out of range states the range.

@@ -38,7 +38,7 @@ pub const CODES: [&str; 25] = [
 const PAGES: [(&str, &str); 25] = [
     (
         "unexpected",
-        "a character that is not part of TOML here\n\nTOML does not use this character outside strings and comments. Keys need quotes\nif they have other characters than A-Z, a-z, 0-9, `_` and `-`, and so does each\nvalue that is not a number, a boolean, a date or a time.\n\n    größe = 1         # write \"größe\" = 1\n    home = ~/data     # write home = \"~/data\"\n    // a comment      # write # a comment",
+        "a character that is not part of TOML here\n\nTOML does not use this character outside strings and comments. Keys need quotes\nif they have characters other than A-Z, a-z, 0-9, `_` and `-`, and so does each\nvalue that is not a number, a boolean, a date or a time.\n\n    größe = 1         # write \"größe\" = 1\n    home = ~/data     # write home = \"~/data\"\n    // a comment      # write # a comment",
     ),
     (
         "unterminated-string",
@@ -58,7 +58,7 @@ const PAGES: [(&str, &str); 25] = [
     ),
     (
         "invalid-escape-value",
-        "an escape that does not name a character\n\nCharacters are U+0000 to U+10FFFF, except for the surrogates U+D800 to U+DFFF.\n\n    a = \"\\uD83D\\uDE00\"   # write a = \"\\U0001F600\"\n\nWrite the character itself, or its own number after `\\U`.",
+        "an escape that does not name a character\n\nCharacters are U+0000 to U+10FFFF, except for the surrogates U+D800 to U+DFFF.\n\n    a = \"\\uD83D\\uDE00\"   # write a = \"\\U0001F600\"\n\nWrite the character itself, or its code point after `\\U`.",
     ),
     (
         "multiline-string-key",
@@ -74,7 +74,7 @@ const PAGES: [(&str, &str); 25] = [
     ),
     (
         "invalid-datetime",
-        "a date or a time that does not exist, or is written differently\n\nDates are written as year-month-day, times in 24 hours.\n\n    day = 2024-1-5                      # write day = 2024-01-05\n    at = 2024-01-05T07:32:00+0100       # write +01:00",
+        "a date or a time that does not exist, or is not written as in TOML\n\nDates are written as year-month-day, times in 24 hours.\n\n    day = 2024-1-5                      # write day = 2024-01-05\n    at = 2024-01-05T07:32:00+0100       # write +01:00",
     ),
     (
         "unexpected-eof",
@@ -82,7 +82,7 @@ const PAGES: [(&str, &str); 25] = [
     ),
     (
         "wanted",
-        "something else was expected here\n\nA line of TOML is a key, `=` and a value, or a header in brackets. Elements of\narrays and pairs of inline tables are separated by commas, and both are closed.\n\n    port: 80          # write port = 80\n    a = [1 2]         # write a = [1, 2]\n    [server           # write [server]\n\nIf a program reports this, a value may be of another kind than the program\nexpects, such as a string instead of an integer.",
+        "something else was expected here\n\nA line of TOML is a key, `=` and a value, or a header in brackets. Elements of\narrays and pairs of inline tables are separated by commas.\n\n    port: 80          # write port = 80\n    a = [1 2]         # write a = [1, 2]\n    [server           # write [server]\n\nIf a program reports this, a value may be of a kind that the program does not\nexpect, such as a string instead of an integer.",
     ),
     (
         "exceeded-depth-limit",
@@ -94,15 +94,15 @@ const PAGES: [(&str, &str); 25] = [
     ),
     (
         "duplicate-key",
-        "a key that is defined twice\n\nA table has each key once. A header defines a key too: the last one in it.\n\n    port = 80\n    port = 8080       # remove one of the two",
+        "a key that is defined twice\n\nA table can have each key only once. A header defines a key too: the last one\nin it.\n\n    port = 80\n    port = 8080       # remove one of the two",
     ),
     (
         "duplicate-table",
-        "a table that is defined twice\n\nA table has one header. In a list of tables, each has a header `[[name]]`.\n\n    [server]\n    port = 80\n    [server]          # write its keys below the first header\n    host = \"h\"",
+        "a table that is defined twice\n\nA table has one header. In an array of tables, each has a header `[[name]]`.\n\n    [server]\n    port = 80\n    [server]          # write its keys below the first header\n    host = \"h\"",
     ),
     (
         "redefine-as-array",
-        "a list of tables with the name of a table\n\n    [a.b]\n    [[a]]             # write [[a]] before [a.b], or use another name\n\n`[a.b]` makes `a` a table, and `[[a]]` makes it a list of tables.",
+        "an array of tables with the name of a table\n\n    [a.b]\n    [[a]]             # write [[a]] before [a.b], or use another name\n\n`[a.b]` makes `a` a table, and `[[a]]` makes it an array of tables.",
     ),
     (
         "out-of-range",
@@ -126,7 +126,7 @@ const PAGES: [(&str, &str); 25] = [
     ),
     (
         "unexpected-value",
-        "a text that is not one of the expected ones\n\n    log = \"trminal\"   # write log = \"terminal\"\n\nThe report lists the expected ones.",
+        "a string that is not an expected value\n\n    log = \"trminal\"   # write log = \"terminal\"\n\nThe report lists the expected values.",
     ),
     (
         "duplicate-name",
@@ -134,7 +134,7 @@ const PAGES: [(&str, &str); 25] = [
     ),
     (
         "newer-toml",
-        "something that TOML 1.0 lacks\n\nThe file is checked as TOML 1.0, as files named `pyproject.toml` are: pip and\nolder versions of other programs read that. TOML 1.1 added line ends, comments\nand trailing commas in inline tables, the escapes `\\e` and `\\xHH`, and times\nwithout seconds.\n\n    a = {b = 1,}      # write {b = 1}\n    c = \"\\e\\x41\"      # write \"\\u001B\\u0041\"\n    d = 07:32         # write 07:32:00\n\nWrite it as in TOML 1.0, or check with `--toml 1.1` if all programs that read\nthe file know TOML 1.1.",
+        "something that TOML 1.0 lacks\n\nThe file is checked as TOML 1.0, as files named `pyproject.toml` are: pip and\nolder versions of other programs read only that. TOML 1.1 added line ends,\ncomments and trailing commas in inline tables, the escapes `\\e` and `\\xHH`, and\ntimes without seconds.\n\n    a = {b = 1,}      # write {b = 1}\n    c = \"\\e\\x41\"      # write \"\\u001B\\u0041\"\n    d = 07:32         # write 07:32:00\n\nWrite it as in TOML 1.0, or check with `--toml 1.1` if all programs that read\nthe file know TOML 1.1.",
     ),
 ];
 

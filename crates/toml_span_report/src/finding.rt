@@ -1,7 +1,7 @@
 //! Findings: typical mistakes in a text, with what to mark and the code to write.
 ghost use Rattle.std.specs.Prelude.{◌≡◌, Some, option_map};
 ghost use Rattle.toml_span_report.specs.Finding as spec;
-ghost use Rattle.toml_span_report.specs.Finding.{code_content, finding_content, meant_content};
+ghost use Rattle.toml_span_report.specs.Finding.{code_content, finding_content, substitute_content};
 ghost use Rattle.toml_span_report.specs.Words.{texts};
 
 use crate::bytes::{Class, end_of, part};
@@ -42,18 +42,22 @@ pub(crate) struct Finding<'a> {
 
 /// What to write instead of a word or character that TOML does not have, such as `True` or a curly quote.
 #[derive(Clone, Copy)]
-pub(crate) struct Meant {
+pub(crate) struct Substitute {
     pub(crate) mistake: Mistake,
     /// The Unicode name of the character, or an empty string for a word.
     pub(crate) name: &'static str,
     pub(crate) code: &'static str,
 }
 
-/// Returns `Some` of a `Meant` with these parts.
-pub(crate) fn as_meant(mistake: Mistake, name: &'static str, code: &'static str) -> Option<Meant>
-    ensures { option_map meant_content result ≡ Some (spec.as_meant (texts mistake.entry) name.now code.now) }
+/// Returns `Some` of a `Substitute` with these parts.
+pub(crate) fn as_substitute(
+    mistake: Mistake,
+    name: &'static str,
+    code: &'static str,
+) -> Option<Substitute>
+    ensures { option_map substitute_content result ≡ Some (spec.as_substitute (texts mistake.entry) name.now code.now) }
 {
-    Some(Meant {
+    Some(Substitute {
         mistake,
         name,
         code,
@@ -97,8 +101,14 @@ pub(crate) fn span_of(start: usize, end: usize) -> Span
 }
 
 /// Returns a finding with the spans `mark` and `also`, and with `code` to write, but without a replacement.
-pub(crate) fn shown<'a>(mistake: Mistake, mark: Span, also: Span, code: Code<'a>) -> Finding<'a>
-    ensures { finding_content result ≡ spec.shown (texts mistake.entry) mark also (code_content code.entry) }
+pub(crate) fn without_replacement<'a>(
+    mistake: Mistake,
+    mark: Span,
+    also: Span,
+    code: Code<'a>,
+) -> Finding<'a>
+    ensures { finding_content result
+        ≡ spec.without_replacement (texts mistake.entry) mark also (code_content code.entry) }
 {
     Finding {
         words: words_of(mistake),
@@ -116,14 +126,14 @@ pub(crate) fn marked<'a>(mistake: Mistake, from: usize, to: usize) -> Finding<'a
     ensures { finding_content result ≡ spec.marked (texts mistake.entry) from to }
 {
     let mark = span_of(from, to);
-    shown(mistake, mark, mark, pieces("", "", ""))
+    without_replacement(mistake, mark, mark, pieces("", "", ""))
 }
 
 /// Returns a finding that marks the span `mark`, with a replacement of the span `edit` by `code`.
 pub(crate) fn mended<'a>(mistake: Mistake, mark: Span, edit: Span, code: Code<'a>) -> Finding<'a>
     ensures { finding_content result ≡ spec.mended (texts mistake.entry) mark edit (code_content code.entry) }
 {
-    let mut found = shown(mistake, mark, mark, code);
+    let mut found = without_replacement(mistake, mark, mark, code);
     found.edit = Some(edit);
     found
 }
@@ -156,8 +166,8 @@ pub(crate) fn quote_for<'a>(text: &'a str, from: usize, to: usize) -> &'a str
 
 /// Returns a finding that marks the bytes `from..to` of the text, with a replacement that puts them in quotes
 /// (`quote_for`).
-pub(crate) fn quoted<'a>(mistake: Mistake, text: &'a str, from: usize, to: usize) -> Finding<'a>
-    ensures { finding_content result ≡ spec.quoted (texts mistake.entry) text.now from to }
+pub(crate) fn in_quotes<'a>(mistake: Mistake, text: &'a str, from: usize, to: usize) -> Finding<'a>
+    ensures { finding_content result ≡ spec.in_quotes (texts mistake.entry) text.now from to }
 {
     let quote = quote_for(text, from, to);
     replaced(

@@ -8,7 +8,7 @@ ghost use Rattle.toml_span_report.specs.Report.{repair_of, report_content};
 ghost use Rattle.toml_span_report.specs.Visible.{quoted};
 
 use crate::places::line_column;
-use crate::rendering::word;
+use crate::rendering::severity_word;
 use crate::report::{Replacement, Report};
 use crate::visible::push_quoted;
 use std::alloc::{AllocError, Global};
@@ -55,7 +55,7 @@ fn push_span(out: &mut String, span: Span) -> Result<(), AllocError>
 
 /// Appends the members `line` and `column` to `out`, for the offset `at` in the source `text`.
 #[tactic(auto, unfolding(crate::specs::JsonLine::place_json))]
-fn push_place(out: &mut String, text: &str, at: usize) -> Result<(), AllocError>
+fn push_line_and_column(out: &mut String, text: &str, at: usize) -> Result<(), AllocError>
     ensures { OnOk result (string_bytes out.new ≡ string_bytes out.old ++ spec.place_json text.now at) }
 {
     let (line, column) = line_column(text, at);
@@ -69,7 +69,7 @@ fn push_spot(out: &mut String, text: &str, span: Span) -> Result<(), AllocError>
     ensures { OnOk result (string_bytes out.new ≡ string_bytes out.old ++ spec.spot_json text.now span) }
 {
     push_span(out, span)?;
-    push_place(out, text, span.start)
+    push_line_and_column(out, text, span.start)
 }
 
 /// Appends the label with these parts to `out`, as a JSON object. `text` is the source.
@@ -265,7 +265,7 @@ fn push_remarks(alloc: Global, out: &mut String, report: &Report) -> Result<(), 
     ensures { OnOk result (string_bytes out.new ≡ string_bytes out.old
         ++ spec.remarks_json (report_content report.now)) }
 {
-    push_member(alloc, out, ",\"severity\":", word(report.severity))?;
+    push_member(alloc, out, ",\"severity\":", severity_word(report.severity))?;
     push_array(alloc, out, ",\"notes\":", report.notes.as_slice())?;
     push_array(alloc, out, ",\"help\":", report.help.as_slice())
 }

@@ -4,10 +4,10 @@ ghost use Rattle.std.specs.List.{count_by, flat_map};
 ghost use Rattle.toml_span_report.specs.Many as spec;
 ghost use Rattle.toml_span_report.specs.Many.{AreReportTexts, drawn_content};
 ghost use Rattle.toml_span_report.specs.Report.{report_content};
-ghost use Rattle.toml_span_report.specs.Strips.{marked_line_of};
+ghost use Rattle.toml_span_report.specs.Strips.{strip_content};
 
 use crate::colours::Style;
-use crate::rendering::{drawn, main_strip, push_before, word};
+use crate::rendering::{drawn_report, main_strip, push_before, severity_word};
 use crate::report::{Report, Severity};
 use crate::strips::{Strip, all_strips};
 use std::alloc::{AllocError, Global};
@@ -21,8 +21,8 @@ pub(crate) struct Drawn {
 }
 
 /// Returns the offset of a strip, or 0 for `None`.
-fn place_of(strip: Option<Strip<'_>>) -> usize
-    ensures { result ≡ spec.place_of (option_map marked_line_of strip.entry) }
+fn sort_offset(strip: Option<Strip<'_>>) -> usize
+    ensures { result ≡ spec.sort_offset (option_map strip_content strip.entry) }
 {
     match strip {
         Some(strip) => strip.at,
@@ -40,11 +40,11 @@ fn draw(
     text: &str,
 ) -> Result<Drawn, AllocError>
     ensures { IfOk result (λ made. drawn_content made
-        ≡ spec.drawn style name.now text.now (report_content report.now)) }
+        ≡ spec.drawn_with_offset style name.now text.now (report_content report.now)) }
 {
     let strips = all_strips(alloc, text, report.labels.as_slice())?;
-    let at = place_of(main_strip(strips.as_slice()));
-    let text = drawn(alloc, style, report, name, strips.as_slice())?;
+    let at = sort_offset(main_strip(strips.as_slice()));
+    let text = drawn_report(alloc, style, report, name, strips.as_slice())?;
     Ok(Drawn { at, text })
 }
 
@@ -58,7 +58,7 @@ fn draw_all(
     text: &str,
 ) -> Result<Vec<Drawn>, AllocError>
     ensures { IfOk result (λ made. map drawn_content made.items
-        ≡ map (λ report. spec.drawn style name.now text.now (report_content report)) reports.now) }
+        ≡ map (λ report. spec.drawn_with_offset style name.now text.now (report_content report)) reports.now) }
 {
     let mut made = Vec::with_capacity(alloc, reports.len())?;
     for report in reports {
@@ -130,17 +130,17 @@ fn total(alloc: Global, reports: &[Report]) -> Result<String, AllocError>
     push_count(
         &mut line,
         count_of(Severity::Error, reports),
-        word(Severity::Error),
+        severity_word(Severity::Error),
     )?;
     push_count(
         &mut line,
         count_of(Severity::Warning, reports),
-        word(Severity::Warning),
+        severity_word(Severity::Warning),
     )?;
     push_count(
         &mut line,
         count_of(Severity::Note, reports),
-        word(Severity::Note),
+        severity_word(Severity::Note),
     )?;
     Ok(line)
 }

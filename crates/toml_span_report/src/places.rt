@@ -8,8 +8,8 @@ use toml_span_lex::span::Span;
 
 /// Returns the last character boundary at or before the offset `at`. Returns the length of `text` if `at` is beyond the
 /// text.
-pub(crate) fn place(text: &str, at: usize) -> usize
-    ensures value { result ≡ spec.place text.now at }
+pub(crate) fn floor_boundary(text: &str, at: usize) -> usize
+    ensures value { result ≡ spec.floor_boundary text.now at }
     ensures boundary { IsCharBoundary text.now result }
     ensures within { result ≤ at }
     ensures nearest { (i : ℕ) → i ≤ at → IsCharBoundary text.now i → i ≤ result }
@@ -18,9 +18,9 @@ pub(crate) fn place(text: &str, at: usize) -> usize
 }
 
 /// Returns the length of the byte order mark at the start of the text, or 0 if the text has no mark.
-#[tactic(auto, using(crate::proofs::PlaceLemmas::mark_boundary), unfolding(crate::specs::Places::mark_end))]
-fn mark_end(text: &str) -> usize
-    ensures value { result ≡ spec.mark_end text.now }
+#[tactic(auto, using(crate::proofs::PlaceLemmas::mark_boundary), unfolding(crate::specs::Places::bom_end))]
+fn bom_end(text: &str) -> usize
+    ensures value { result ≡ spec.bom_end text.now }
     ensures boundary { IsCharBoundary text.now result }
 {
     let bytes = text.as_bytes();
@@ -40,7 +40,7 @@ pub(crate) fn line_start(text: &str, at: usize) -> usize
     ensures within { result ≤ at }
 {
     let bytes = text.as_bytes();
-    let first = mark_end(text);
+    let first = bom_end(text);
     let mut start = at;
     while start > 0 && start != first && bytes[start - 1] != b'\n' {
         start -= 1;
@@ -113,7 +113,7 @@ pub(crate) fn span_start(text: &str, span: Span) -> usize
     ensures value { result ≡ spec.span_start text.now span }
     ensures boundary { IsCharBoundary text.now result }
 {
-    place(text, span.start).max(mark_end(text))
+    floor_boundary(text, span.start).max(bom_end(text))
 }
 
 /// Returns the end of a span, moved back to the nearest character boundary. If the span then ends with a line feed,
@@ -125,9 +125,9 @@ pub(crate) fn span_end(text: &str, span: Span) -> usize
     ensures boundary { IsCharBoundary text.now result }
     ensures forward { spec.span_start text.now span ≤ result }
 {
-    let first = mark_end(text);
-    let from = place(text, span.start).max(first);
-    let to = place(text, span.start.max(span.end)).max(first);
+    let first = bom_end(text);
+    let from = floor_boundary(text, span.start).max(first);
+    let to = floor_boundary(text, span.start.max(span.end)).max(first);
     if from < to && text.as_bytes()[to - 1] == b'\n' {
         to - 1
     } else {
@@ -141,9 +141,9 @@ pub(crate) fn span_end(text: &str, span: Span) -> usize
 /// `toml_span::line_and_byte` also counts lines and columns from 1, but columns in bytes. `Error::line_info` counts
 /// both from 0, and columns in bytes.
 pub fn line_column(text: &str, at: usize) -> (usize, usize)
-    ensures line { result.0 ≡ spec.line_number text.now (spec.place text.now at) }
-    ensures column { result.1 ≡ spec.column text.now (spec.place text.now at) }
+    ensures line { result.0 ≡ spec.line_number text.now (spec.floor_boundary text.now at) }
+    ensures column { result.1 ≡ spec.column text.now (spec.floor_boundary text.now at) }
 {
-    let at = place(text, at);
+    let at = floor_boundary(text, at);
     (line_number(text, at), column(text, at))
 }

@@ -3,11 +3,11 @@ ghost use Rattle.std.specs.Prelude.{◌≡◌, ◌++◌, IfOk, OnOk, map, None, 
 ghost use Rattle.std.specs.List.{flat_map};
 ghost use Rattle.toml_span_report.specs.Rendering as spec;
 ghost use Rattle.toml_span_report.specs.Report.{report_content};
-ghost use Rattle.toml_span_report.specs.Strips.{marked_line_of};
+ghost use Rattle.toml_span_report.specs.Strips.{strip_content};
 
 use crate::characters::{columns, push_shown, push_times, shown};
 use crate::colours::{Ink, Style, push_painted};
-use crate::places::place;
+use crate::places::floor_boundary;
 use crate::report::{Report, Severity};
 use crate::strips::{Strip, Window, all_strips, is_near, seen_in, window_of};
 use std::alloc::{AllocError, Global};
@@ -40,7 +40,7 @@ fn push_dots(out: &mut String, is_cut: bool) -> Result<(), AllocError>
 fn push_shortened(out: &mut String, text: &str) -> Result<(), AllocError>
     ensures { OnOk result (string_bytes out.new ≡ string_bytes out.old ++ spec.shortened text.now) }
 {
-    let end = place(text, 1000);
+    let end = floor_boundary(text, 1000);
     push_shown(out, &text[..end])?;
     push_dots(out, end < text.len())
 }
@@ -55,8 +55,8 @@ fn shortened(alloc: Global, text: &str) -> Result<String, AllocError>
 }
 
 /// Returns the word with which a report of this severity begins: `error`, `warning` or `note`.
-pub(crate) fn word(severity: Severity) -> &'static str
-    ensures { result.now ≡ spec.word severity }
+pub(crate) fn severity_word(severity: Severity) -> &'static str
+    ensures { result.now ≡ spec.severity_word severity }
 {
     match severity {
         Severity::Error => "error",
@@ -97,10 +97,10 @@ fn push_headline(
     report: &Report,
 ) -> Result<(), AllocError>
     ensures { OnOk result (string_bytes out.new ≡ string_bytes out.old
-        ++ spec.headline style (report_content report.now)) }
+        ++ spec.first_line style (report_content report.now)) }
 {
     let code = shortened(alloc, report.code.as_str())?;
-    let mut front = String::from_str(alloc, word(report.severity))?;
+    let mut front = String::from_str(alloc, severity_word(report.severity))?;
     push_in_brackets(&mut front, code.as_str())?;
     push_painted(out, style, ink_of(report.severity), front.as_str())?;
     let message = shortened(alloc, report.message.as_str())?;
@@ -113,7 +113,7 @@ fn push_headline(
 /// Returns the first strip of a primary label or, if no label is primary, the first strip. Returns `None` if there are
 /// no strips.
 pub(crate) fn main_strip<'a>(strips: &[Strip<'a>]) -> Option<Strip<'a>>
-    ensures { option_map marked_line_of result ≡ spec.main_part (map marked_line_of strips.now) }
+    ensures { option_map strip_content result ≡ spec.main_strip (map strip_content strips.now) }
 {
     for strip in strips {
         if strip.is_primary {
@@ -124,9 +124,9 @@ pub(crate) fn main_strip<'a>(strips: &[Strip<'a>]) -> Option<Strip<'a>>
 }
 
 /// Appends the line and column of `strip` to `out`, as `:line:column`. Appends nothing for `None`.
-fn push_place(out: &mut String, strip: Option<Strip<'_>>) -> Result<(), AllocError>
+fn push_line_and_column(out: &mut String, strip: Option<Strip<'_>>) -> Result<(), AllocError>
     ensures { OnOk result (string_bytes out.new ≡ string_bytes out.old
-        ++ spec.line_and_column (option_map marked_line_of strip.entry)) }
+        ++ spec.line_and_column (option_map strip_content strip.entry)) }
 {
     let Some(strip) = strip else {
         return Ok(());
@@ -137,7 +137,7 @@ fn push_place(out: &mut String, strip: Option<Strip<'_>>) -> Result<(), AllocErr
 
 /// Returns the number of digits of the highest line number of the strips, or 1 without strips.
 fn width_of(alloc: Global, strips: &[Strip<'_>]) -> Result<usize, AllocError>
-    ensures { IfOk result (λ width. width ≡ spec.width_of (map marked_line_of strips.now)) }
+    ensures { IfOk result (λ width. width ≡ spec.width_of (map strip_content strips.now)) }
 {
     let mut greatest = 0;
     for strip in strips {
@@ -173,7 +173,7 @@ fn push_gutter(frame: Frame, out: &mut String, number: &str) -> Result<(), Alloc
 /// Appends the source line of `strip` to `out`, with its number, and with `...` where the line is cut.
 fn push_source_line(frame: Frame, out: &mut String, strip: &Strip<'_>) -> Result<(), AllocError>
     ensures { OnOk result (string_bytes out.new ≡ string_bytes out.old
-        ++ spec.source_line frame.style frame.width (marked_line_of strip.now)) }
+        ++ spec.source_line frame.style frame.width (strip_content strip.now)) }
 {
     let number = strip.number.to_string(frame.alloc)?;
     push_gutter(frame, out, number.as_str())?;
@@ -190,7 +190,7 @@ fn push_source_line(frame: Frame, out: &mut String, strip: &Strip<'_>) -> Result
 /// Appends blanks to `out`, up to the column of the marked part, and then marks: `^` for a primary label, `-` for a
 /// secondary one. A strip has at least one mark.
 fn push_marks(alloc: Global, out: &mut String, strip: &Strip<'_>) -> Result<(), AllocError>
-    ensures { OnOk result (string_bytes out.new ≡ string_bytes out.old ++ spec.marks (marked_line_of strip.now)) }
+    ensures { OnOk result (string_bytes out.new ≡ string_bytes out.old ++ spec.marks (strip_content strip.now)) }
 {
     let mut before = String::new(alloc);
     push_dots(&mut before, strip.is_cut_before)?;
@@ -215,7 +215,7 @@ fn ink(severity: Severity, is_primary: bool) -> Ink
 /// Appends the line under the source line of `strip` to `out`: the marks, and the message of the label.
 fn push_marks_line(frame: Frame, out: &mut String, strip: &Strip<'_>) -> Result<(), AllocError>
     ensures { OnOk result (string_bytes out.new ≡ string_bytes out.old
-        ++ spec.marks_line frame.style frame.severity frame.width (marked_line_of strip.now)) }
+        ++ spec.marks_line frame.style frame.severity frame.width (strip_content strip.now)) }
 {
     push_gutter(frame, out, "")?;
     out.push_str(" ")?;
@@ -242,7 +242,7 @@ fn push_opening(
     strip: &Strip<'_>,
 ) -> Result<(), AllocError>
     ensures { OnOk result (string_bytes out.new ≡ string_bytes out.old
-        ++ spec.opening frame.style frame.width above (marked_line_of strip.now)) }
+        ++ spec.opening frame.style frame.width above (strip_content strip.now)) }
 {
     match above {
         None => {
@@ -264,7 +264,7 @@ fn push_opening(
 /// Appends the source lines and the marks of all strips to `out`.
 fn push_strips(frame: Frame, out: &mut String, strips: &[Strip<'_>]) -> Result<(), AllocError>
     ensures { OnOk result (string_bytes out.new ≡ string_bytes out.old
-        ++ spec.drawn frame.style frame.severity frame.width None (map marked_line_of strips.now)) }
+        ++ spec.source_lines frame.style frame.severity frame.width None (map strip_content strips.now)) }
 {
     let mut above = None;
     for (i, strip) in strips.iter().enumerate() {
@@ -278,16 +278,16 @@ fn push_strips(frame: Frame, out: &mut String, strips: &[Strip<'_>]) -> Result<(
 }
 
 /// Returns the first two lines of a report: the headline, and the name of the file with the line and column
-/// (`push_place`). `name` is the name of the file.
+/// (`push_line_and_column`). `name` is the name of the file.
 fn front(
     frame: Frame,
     report: &Report,
     name: &str,
     strips: &[Strip<'_>],
 ) -> Result<String, AllocError>
-    requires { frame.width ≡ spec.width_of (map marked_line_of strips.now) }
+    requires { frame.width ≡ spec.width_of (map strip_content strips.now) }
     ensures { IfOk result (λ out. string_bytes out
-        ≡ spec.front frame.style (report_content report.now) name.now (map marked_line_of strips.now)) }
+        ≡ spec.front frame.style (report_content report.now) name.now (map strip_content strips.now)) }
 {
     let mut out = String::new(frame.alloc);
     push_headline(frame.alloc, frame.style, &mut out, report)?;
@@ -296,7 +296,7 @@ fn front(
     arrow.push_str("--> ")?;
     push_painted(&mut out, frame.style, Ink::Blue, arrow.as_str())?;
     push_shortened(&mut out, name)?;
-    push_place(&mut out, main_strip(strips))?;
+    push_line_and_column(&mut out, main_strip(strips))?;
     out.push_str("\n")?;
     Ok(out)
 }
@@ -379,7 +379,7 @@ fn push_remarks(frame: Frame, out: &mut String, report: &Report) -> Result<(), A
 
 /// Returns a report as text, as `render` does. `name` is the name of the file, and `strips` are the strips of the
 /// report's labels.
-pub(crate) fn drawn(
+pub(crate) fn drawn_report(
     alloc: Global,
     style: Style,
     report: &Report,
@@ -387,7 +387,7 @@ pub(crate) fn drawn(
     strips: &[Strip<'_>],
 ) -> Result<String, AllocError>
     ensures { IfOk result (λ out. string_bytes out
-        ≡ spec.drawn_report style (report_content report.now) name.now (map marked_line_of strips.now)) }
+        ≡ spec.drawn_report style (report_content report.now) name.now (map strip_content strips.now)) }
 {
     let width = width_of(alloc, strips)?;
     let frame = Frame {
@@ -437,7 +437,7 @@ pub fn render(
         ≡ spec.report_text style (report_content report.now) name.now text.now) }
 {
     let strips = all_strips(alloc, text, report.labels.as_slice())?;
-    drawn(alloc, style, report, name, strips.as_slice())
+    drawn_report(alloc, style, report, name, strips.as_slice())
 }
 
 /// Appends `text` and then `sign` to `out`, or nothing if `text` is empty.
@@ -464,8 +464,8 @@ fn grade(severity: Severity) -> &'static str
 
 /// Returns `./` if `name` begins with `::`, or with white space and `::`, otherwise an empty string. GitHub takes an
 /// output line that begins with `::` for a workflow command.
-fn unlike_command(name: &str) -> &'static str
-    ensures { result.now ≡ spec.unlike_command name.now }
+fn path_prefix(name: &str) -> &'static str
+    ensures { result.now ≡ spec.path_prefix name.now }
 {
     if name.trim_start().as_bytes().starts_with(b"::") {
         "./"
@@ -483,11 +483,11 @@ fn brief(
     strips: &[Strip<'_>],
 ) -> Result<String, AllocError>
     ensures { IfOk result (λ out. string_bytes out
-        ≡ spec.brief (report_content report.now) name.now (map marked_line_of strips.now)) }
+        ≡ spec.brief (report_content report.now) name.now (map strip_content strips.now)) }
 {
-    let mut out = String::from_str(alloc, unlike_command(name))?;
+    let mut out = String::from_str(alloc, path_prefix(name))?;
     push_shortened(&mut out, name)?;
-    push_place(&mut out, main_strip(strips))?;
+    push_line_and_column(&mut out, main_strip(strips))?;
     out.push_str(": ")?;
     out.push_str(grade(report.severity))?;
     let code = shortened(alloc, report.code.as_str())?;

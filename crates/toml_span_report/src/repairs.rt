@@ -45,7 +45,7 @@ fn push_code(out: &mut String, joint: &str, code: &str) -> Result<(), AllocError
 
 /// Returns a list with the line of help of a finding, or an empty list if the finding has no help.
 pub(crate) fn finding_help(alloc: Global, finding: Finding<'_>) -> Result<Vec<String>, AllocError>
-    ensures { IfOk result (λ help. map string_bytes help.items ≡ spec.help (finding_content finding.entry)) }
+    ensures { IfOk result (λ help. map string_bytes help.items ≡ spec.finding_help (finding_content finding.entry)) }
 {
     let words = finding.words;
     let mut help = Vec::new(alloc);
@@ -89,7 +89,8 @@ pub(crate) fn finding_labels(
     alloc: Global,
     finding: Finding<'_>,
 ) -> Result<Vec<Label<()>>, AllocError>
-    ensures { IfOk result (λ labels. map label_content labels.items ≡ spec.labels (finding_content finding.entry)) }
+    ensures { IfOk result (λ labels. map label_content labels.items
+        ≡ spec.finding_labels (finding_content finding.entry)) }
 {
     let words = finding.words;
     let mut labels = Vec::new(alloc);
@@ -111,7 +112,7 @@ pub(crate) fn finding_repairs(
     alloc: Global,
     finding: Finding<'_>,
 ) -> Result<Vec<Replacement>, AllocError>
-    ensures { IfOk result (λ made. map repair_of made.items ≡ spec.repairs (finding_content finding.entry)) }
+    ensures { IfOk result (λ made. map repair_of made.items ≡ spec.finding_repairs (finding_content finding.entry)) }
 {
     let mut repairs = Vec::new(alloc);
     let Some(span) = finding.edit else {

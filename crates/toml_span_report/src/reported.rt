@@ -1,7 +1,7 @@
 //! Reports that outlive the source.
 ghost use Rattle.std.specs.Prelude.{IfOk, Some, map, string_bytes};
 ghost use Rattle.toml_span_report.specs.Report.{report_content};
-ghost use Rattle.toml_span_report.specs.Reported.{AreTold};
+ghost use Rattle.toml_span_report.specs.Reported.{AreReportsOfStop};
 
 use crate::colours::Style;
 use crate::errors::error_reports;
@@ -34,7 +34,7 @@ impl Reported {
         name: &str,
         text: &str,
     ) -> Result<Reported, AllocError>
-        ensures { IfOk result (λ made. AreTold style name.now text.now stop.entry
+        ensures { IfOk result (λ made. AreReportsOfStop style name.now text.now stop.entry
             (map report_content made.reports.items) (string_bytes made.text)) }
     {
         match stop {

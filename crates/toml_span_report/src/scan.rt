@@ -44,7 +44,7 @@ fn outside(text: &str, state: Open, at: usize) -> Open
         }
         b'[' | b'{' => {
             next.bracket = if state.depth == 0 { at } else { state.bracket };
-            next.depth = ahead(text, state.depth, 1);
+            next.depth = state.depth.saturating_add(1);
         }
         b']' | b'}' => next.depth = state.depth.saturating_sub(1),
         _ => (),
@@ -90,24 +90,60 @@ fn step(text: &str, state: Open, at: usize) -> Open
     }
 }
 
-/// Returns what is open before the byte at `at`, or at the end of the text if `at` is beyond it. Takes time linear in
-/// `at`.
-#[tactic(auto, unfolding(crate::specs::Scan::scanned))]
-pub(crate) fn open_before(text: &str, at: usize) -> Open
-    ensures { result ≡ spec.open_before text.now at }
+/// Returns what is open at the start of a text: nothing.
+fn nothing_open() -> Open
+    ensures { result ≡ spec.nothing_open }
 {
-    let mut state = Open {
+    Open {
         depth: 0,
         bracket: 0,
         quote: 0,
         string: 0,
         is_long: false,
         skip: 0,
-    };
+    }
+}
+
+/// Returns what is open before the byte at `at`, or at the end of the text if `at` is beyond it. Takes time linear in
+/// `at`.
+#[tactic(auto, unfolding(crate::specs::Scan::scanned))]
+pub(crate) fn open_before(text: &str, at: usize) -> Open
+    ensures { result ≡ spec.open_before text.now at }
+{
+    let mut state = nothing_open();
     for i in 0..at.min(text.len()) {
         state = step(text, state, i);
     }
     state
+}
+
+/// Returns `at` if the byte there opens a bracket or brace, with which `depth` of them are open, otherwise `bracket`.
+/// `before` and `after` are what is open before and after the byte.
+fn latest_opened(depth: usize, before: Open, after: Open, at: usize, bracket: usize) -> usize
+    ensures { result ≡ spec.latest_opened depth before after at bracket }
+{
+    if before.depth < depth && after.depth == depth {
+        at
+    } else {
+        bracket
+    }
+}
+
+/// Returns the offset of the innermost bracket or brace that is open before the byte at `at`, or 0 if no bracket is
+/// open. Takes time linear in `at`.
+#[tactic(auto, unfolding(crate::specs::Scan::scanned, crate::specs::Scan::last_opened))]
+pub(crate) fn innermost(text: &str, at: usize) -> usize
+    ensures { result ≡ spec.innermost text.now at }
+{
+    let depth = open_before(text, at).depth;
+    let mut state = nothing_open();
+    let mut bracket = 0;
+    for i in 0..at.min(text.len()) {
+        let before = state;
+        state = step(text, before, i);
+        bracket = latest_opened(depth, before, state, i, bracket);
+    }
+    bracket
 }
 
 /// Returns whether the outermost open bracket of `state` begins a table header: it is the first non-blank byte of its

@@ -4,9 +4,11 @@ ghost use Rattle.std.specs.List.{fold};
 ghost use Rattle.std.specs.Str.{IsCharBoundary};
 ghost use Rattle.toml_span_tree.specs.Diagnostic.{label_content};
 ghost use Rattle.toml_span_report.specs.Strips as spec;
-ghost use Rattle.toml_span_report.specs.Strips.{marked_line_of};
+ghost use Rattle.toml_span_report.specs.Strips.{strip_content};
 
-use crate::places::{column, line_end, line_number, line_start, place, span_end, span_start};
+use crate::places::{
+    column, floor_boundary, line_end, line_number, line_start, span_end, span_start,
+};
 use std::alloc::{AllocError, Global};
 use toml_span_tree::Label;
 
@@ -52,7 +54,7 @@ fn strip_at<'a>(
     requires from { IsCharBoundary text.now from }
     requires to { IsCharBoundary text.now to }
     requires forward { from ≤ to }
-    ensures { marked_line_of result ≡ spec.marked_line text.now from to is_primary message.now }
+    ensures { strip_content result ≡ spec.strip_at text.now from to is_primary message.now }
 {
     let start = line_start(text, from);
     let end = line_end(text, from);
@@ -74,7 +76,7 @@ fn strip_at<'a>(
 /// Returns the position of the first strip that begins after the offset `at`, or the number of strips if all begin at
 /// or before `at`.
 fn earlier(strips: &[Strip<'_>], at: usize) -> usize
-    ensures { result ≡ spec.earlier (map marked_line_of strips.now) at }
+    ensures { result ≡ spec.earlier (map strip_content strips.now) at }
 {
     for (i, strip) in strips.iter().enumerate() {
         if at < strip.at {
@@ -85,9 +87,9 @@ fn earlier(strips: &[Strip<'_>], at: usize) -> usize
 }
 
 /// Inserts `strip` into `strips`, which are sorted by their offsets. Strips at the same offset come before `strip`.
-fn place_strip<'a>(strips: &mut Vec<Strip<'a>>, strip: Strip<'a>) -> Result<(), AllocError>
-    ensures { OnOk result (map marked_line_of strips.new.items
-        ≡ spec.placed (map marked_line_of strips.old.items) (marked_line_of strip.entry)) }
+fn insert_strip<'a>(strips: &mut Vec<Strip<'a>>, strip: Strip<'a>) -> Result<(), AllocError>
+    ensures { OnOk result (map strip_content strips.new.items
+        ≡ spec.placed (map strip_content strips.old.items) (strip_content strip.entry)) }
 {
     let at = earlier(strips.as_slice(), strip.at);
     strips.insert(at, strip)?;
@@ -96,27 +98,27 @@ fn place_strip<'a>(strips: &mut Vec<Strip<'a>>, strip: Strip<'a>) -> Result<(), 
 
 /// Inserts the strips of `label` into `strips`, which are sorted by their offsets. A label has a strip on its first
 /// line and, if it ends on another line, a strip there. If an allocation fails, `strips` may lack some of them.
-fn place_label<'a, F>(
+fn insert_label<'a, F>(
     strips: &mut Vec<Strip<'a>>,
     text: &'a str,
     label: &'a Label<F>,
 ) -> Result<(), AllocError>
-    ensures { OnOk result (map marked_line_of strips.new.items
-        ≡ fold spec.placed (map marked_line_of strips.old.items)
-        (spec.marked_lines_of text.now (label_content label.now))) }
+    ensures { OnOk result (map strip_content strips.new.items
+        ≡ fold spec.placed (map strip_content strips.old.items)
+        (spec.strips_of text.now (label_content label.now))) }
 {
     let from = span_start(text, label.span);
     let to = span_end(text, label.span);
     let again = line_start(text, to);
     if again <= from {
-        place_strip(
+        insert_strip(
             strips,
             strip_at(text, from, to, label.primary, label.message.as_str()),
         )?;
         return Ok(());
     }
-    place_strip(strips, strip_at(text, from, to, label.primary, ""))?;
-    place_strip(
+    insert_strip(strips, strip_at(text, from, to, label.primary, ""))?;
+    insert_strip(
         strips,
         strip_at(text, again, to, label.primary, label.message.as_str()),
     )?;
@@ -124,18 +126,18 @@ fn place_label<'a, F>(
 }
 
 /// Returns the strips of all labels, sorted by their offsets. `text` is the source.
-#[tactic(auto, unfolding(crate::specs::Strips::all_marked_lines))]
+#[tactic(auto, unfolding(crate::specs::Strips::all_strips))]
 pub(crate) fn all_strips<'a, F>(
     alloc: Global,
     text: &'a str,
     labels: &'a [Label<F>],
 ) -> Result<Vec<Strip<'a>>, AllocError>
-    ensures { IfOk result (λ strips. map marked_line_of strips.items
-        ≡ spec.all_marked_lines text.now (map label_content labels.now)) }
+    ensures { IfOk result (λ strips. map strip_content strips.items
+        ≡ spec.all_strips text.now (map label_content labels.now)) }
 {
     let mut strips = Vec::with_capacity(alloc, labels.len())?;
     for label in labels {
-        place_label(&mut strips, text, label)?;
+        insert_label(&mut strips, text, label)?;
     }
     Ok(strips)
 }
@@ -143,14 +145,14 @@ pub(crate) fn all_strips<'a, F>(
 /// Returns whether `window` shows `strip`: the strip is on the line of the window, and begins at most 240 bytes after
 /// `window.first`.
 pub(crate) fn is_near(window: Window, strip: &Strip<'_>) -> bool
-    ensures { result ≡ spec.is_near window (marked_line_of strip.now) }
+    ensures { result ≡ spec.is_near window (strip_content strip.now) }
 {
     strip.number == window.number && strip.at.saturating_sub(window.first) <= 240
 }
 
 /// Returns `window`, widened to show those of `strips` that come before the first one that is not near (`is_near`).
 fn window_from(window: Window, strips: &[Strip<'_>]) -> Window
-    ensures { result ≡ spec.window_from window (map marked_line_of strips.now) }
+    ensures { result ≡ spec.window_from window (map strip_content strips.now) }
 {
     let mut wide = window;
     for strip in strips {
@@ -165,7 +167,7 @@ fn window_from(window: Window, strips: &[Strip<'_>]) -> Window
 /// Returns `above` if that window shows `strip` (`is_near`). Otherwise returns a new window. It shows `strip` and, of
 /// the `strips` after it, those before the first one that is not near.
 pub(crate) fn window_of(above: Option<Window>, strip: &Strip<'_>, strips: &[Strip<'_>]) -> Window
-    ensures { result ≡ spec.window_of above (marked_line_of strip.now) (map marked_line_of strips.now) }
+    ensures { result ≡ spec.window_of above (strip_content strip.now) (map strip_content strips.now) }
 {
     if let Some(window) = above {
         if is_near(window, strip) {
@@ -184,14 +186,14 @@ pub(crate) fn window_of(above: Option<Window>, strip: &Strip<'_>, strips: &[Stri
 /// in the window, and ends 160 bytes after the start of the last one. Both ends are moved back to character boundaries.
 #[tactic(auto, unfolding(crate::specs::Strips::seen_in))]
 pub(crate) fn seen_in<'a>(window: Window, strip: &Strip<'a>) -> Strip<'a>
-    ensures { marked_line_of result ≡ spec.seen_in window (marked_line_of strip.now) }
+    ensures { strip_content result ≡ spec.seen_in window (strip_content strip.now) }
 {
     let shift = strip.at.saturating_sub(window.first);
     let hidden = strip.before.len().saturating_sub(shift).saturating_sub(80);
     let room = window.last.saturating_sub(strip.at).min(240) + 160;
-    let left = place(strip.before, hidden);
-    let marked = place(strip.marked, room);
-    let after = place(strip.after, room.saturating_sub(strip.marked.len()));
+    let left = floor_boundary(strip.before, hidden);
+    let marked = floor_boundary(strip.marked, room);
+    let after = floor_boundary(strip.after, room.saturating_sub(strip.marked.len()));
     Strip {
         at: strip.at,
         number: strip.number,

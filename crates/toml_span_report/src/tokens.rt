@@ -4,7 +4,7 @@ ghost use Rattle.std.specs.Str.{IsCharBoundary};
 ghost use Rattle.toml_span_tree.specs.Error.{kind_of};
 ghost use Rattle.toml_span_report.specs.Tokens as spec;
 
-use crate::places::{line_end, place};
+use crate::places::{floor_boundary, line_end};
 use std::alloc::{AllocError, Global};
 use toml_span_lex::span::Span;
 use toml_span_lex::stop::Stop;
@@ -13,7 +13,7 @@ use toml_span_lex::tokenizer::token_at;
 use toml_span_tree::ErrorKind;
 
 /// Returns the end of the token that begins at the offset `at`, or `None` if no token begins there.
-fn token_after(alloc: Global, text: &str, at: usize) -> Result<Option<usize>, AllocError>
+fn token_end(alloc: Global, text: &str, at: usize) -> Result<Option<usize>, AllocError>
     requires { IsCharBoundary text.now at }
     ensures { IfOk result (λ found. spec.FindsToken text.now at found) }
 {
@@ -37,11 +37,11 @@ fn token_after(alloc: Global, text: &str, at: usize) -> Result<Option<usize>, Al
 
 /// Returns the end of the token that begins at the offset `at`, or the end of its line if that comes first. Returns
 /// `at` if no token begins there.
-fn marks_end(alloc: Global, text: &str, at: usize) -> Result<usize, AllocError>
+fn token_mark_end(alloc: Global, text: &str, at: usize) -> Result<usize, AllocError>
     requires { IsCharBoundary text.now at }
     ensures { IfOk result (λ end. spec.MarksToken text.now at end) }
 {
-    match token_after(alloc, text, at)? {
+    match token_end(alloc, text, at)? {
         Some(end) => Ok(end.min(line_end(text, at))),
         None => Ok(at),
     }
@@ -67,7 +67,6 @@ fn is_at_token(kind: &ErrorKind<'_>, span: Span) -> bool
         ErrorKind::Wanted { found, .. } => {
             names_token(found) && span.end.saturating_sub(span.start) == found.len()
         }
-        ErrorKind::MultilineStringKey => true,
         _ => false,
     }
 }
@@ -79,7 +78,7 @@ fn is_at_token(kind: &ErrorKind<'_>, span: Span) -> bool
 fn table_mark(text: &str, span: Span) -> Span
     ensures { result ≡ spec.table_mark text.now span }
 {
-    let at = place(text, span.start);
+    let at = floor_boundary(text, span.start);
     let bytes = text.as_bytes();
     let end = if span.start == 0 && span.end == bytes.len() {
         0
@@ -105,7 +104,7 @@ pub(crate) fn marked_span(
     ensures { IfOk result (λ marked. spec.IsMarked text.now (kind_of kind.now) span marked) }
 {
     if is_at_token(kind, span) {
-        let end = marks_end(alloc, text, place(text, span.start))?;
+        let end = token_mark_end(alloc, text, floor_boundary(text, span.start))?;
         return Ok(Span {
             start: span.start,
             end,

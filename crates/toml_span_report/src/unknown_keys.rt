@@ -85,12 +85,12 @@ pub(crate) fn unknown_keys(alloc: Global, names: &[&str]) -> Result<String, Allo
     Ok(out)
 }
 
-/// Returns a note that lists the expected keys `names`, or says that no key is expected if `names` is empty.
+/// Returns a note that lists the expected keys `names`, or says that the table can't have keys if `names` is empty.
 pub(crate) fn what_is_expected(alloc: Global, names: &[&str]) -> Result<String, AllocError>
     ensures { IfOk result (λ out. string_bytes out ≡ spec.what_is_expected (map (λ name. name.now) names.now)) }
 {
     if names.is_empty() {
-        return String::from_str(alloc, "no key is expected");
+        return String::from_str(alloc, "this table can't have keys");
     }
     let mut out = String::from_str(alloc, "expected ")?;
     push_listed(&mut out, names)?;

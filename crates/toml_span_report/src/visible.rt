@@ -28,7 +28,7 @@ fn push_digit(out: &mut String, digit: u32) -> Result<(), AllocError>
 /// Appends `\u` and the four hexadecimal digits of `code`, which is below 2^16, to `out`.
 fn push_code(out: &mut String, code: u32) -> Result<(), AllocError>
     requires { code < 65536 }
-    ensures { OnOk result (string_bytes out.new ≡ string_bytes out.old ++ spec.escape code) }
+    ensures { OnOk result (string_bytes out.new ≡ string_bytes out.old ++ spec.unicode_escape code) }
 {
     out.push_str("\\u")?;
     push_digit(out, code / 4096)?;

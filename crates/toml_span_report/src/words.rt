@@ -56,10 +56,10 @@ macro_rules! flag {
 }
 
 /// Expands to a `Mistake`. The arguments are the headline and the other fields of `Words` that are not empty, in their
-/// order. `code:` sets the field `joint`.
+/// order.
 macro_rules! words {
     ($headline:literal $(, label: $label:literal)? $(, also: $also:literal)? $(, help: $help:literal)?
-        $(, code: $joint:literal)? $(, is_safe: $safe:literal)?) => {
+        $(, joint: $joint:literal)? $(, is_safe: $safe:literal)?) => {
         ($headline, text!($($label)?), text!($($also)?), text!($($help)?), text!($($joint)?), flag!($($safe)?))
     };
 }
@@ -67,17 +67,17 @@ macro_rules! words {
 // ---- values
 
 pub(crate) const UNQUOTED: Mistake = words!(
-    "this value needs quotes", help: "put it in quotes", code: ": ", is_safe: true
+    "this value needs quotes", help: "put it in quotes", joint: ": ", is_safe: true
 );
 
 pub(crate) const UNQUOTED_TEXT: Mistake =
     words!("this value needs quotes", help: "put all of it in quotes");
 
 pub(crate) const UPPER_BOOLEAN: Mistake =
-    words!("booleans are lowercase", help: "write", code: " ", is_safe: true);
+    words!("booleans are lowercase", help: "write", joint: " ", is_safe: true);
 
 pub(crate) const OTHER_BOOLEAN: Mistake = words!(
-    "this is not a boolean", label: "booleans are `true` and `false`", help: "write", code: " "
+    "this is not a boolean", label: "booleans are `true` and `false`", help: "write", joint: " "
 );
 
 pub(crate) const NEAR_TRUE: Mistake = words!(
@@ -91,41 +91,41 @@ pub(crate) const NEAR_FALSE: Mistake = words!(
 pub(crate) const NULL: Mistake = words!("TOML has no null", help: "leave the key out");
 
 pub(crate) const OTHER_FLOAT: Mistake = words!(
-    "this is not a float", label: "special floats are `inf` and `nan`", help: "write", code: " ", is_safe: true
+    "this is not a float", label: "special floats are `inf` and `nan`", help: "write", joint: " ", is_safe: true
 );
 
 pub(crate) const PREFIXED: Mistake =
-    words!("strings have no prefix", help: "remove the prefix", code: ": ");
+    words!("strings have no prefix", help: "remove the prefix", joint: ": ");
 
 pub(crate) const RAW_STRING: Mistake = words!(
-    "strings have no prefix", help: "use single quotes for a raw string", code: ": "
+    "strings have no prefix", help: "use single quotes for a raw string", joint: ": "
 );
 
 pub(crate) const VALUE_BELOW: Mistake = words!(
-    "a value must be on the same line as `=`", label: "expected a value here", help: "write", code: " "
+    "a value must be on the same line as `=`", label: "expected a value here", help: "write", joint: " "
 );
 
 pub(crate) const HASH_VALUE: Mistake = words!(
-    "`#` begins a comment", help: "put the value in quotes", code: ": "
+    "`#` begins a comment", help: "put the value in quotes", joint: ": "
 );
 
-pub(crate) const NO_VALUE_BEHIND: Mistake = words!(
+pub(crate) const NO_VALUE_AFTER_EQUALS: Mistake = words!(
     "this key has no value", label: "expected a value on this line",
     help: "write a value, or remove the line"
 );
 
-pub(crate) const FLOAT_DUE: Mistake = words!("", help: "write", code: " ", is_safe: true);
+pub(crate) const FLOAT_EXPECTED: Mistake = words!("", help: "write", joint: " ", is_safe: true);
 
-pub(crate) const STRING_DUE: Mistake = words!("", help: "put it in quotes", code: ": ");
+pub(crate) const STRING_EXPECTED: Mistake = words!("", help: "put it in quotes", joint: ": ");
 
 // ---- signs, quotes and comments of other languages
 
 pub(crate) const BACKTICKS: Mistake = words!(
-    "backticks do not quote strings", help: "use double quotes", code: ": ", is_safe: true
+    "backticks do not quote strings", help: "use double quotes", joint: ": ", is_safe: true
 );
 
 pub(crate) const CURLY_QUOTES: Mistake = words!(
-    "strings need straight quotes", help: "use double quotes", code: ": ", is_safe: true
+    "strings need straight quotes", help: "use double quotes", joint: ": ", is_safe: true
 );
 
 pub(crate) const OTHER_SPACE: Mistake = words!(
@@ -136,11 +136,11 @@ pub(crate) const INVISIBLE: Mistake =
     words!("this character is invisible", help: "remove it", is_safe: true);
 
 pub(crate) const OTHER_SIGN: Mistake = words!(
-    "this only looks like an ASCII character", help: "write", code: " "
+    "this only looks like an ASCII character", help: "write", joint: " "
 );
 
 pub(crate) const PARENTHESES: Mistake = words!(
-    "arrays have brackets, not parentheses", help: "write an array", code: ": "
+    "arrays use brackets, not parentheses", help: "write an array", joint: ": "
 );
 
 pub(crate) const CONFLICT: Mistake = words!(
@@ -163,7 +163,7 @@ pub(crate) const BLOCK_COMMENT: Mistake = words!(
 );
 
 pub(crate) const COMMENT_LINE: Mistake =
-    words!("TOML has no block comments", help: "write", code: " ", is_safe: true);
+    words!("TOML has no block comments", help: "write", joint: " ", is_safe: true);
 
 pub(crate) const SEMICOLON: Mistake =
     words!("lines do not end with a semicolon", help: "remove it", is_safe: true);
@@ -176,27 +176,27 @@ pub(crate) const LONE_RETURN: Mistake = words!(
 
 pub(crate) const BARE_KEY: Mistake = words!(
     "this key needs quotes", label: "bare keys contain only A-Z, a-z, 0-9, `_` and `-`",
-    help: "put it in quotes", code: ": ", is_safe: true
+    help: "put it in quotes", joint: ": ", is_safe: true
 );
 
 pub(crate) const EQUALS: Mistake = words!(
-    "a key and its value are separated by one `=`", help: "write", code: " ", is_safe: true
+    "a key and its value are separated by one `=`", help: "write", joint: " ", is_safe: true
 );
 
 pub(crate) const COLON_EQUALS: Mistake = words!(
-    "TOML writes `key = value`, not `key := value`", help: "write", code: " ", is_safe: true
+    "TOML writes `key = value`, not `key := value`", help: "write", joint: " ", is_safe: true
 );
 
 pub(crate) const ARROW: Mistake = words!(
-    "TOML writes `key = value`, not `key => value`", help: "write", code: " ", is_safe: true
+    "TOML writes `key = value`, not `key => value`", help: "write", joint: " ", is_safe: true
 );
 
 pub(crate) const COLON: Mistake = words!(
-    "TOML writes `key = value`, not `key: value`", help: "write", code: " ", is_safe: true
+    "TOML writes `key = value`, not `key: value`", help: "write", joint: " ", is_safe: true
 );
 
 pub(crate) const NO_EQUALS: Mistake = words!(
-    "`=` is missing between this key and its value", help: "write", code: " ", is_safe: true
+    "`=` is missing between this key and its value", help: "write", joint: " ", is_safe: true
 );
 
 pub(crate) const NO_VALUE: Mistake =
@@ -218,34 +218,35 @@ pub(crate) const NO_NAME: Mistake = words!(
 );
 
 pub(crate) const LONG_KEY: Mistake = words!(
-    "keys have no multiline strings", help: "use one quote on each side of the key"
+    "keys can't be multiline strings", help: "use one quote on each side of the key"
 );
 
 pub(crate) const OPEN_KEY: Mistake =
-    words!("this key is not closed", help: "close it after the key", code: ": ");
+    words!("this key is not closed", help: "close it after the key", joint: ": ");
 
 // ---- other formats
 
 pub(crate) const YAML_TABLE: Mistake = words!(
-    "this looks like YAML, not TOML", help: "begin a table with a header", code: ": "
+    "this looks like YAML, not TOML", help: "begin a table with a header", joint: ": "
 );
 
 pub(crate) const YAML_LIST: Mistake =
-    words!("this looks like YAML, not TOML", help: "write an array", code: ": ");
+    words!("this looks like YAML, not TOML", help: "write an array", joint: ": ");
 
 pub(crate) const YAML_ITEM: Mistake = words!(
     "this looks like YAML, not TOML",
-    help: "begin each table in an array with `[[name]]`, and below it write", code: " "
+    help: "begin each table in an array with `[[name]]`, then write", joint: " "
 );
 
 pub(crate) const YAML_ITEMS: Mistake = words!(
-    "this looks like YAML, not TOML", help: "begin each table in an array with", code: " "
+    "this looks like YAML, not TOML", help: "begin each table in an array with", joint: " "
 );
 
 pub(crate) const DOCUMENT_MARKER: Mistake =
     words!("this looks like YAML, not TOML", help: "remove this line");
 
-pub(crate) const JSON: Mistake = words!("this looks like JSON, not TOML", help: "write", code: " ");
+pub(crate) const JSON: Mistake =
+    words!("this looks like JSON, not TOML", help: "write", joint: " ");
 
 pub(crate) const JSON_DOCUMENT: Mistake = words!(
     "this looks like JSON, not TOML",
@@ -253,11 +254,11 @@ pub(crate) const JSON_DOCUMENT: Mistake = words!(
 );
 
 pub(crate) const BRACE_HEADER: Mistake = words!(
-    "table headers have brackets, not braces", help: "write", code: " "
+    "table headers use brackets, not braces", help: "write", joint: " "
 );
 
 pub(crate) const TEMPLATE: Mistake = words!(
-    "this is a template placeholder", help: "fill it in, or put it in quotes", code: ": "
+    "this is a template placeholder", help: "fill it in, or put it in quotes", joint: ": "
 );
 
 pub(crate) const TEMPLATE_LINE: Mistake = words!(
@@ -289,22 +290,22 @@ pub(crate) const OPEN_TABLE: Mistake = words!(
 );
 
 pub(crate) const CLOSED_BY_BRACE: Mistake = words!(
-    "this array is closed with a brace", also: "the array begins here", help: "write", code: " "
+    "this array is closed with a brace", also: "the array begins here", help: "write", joint: " "
 );
 
 pub(crate) const CLOSED_BY_BRACKET: Mistake = words!(
-    "this inline table is closed with a bracket", also: "the table begins here", help: "write", code: " "
+    "this inline table is closed with a bracket", also: "the table begins here", help: "write", joint: " "
 );
 
 pub(crate) const EXTRA_CLOSING: Mistake =
     words!("there is nothing for this bracket to close", help: "remove it");
 
 pub(crate) const ARRAY_ALONE: Mistake = words!(
-    "a header names one table", help: "give an array a key: `key = [\"a\", \"b\"]`"
+    "an array needs a key", help: "write `key = [\"a\", \"b\"]`"
 );
 
 pub(crate) const OPEN_HEADER: Mistake = words!(
-    "this header is not closed", help: "close it with `]` on the same line", code: ": ", is_safe: true
+    "this header is not closed", help: "close it with `]` on the same line", joint: ": ", is_safe: true
 );
 
 pub(crate) const HEADER_BRACKET: Mistake = words!(
@@ -320,7 +321,7 @@ pub(crate) const SECOND_KEY: Mistake = words!(
     "this line has two keys", help: "begin a new line before the second key", is_safe: true
 );
 
-pub(crate) const COMMA_BEHIND_VALUE: Mistake = words!(
+pub(crate) const COMMA_AFTER_VALUE: Mistake = words!(
     "this line has two keys", help: "replace the comma with a new line", is_safe: true
 );
 
@@ -329,20 +330,20 @@ pub(crate) const KEY_AFTER_HEADER: Mistake = words!(
 );
 
 pub(crate) const VALUE_OF_HEADER: Mistake = words!(
-    "a header can't have a value", help: "write a key without brackets", code: ": "
+    "a header can't have a value", help: "write a key without brackets", joint: ": "
 );
 
 pub(crate) const QUOTE_IN_STRING: Mistake = words!(
-    "the string ends at an inner quote", help: "use the other quotes around it", code: ": "
+    "the string ends at an inner quote", help: "use the other kind of quotes", joint: ": "
 );
 
 pub(crate) const JOINED: Mistake = words!("strings can't be joined", help: "write one string");
 
 pub(crate) const HALF_DAY: Mistake =
-    words!("times have no AM and PM", help: "use a 24-hour time", code: ": ");
+    words!("times have no AM or PM", help: "use a 24-hour time", joint: ": ");
 
 pub(crate) const ZONE_NAME: Mistake =
-    words!("offsets are written as `Z` or `+01:00`", help: "write", code: " ");
+    words!("offsets are written as `Z` or `+01:00`", help: "write", joint: " ");
 
 pub(crate) const AFTER_VALUE: Mistake = words!(
     "expected the end of the line", label: "only a comment can follow here"
@@ -351,32 +352,33 @@ pub(crate) const AFTER_VALUE: Mistake = words!(
 // ---- numbers
 
 pub(crate) const LEADING_POINT: Mistake = words!(
-    "a float needs a digit before the point", help: "write", code: " ", is_safe: true
+    "a float needs a digit before the point", help: "write", joint: " ", is_safe: true
 );
 
 pub(crate) const TRAILING_POINT: Mistake = words!(
-    "a float needs a digit after the point", help: "write", code: " ", is_safe: true
+    "a float needs a digit after the point", help: "write", joint: " ", is_safe: true
 );
 
 pub(crate) const THOUSANDS: Mistake =
-    words!("digits are not grouped by commas", help: "write", code: " ");
+    words!("digits can't be grouped with commas", help: "write", joint: " ");
 
 pub(crate) const LEADING_ZERO: Mistake =
-    words!("numbers have no leading zeros", help: "write", code: " ");
+    words!("numbers can't have leading zeros", help: "write", joint: " ");
 
-pub(crate) const OCTAL: Mistake = words!("octal numbers begin with `0o`", help: "write", code: " ");
+pub(crate) const OCTAL: Mistake =
+    words!("octal numbers begin with `0o`", help: "write", joint: " ");
 
 pub(crate) const UPPER_PREFIX: Mistake = words!(
-    "the prefix of a number is lowercase", help: "write", code: " ", is_safe: true
+    "number prefixes are lowercase", help: "write", joint: " ", is_safe: true
 );
 
 pub(crate) const OTHER_DIGIT: Mistake = words!("this number has an invalid digit");
 
 pub(crate) const SIGNS: Mistake =
-    words!("a number can have only one sign", help: "write", code: " ");
+    words!("a number can have only one sign", help: "write", joint: " ");
 
 pub(crate) const UNDERSCORE: Mistake = words!(
-    "each `_` in a number needs a digit on both sides", help: "write", code: " ", is_safe: true
+    "each `_` in a number needs a digit on both sides", help: "write", joint: " ", is_safe: true
 );
 
 pub(crate) const MISPLACED: Mistake = words!("each `_` in a number needs a digit on both sides");
@@ -389,7 +391,7 @@ pub(crate) const NO_EXPONENT: Mistake =
 pub(crate) const SIGNED_PREFIX: Mistake = words!("only decimal numbers can have a sign");
 
 pub(crate) const SIGNED_DECIMAL: Mistake = words!(
-    "only decimal numbers can have a sign", help: "write", code: " "
+    "only decimal numbers can have a sign", help: "write", joint: " "
 );
 
 pub(crate) const TOO_LARGE: Mistake = words!(
@@ -401,11 +403,11 @@ pub(crate) const TOO_LARGE: Mistake = words!(
 // ---- dates and times
 
 pub(crate) const SLASH_DATE: Mistake = words!(
-    "dates are written as year-month-day", help: "if the month comes first, write", code: " "
+    "dates are written as year-month-day", help: "if the month comes first, write", joint: " "
 );
 
 pub(crate) const SHORT_DATE: Mistake =
-    words!("months and days have two digits", help: "write", code: " ", is_safe: true);
+    words!("months and days have two digits", help: "write", joint: " ", is_safe: true);
 
 pub(crate) const NO_MONTH: Mistake = words!(
     "this month does not exist", label: "months are 01 to 12, days at most 31"
@@ -416,10 +418,10 @@ pub(crate) const NO_DAY: Mistake = words!("this month does not have this day");
 pub(crate) const NO_TIME: Mistake = words!("this time does not exist", label: "hours are 00 to 23");
 
 pub(crate) const OFFSET: Mistake =
-    words!("an offset needs a colon", help: "write", code: " ", is_safe: true);
+    words!("an offset needs a colon", help: "write", joint: " ", is_safe: true);
 
 pub(crate) const DATETIME: Mistake =
-    words!("", help: "a date is like `2026-01-31`, a time like `07:32:00`");
+    words!("", help: "write dates like `2026-01-31` and times like `07:32:00`");
 
 // ---- strings
 
@@ -438,14 +440,14 @@ pub(crate) const OPEN_LONG_LITERAL: Mistake =
     words!("this string is not closed", help: "close it with `'''`");
 
 pub(crate) const CONTROL: Mistake =
-    words!("control characters must be escaped", help: "write", code: " ", is_safe: true);
+    words!("control characters must be escaped", help: "write", joint: " ", is_safe: true);
 
 pub(crate) const CONTROL_IN_LITERAL: Mistake = words!(
-    "control characters must be escaped", help: "use a string in double quotes, and an escape as `\\u0001`"
+    "control characters must be escaped", help: "use a string in double quotes, with an escape such as `\\u0001`"
 );
 
 pub(crate) const BACKSLASH: Mistake = words!(
-    "invalid escape sequence", help: "double every backslash, or use single quotes", code: ": "
+    "invalid escape sequence", help: "double every backslash, or use single quotes", joint: ": "
 );
 
 pub(crate) const BACKSLASH_IN_LONG: Mistake = words!(
@@ -453,7 +455,7 @@ pub(crate) const BACKSLASH_IN_LONG: Mistake = words!(
 );
 
 pub(crate) const SHORT_ESCAPE: Mistake =
-    words!("this escape has too few digits", help: "write", code: " ");
+    words!("this escape has too few digits", help: "write", joint: " ");
 
 pub(crate) const SURROGATE: Mistake = words!(
     "this escape is a surrogate, not a character",
@@ -468,17 +470,17 @@ pub(crate) const NO_CHARACTER: Mistake = words!(
 
 pub(crate) const TABLE_TWICE: Mistake = words!(
     "", label: "duplicate table", also: "first table instance",
-    help: "merge the two tables, or write both headers as", code: " "
+    help: "merge the two tables, or write both headers as", joint: " "
 );
 
 pub(crate) const ARRAY_OF_TABLE: Mistake = words!(
     "this is already a table, not an array of tables", also: "table defined here",
-    help: "write the first header as", code: " "
+    help: "write the first header as", joint: " "
 );
 
 pub(crate) const TABLE_OF_ARRAY: Mistake = words!(
     "this is already an array of tables, not a table", also: "array of tables begins here",
-    help: "to add a table to it, write", code: " "
+    help: "to add a table to it, write", joint: " "
 );
 
 pub(crate) const ARRAY_AFTER_TABLE: Mistake =
@@ -486,12 +488,12 @@ pub(crate) const ARRAY_AFTER_TABLE: Mistake =
 
 pub(crate) const CLOSED_TABLE: Mistake = words!(
     "an inline table can't be extended", label: "this extends the table", also: "inline table defined here",
-    help: "write the key inside its braces", code: ": "
+    help: "write the key inside its braces", joint: ": "
 );
 
 pub(crate) const CLOSED_TABLE_HEADER: Mistake = words!(
     "an inline table can't be extended", label: "this extends the table", also: "inline table defined here",
-    help: "write it inside the braces", code: ": "
+    help: "write it inside the braces", joint: ": "
 );
 
 pub(crate) const CLOSED_ARRAY: Mistake = words!(

@@ -4,7 +4,7 @@ use Rattle.std.specs.Prelude.{slice_index, Option, Some, None, if◌then◌else�
 use Rattle.toml_span_lex.specs.declared.span.Span.{Span}
 use Rattle.toml_span_report.specs.Bytes.{ahead, begins, byte_after, end_of, first_of_line, last_of_line, part}
 use Rattle.toml_span_report.specs.Bytes.{start_of}
-use Rattle.toml_span_report.specs.Finding.{CodeContent, FindingContent, pieces, shown, six, span_of}
+use Rattle.toml_span_report.specs.Finding.{CodeContent, FindingContent, pieces, without_replacement, six, span_of}
 use Rattle.toml_span_report.specs.found.Numbers.{after_sign}
 use Rattle.toml_span_report.specs.declared.bytes.Class.TheVariants as class
 use Rattle.toml_span_report.specs.Words.{said}
@@ -25,12 +25,14 @@ table_twice text span first =
     let header = part text span.start end in
     let as_element = pieces (codes "[") header (codes "]") in
     if is_array && not was_array
-    then record (shown (said ARRAY_OF_TABLE) span first (pieces header [] [])) {
+    then record (without_replacement (said ARRAY_OF_TABLE) span first (pieces header [] [])) {
       edit = Some (span_of first.start (header_end text first.start));
     }
     else if was_array && not is_array
-    then record (shown (said TABLE_OF_ARRAY) span first as_element) { edit = Some (span_of span.start end) }
-    else shown (said TABLE_TWICE) span first as_element
+    then record (without_replacement (said TABLE_OF_ARRAY) span first as_element) {
+      edit = Some (span_of span.start end);
+    }
+    else without_replacement (said TABLE_TWICE) span first as_element
 
 -- the offset of the value whose key ends at `end` or, without `=` after the key, of the first non-blank byte after the
 -- key
@@ -40,8 +42,8 @@ value_at text end =
     if slice_index text equals == 61 then end_of class.Blank text (ahead text equals 1) else equals
 
 -- the label for a value that is not a table
-unfoldable pub no_table : List ℕ → ℕ → List ℕ
-no_table text at =
+unfoldable pub kind_label : List ℕ → ℕ → List ℕ
+kind_label text at =
     let first = slice_index text at in
     let next = slice_index text (end_of class.Grouped text (after_sign text at)) in
     if first == 34 || first == 39 then codes "this is a string, not a table"
@@ -80,20 +82,22 @@ body text end =
     then part text start last
     else codes ".."
 
--- the assignment to write in an inline table instead of a header that goes through the table
+-- the assignment to write in an inline table instead of a header that goes through the table: a table or, for a header
+-- in double brackets, an array of one table
 unfoldable pub subtable : List ℕ → ℕ → CodeContent
 subtable text end =
     let dot = end_of class.Blank text end in
+    let name = end_of class.Blank text (ahead text dot 1) in
     let last = last_of_line text end in
-    let close = last - 1 in
-    if not (slice_index text dot == 46) || not (slice_index text close == 93) then pieces [] [] []
-    else six (part text (end_of class.Blank text (ahead text dot 1)) close) (codes " = {") (body text last) (codes "}")
-    [] []
+    if not (slice_index text dot == 46) || not (slice_index text (last - 1) == 93) then pieces [] [] []
+    else if begins text (last - 2) (codes "]]")
+    then six (part text name (last - 2)) (codes " = [{") (body text last) (codes "}]") [] []
+    else six (part text name (last - 1)) (codes " = {") (body text last) (codes "}") [] []
 
 abbrev pub through_other : List ℕ → Span → Span → FindingContent
 through_other text span first =
-    record (shown (said THROUGH_VALUE) span first (pieces [] [] [])) {
-      words = record (said THROUGH_VALUE) { also = no_table text (value_at text first.end) };
+    record (without_replacement (said THROUGH_VALUE) span first (pieces [] [] [])) {
+      words = record (said THROUGH_VALUE) { also = kind_label text (value_at text first.end) };
     }
 
 unfoldable pub through_value : List ℕ → Span → Span → Option FindingContent
@@ -102,11 +106,12 @@ through_value text span first =
     let byte = slice_index text value in
     let line = first_of_line text span.start in
     if byte == 123 && slice_index text line == 91
-    then Some (shown (said CLOSED_TABLE_HEADER) span first (subtable text span.end))
-    else if byte == 123 then Some (shown (said CLOSED_TABLE) span first (extended text first.end value line))
+    then Some (without_replacement (said CLOSED_TABLE_HEADER) span first (subtable text span.end))
+    else if byte == 123
+    then Some (without_replacement (said CLOSED_TABLE) span first (extended text first.end value line))
     else if byte == 91 && begins text line (codes "[[")
-    then Some (shown (said CLOSED_ARRAY) span first (pieces [] [] []))
-    else if byte == 46 then Some (shown (said DOTTED_TABLE) span first (pieces [] [] []))
+    then Some (without_replacement (said CLOSED_ARRAY) span first (pieces [] [] []))
+    else if byte == 46 then Some (without_replacement (said DOTTED_TABLE) span first (pieces [] [] []))
     else if byte == 0 || byte == 93 then None
     else Some (through_other text span first)
 

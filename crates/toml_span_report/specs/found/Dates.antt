@@ -43,8 +43,8 @@ is_past text at tens ones =
     || (slice_index text at == tens && nat_lt ones (slice_index text (ahead text at 1)))
 
 -- Whether the number of two digits is divisible by four: ten is 2 modulo 4, and the code of `0`, 48, is 0 modulo 4.
-abbrev pub is_fourth : List ℕ → ℕ → Bool
-is_fourth text at = (2 * slice_index text at + slice_index text (ahead text at 1)) % 4 == 0
+abbrev pub is_multiple_of_four : List ℕ → ℕ → Bool
+is_multiple_of_four text at = (2 * slice_index text at + slice_index text (ahead text at 1)) % 4 == 0
 
 -- the message with the length of a month other than February, or None for any other text
 abbrev pub days_of : List ℕ → Option (List ℕ)
@@ -60,7 +60,7 @@ month_length text year month =
     let century = if begins text years (codes "00") then year else years in
     if begins text month (codes "02")
     then pieces (codes "February ") (part text year (ahead text year 4))
-    (if is_fourth text century then codes " has 29 days" else codes " has 28 days")
+    (if is_multiple_of_four text century then codes " has 29 days" else codes " has 28 days")
     else month_named (days_of (part text month (ahead text month 2)))
 
 unfoldable pub time : List ℕ → ℕ → ℕ → ℕ → FindingContent

@@ -5,8 +5,8 @@ use Rattle.std.specs.Str.{bytes_eq}
 use Rattle.toml_span_report.specs.Bytes.{ahead, begins, byte_before, byte_after, end_of, first_of_line, is_last}
 use Rattle.toml_span_report.specs.Bytes.{last_of_line, part, start_of}
 use Rattle.toml_span_lex.specs.declared.span.Span.{Span}
-use Rattle.toml_span_report.specs.Finding.{CodeContent, FindingContent, MeantContent, marked, mended, pieces, quote_for}
-use Rattle.toml_span_report.specs.Finding.{quoted, removed, replaced, shown, six, span_of}
+use Rattle.toml_span_report.specs.Finding.{CodeContent, FindingContent, SubstituteContent, marked, mended, pieces}
+use Rattle.toml_span_report.specs.Finding.{quote_for, in_quotes, removed, replaced, without_replacement, six, span_of}
 use Rattle.toml_span_report.specs.found.Dates.{is_date}
 use Rattle.toml_span_report.specs.found.Numbers.{after_sign}
 use Rattle.toml_span_report.specs.found.Values.{known_word, phrase_end}
@@ -30,7 +30,7 @@ header_key text at =
     let end = end_of class.Header text at in
     let to = start_of class.Blank text end in
     if nat_lt from to && (slice_index text end == 46 || slice_index text end == 93)
-    then Some (quoted (said BARE_KEY) text from to)
+    then Some (in_quotes (said BARE_KEY) text from to)
     else None
 
 unfoldable pub other_key : List ℕ → ℕ → Option FindingContent
@@ -38,7 +38,7 @@ other_key text at =
     let from = start_of class.Name text at in
     let to = end_of class.Name text at in
     if nat_lt from to && (byte_after text to == 61 || byte_after text to == 46)
-    then Some (quoted (said BARE_KEY) text from to)
+    then Some (in_quotes (said BARE_KEY) text from to)
     else None
 
 -- the start of the key that ends at `end`, and the end of the value at `at`
@@ -83,12 +83,12 @@ is_value text at end =
 abbrev pub doubtful : WordsContent → Span → Span → CodeContent → FindingContent
 doubtful words mark edit code = mended (record words { is_safe = false }) mark edit code
 
-abbrev pub known_pair : WordsContent → List ℕ → Span → Span → ℕ → MeantContent → FindingContent
+abbrev pub known_pair : WordsContent → List ℕ → Span → Span → ℕ → SubstituteContent → FindingContent
 known_pair mistake key mark edit at known =
     if length known.code == 0 then marked known.mistake at edit.end
     else doubtful mistake mark edit (pieces key (codes " = ") known.code)
 
-abbrev pub with_word : WordsContent → List ℕ → List ℕ → Span → Span → ℕ → Option MeantContent → FindingContent
+abbrev pub with_word : WordsContent → List ℕ → List ℕ → Span → Span → ℕ → Option SubstituteContent → FindingContent
 with_word mistake text key mark edit at (Some known) = known_pair mistake key mark edit at known
 with_word mistake text key mark edit at None =
     let end = phrase_end text at edit.end in
@@ -118,10 +118,10 @@ closing_of are_values has_more =
     if are_values then (if has_more then codes ", ..]" else codes "]")
     else if has_more then codes "\", ..]" else codes "\"]"
 
-unfoldable pub yaml_list : List ℕ → ℕ → ℕ → ℕ → FindingContent
-yaml_list text start colon dash =
+unfoldable pub yaml_list : List ℕ → ℕ → ℕ → ℕ → ℕ → FindingContent
+yaml_list text start end colon dash =
     let mark = span_of start (ahead text colon 1) in
-    let key = part text start colon in
+    let key = part text start end in
     let first = end_of class.Blank text (ahead text dash 1) in
     let first_end = last_of_line text first in
     let next = end_of class.Gap text first_end in
@@ -134,21 +134,22 @@ yaml_list text start colon dash =
     let two = six key opening one (if are_values then codes ", " else codes "\", \"") (part text second second_end)
     (closing_of are_values has_more) in
     if slice_index text (end_of class.Dotted text first) == 58
-    then shown (said YAML_ITEMS) mark mark (pieces (codes "[[") key (codes "]]"))
+    then without_replacement (said YAML_ITEMS) mark mark (pieces (codes "[[") key (codes "]]"))
     else if not (begins text next (codes "- "))
     then mended (said YAML_LIST) mark (span_of start first_end)
     (six key opening one (closing_of are_values false) [] [])
-    else if has_more then shown (said YAML_LIST) mark mark two
+    else if has_more then without_replacement (said YAML_LIST) mark mark two
     else mended (said YAML_LIST) mark (span_of start second_end) two
 
 -- the finding for a key and a colon at the end of a line
 unfoldable pub yaml : List ℕ → ℕ → FindingContent
 yaml text at =
-    let end = ahead text at 1 in
-    let start = key_start text at in
-    if begins text (end_of class.Gap text end) (codes "- ")
-    then yaml_list text start at (end_of class.Gap text end)
-    else replaced (said YAML_TABLE) start end (pieces (codes "[") (part text start at) (codes "]"))
+    let next = ahead text at 1 in
+    let end = start_of class.Blank text at in
+    let start = key_start text end in
+    if begins text (end_of class.Gap text next) (codes "- ")
+    then yaml_list text start end at (end_of class.Gap text next)
+    else replaced (said YAML_TABLE) start next (pieces (codes "[") (part text start end) (codes "]"))
 
 unfoldable pub colon : List ℕ → ℕ → FindingContent
 colon text at =
@@ -175,7 +176,7 @@ unfoldable pub spaced_key : List ℕ → ℕ → ℕ → ℕ → FindingContent
 spaced_key text end at stop =
     let start = start_of class.Name text end in
     if is_keyword (part text start end) then removed (said KEYWORD) start at
-    else quoted (said BARE_KEY) text (end_of class.Blank text (start_of class.Spaced text at))
+    else in_quotes (said BARE_KEY) text (end_of class.Blank text (start_of class.Spaced text at))
     (start_of class.Blank text stop)
 
 -- the finding for an item of a YAML list
@@ -185,7 +186,7 @@ yaml_item text dash at =
     let mark = span_of dash (ahead text dash 1) in
     if slice_index text (end_of class.Left text at) == 61
     then mended (said YAML_ITEM) mark (span_of dash end) (pieces (part text at end) [] [])
-    else shown (said YAML_ITEMS) mark mark (pieces (codes "[[name]]") [] [])
+    else without_replacement (said YAML_ITEMS) mark mark (pieces (codes "[[name]]") [] [])
 
 unfoldable pub second_word : List ℕ → ℕ → ℕ → Option FindingContent
 second_word text end at =
@@ -200,8 +201,8 @@ second_word text end at =
     else Some (other_sign (said NO_EQUALS) text at at)
 
 -- the finding for the token `found`, where `=` is expected
-unfoldable pub no_equals : List ℕ → List ℕ → ℕ → Option FindingContent
-no_equals found text at =
+unfoldable pub at_equals : List ℕ → List ℕ → ℕ → Option FindingContent
+at_equals found text at =
     let end = start_of class.Blank text at in
     if bytes_eq found (codes "a colon") then Some (colon text at)
     else if bytes_eq found (codes "a newline") || bytes_eq found (codes "eof") || bytes_eq found (codes "a comment")
@@ -224,7 +225,7 @@ placeholder text at =
     let close = end_of class.Enclosed text at in
     if nat_lt (end_of class.Unquoted text at) close || not (begins text close (codes "}}"))
     then marked (said TEMPLATE) at (ahead text at 2)
-    else quoted (said TEMPLATE) text at (ahead text close 2)
+    else in_quotes (said TEMPLATE) text at (ahead text close 2)
 
 unfoldable pub brace : List ℕ → ℕ → Option FindingContent
 brace text at =
@@ -246,8 +247,8 @@ missing_key mistake text at =
     else marked mistake at (ahead text at 1)
 
 -- the finding for the token `found`, where a key is expected
-unfoldable pub no_key : List ℕ → List ℕ → ℕ → Option FindingContent
-no_key found text at =
+unfoldable pub at_key : List ℕ → List ℕ → ℕ → Option FindingContent
+at_key found text at =
     if bytes_eq found (codes "a period") then Some (extra (said EXTRA_DOT) text at)
     else if bytes_eq found (codes "a comma") then Some (extra (said EXTRA_COMMA) text at)
     else if bytes_eq found (codes "an equals") then Some (missing_key (said NO_KEY) text at)

@@ -7,14 +7,14 @@ use Rattle.toml_span_report.specs.Bytes.{ahead, begins, byte_before, byte_after,
 use Rattle.toml_span_report.specs.Bytes.{is_last, part, start_of}
 use Rattle.toml_span_report.specs.Finding.{FindingContent, first_found, marked, mended, pieces, removed, replaced}
 use Rattle.toml_span_report.specs.Finding.{span_of}
-use Rattle.toml_span_report.specs.Scan.{is_in_header, is_long, open_before}
+use Rattle.toml_span_report.specs.Scan.{innermost, is_in_header, is_long, open_before}
 use Rattle.toml_span_report.specs.found.Keys.{header_key, missing_key, other_sign}
 use Rattle.toml_span_report.specs.found.Values.{unquoted, unquoted_value}
 use Rattle.toml_span_report.specs.declared.bytes.Class.TheVariants as class
 use Rattle.toml_span_report.specs.Words.{WordsContent, said}
-use Rattle.toml_span_report.specs.declared.words.TheConstants.{ARRAY_ALONE, CLOSED_BY_BRACE, CLOSED_BY_BRACKET}
-use Rattle.toml_span_report.specs.declared.words.TheConstants.{EQUALS, EXTRA_COMMA, HASH_VALUE, LEADING_POINT}
-use Rattle.toml_span_report.specs.declared.words.TheConstants.{NO_COMMA, NO_COMMA_IN_TABLE, NO_NAME, NO_VALUE_BEHIND}
+use Rattle.toml_span_report.specs.declared.words.TheConstants.{ARRAY_ALONE, CLOSED_BY_BRACE, CLOSED_BY_BRACKET, EQUALS}
+use Rattle.toml_span_report.specs.declared.words.TheConstants.{EXTRA_COMMA, HASH_VALUE, LEADING_POINT, NO_COMMA}
+use Rattle.toml_span_report.specs.declared.words.TheConstants.{NO_COMMA_IN_TABLE, NO_NAME, NO_VALUE_AFTER_EQUALS}
 use Rattle.toml_span_report.specs.declared.words.TheConstants.{OPEN_ARRAY, OPEN_HEADER, OPEN_TABLE, VALUE_BELOW}
 
 -- the span of a bracket; and the finding for the outermost bracket that is open at `at`
@@ -53,7 +53,7 @@ value_below text at =
 unfoldable pub missing_value : List ℕ → ℕ → Option FindingContent
 missing_value text at =
     if byte_before text at == 61
-    then first_found (value_below text at) (Some (marked (said NO_VALUE_BEHIND) at at))
+    then first_found (value_below text at) (Some (marked (said NO_VALUE_AFTER_EQUALS) at at))
     else open_end text at
 
 -- the finding for a comment, a comma, a point or `=`, where a value is expected
@@ -64,8 +64,8 @@ hash text at =
     then Some (replaced (said HASH_VALUE) at end (pieces (codes "\"") (part text at end) (codes "\"")))
     else missing_value text at
 
-unfoldable pub comma : List ℕ → ℕ → Option FindingContent
-comma text at =
+unfoldable pub extra_comma : List ℕ → ℕ → Option FindingContent
+extra_comma text at =
     if byte_before text at == 61 then None
     else Some (removed (said EXTRA_COMMA) at (ahead text at 1))
 
@@ -84,9 +84,9 @@ equals text at =
     else None
 
 -- the finding for the token `found`, where a value is expected
-unfoldable pub no_value : List ℕ → List ℕ → ℕ → Option FindingContent
-no_value found text at =
-    if bytes_eq found (codes "a comma") then comma text at
+unfoldable pub at_value : List ℕ → List ℕ → ℕ → Option FindingContent
+at_value found text at =
+    if bytes_eq found (codes "a comma") then extra_comma text at
     else if bytes_eq found (codes "an equals") then equals text at
     else if bytes_eq found (codes "a period") then point text at
     else if bytes_eq found (codes "a newline") || bytes_eq found (codes "eof") then missing_value text at
@@ -146,7 +146,7 @@ unseparated mistake text at =
 unfoldable pub wrong_closing : WordsContent → List ℕ → ℕ → List ℕ → FindingContent
 wrong_closing mistake text at closing =
     record (replaced mistake at (ahead text at 1) (pieces closing [] [])) {
-      also = bracket_span text (open_before text at).bracket;
+      also = bracket_span text (innermost text at);
     }
 
 -- the finding for a value that `.`, `:` or `+` follows, or None
@@ -161,8 +161,8 @@ abbrev pub is_glue : List ℕ → Bool
 is_glue found =
     bytes_eq found (codes "a period") || bytes_eq found (codes "a colon") || bytes_eq found (codes "a plus")
 
--- the finding for the token `found`, where `]` is expected in an array (`in_array`) or also in a header (`no_bracket`),
--- and where a comma is expected in an inline table (`no_comma`)
+-- the finding for the token `found`, where `]` is expected in an array (`in_array`) or also in a header (`at_bracket`),
+-- and where a comma is expected in an inline table (`at_comma`)
 abbrev pub in_array : List ℕ → List ℕ → ℕ → Option FindingContent
 in_array found text at =
     if bytes_eq found (codes "eof") then Some (unclosed text at)
@@ -171,13 +171,13 @@ in_array found text at =
     else if is_glue found then glued text at
     else Some (unseparated (said NO_COMMA) text at)
 
-unfoldable pub no_bracket : List ℕ → List ℕ → ℕ → Option FindingContent
-no_bracket found text at =
+unfoldable pub at_bracket : List ℕ → List ℕ → ℕ → Option FindingContent
+at_bracket found text at =
     if is_in_header text (open_before text at) then header found text at (open_before text at).bracket
     else in_array found text at
 
-unfoldable pub no_comma : List ℕ → List ℕ → ℕ → Option FindingContent
-no_comma found text at =
+unfoldable pub at_comma : List ℕ → List ℕ → ℕ → Option FindingContent
+at_comma found text at =
     if bytes_eq found (codes "eof") then Some (unclosed text at)
     else if bytes_eq found (codes "a right bracket")
     then Some (wrong_closing (said CLOSED_BY_BRACKET) text at (codes "}"))

@@ -1,8 +1,8 @@
 -- Mistakes in numbers.
 use Rattle.std.specs.Prelude.{ℕ, zero, suc, ◌+◌, ◌-◌, ◌*◌, min, ◌==◌, ◌&&◌, ◌||◌, Bool, false, not, nat_lt, nat_le}
-use Rattle.std.specs.Prelude.{List, [], codes, length, slice_index, Option, Some, None, if◌then◌else◌}
+use Rattle.std.specs.Prelude.{List, [], codes, length, slice_index, Option, Some, None, is_some, if◌then◌else◌}
 use Rattle.toml_span_report.specs.Bytes.{ahead, begins, end_of, is_digit, part, start_of}
-use Rattle.toml_span_report.specs.Finding.{CodeContent, FindingContent, first_found, marked, pieces, quoted}
+use Rattle.toml_span_report.specs.Finding.{CodeContent, FindingContent, first_found, marked, pieces, in_quotes}
 use Rattle.toml_span_report.specs.Finding.{replaced, six}
 use Rattle.toml_span_report.specs.found.Dates.{slash_date}
 use Rattle.toml_span_report.specs.declared.bytes.Class.TheVariants as class
@@ -57,12 +57,16 @@ abbrev pub decimal_code : List ℕ → ℕ → ℕ → CodeContent
 decimal_code text start value =
     record (pieces (if slice_index text start == 45 then codes "-" else []) [] []) { number = Some value }
 
+-- the largest absolute value of an integer with the sign at `start`
+abbrev pub largest : List ℕ → ℕ → ℕ
+largest text start = if slice_index text start == 45 then 9223372036854775808 else 9223372036854775807
+
 -- the finding for a number with a sign before a prefix such as `0x`; the value is that of the digits, or None if one of
 -- them is not valid
 abbrev pub signed_value : List ℕ → ℕ → ℕ → Option ℕ → FindingContent
 signed_value text start end None = marked (said SIGNED_PREFIX) start end
 signed_value text start end (Some value) =
-    if nat_le value 9223372036854775808
+    if nat_le value (largest text start)
     then replaced (said SIGNED_DECIMAL) start end (decimal_code text start value)
     else marked (said SIGNED_PREFIX) start end
 
@@ -91,8 +95,8 @@ unsigned_prefix text start end letter =
     unsigned_value text start end letter (value_of digits (base_of letter) (length digits))
 
 -- the finding for a number with a prefix such as `0x`, or None without a prefix
-unfoldable pub prefixed : List ℕ → ℕ → ℕ → ℕ → Option FindingContent
-prefixed text start zero_at end =
+unfoldable pub prefixed_number : List ℕ → ℕ → ℕ → ℕ → Option FindingContent
+prefixed_number text start zero_at end =
     let letter = slice_index text (ahead text zero_at 1) in
     if not (slice_index text zero_at == 48) || (length (digits_of letter) == 0 && length (lower_prefix letter) == 0)
     then None
@@ -106,12 +110,12 @@ prefixed text start zero_at end =
 unfoldable pub zeros : List ℕ → ℕ → ℕ → ℕ → FindingContent
 zeros text start digits end =
     let more = ahead text digits 1 in
-    let first = slice_index text more in
+    let octal = part text more end in
     let other = end_of class.Zero text digits in
     let kept = if is_digit (slice_index text other) then other else other - 1 in
-    if (ahead text digits 4 == end && not (first == 48 || first == 56 || first == 57))
+    if (ahead text digits 4 == end && (not (slice_index text more == 48) && is_some (value_of octal 8 (length octal))))
     && (start == digits && end_of class.Digit text digits == end)
-    then replaced (said OCTAL) start end (pieces (codes "0o") (part text more end) [])
+    then replaced (said OCTAL) start end (pieces (codes "0o") octal [])
     else replaced (said LEADING_ZERO) start end (pieces (part text start digits) (part text kept end) [])
 
 -- the finding for a decimal point without a digit after it, or None
@@ -124,23 +128,23 @@ trailing_point text start point end =
     (pieces (part text start next) (codes "0") (part text next end)))
     else None
 
--- the largest absolute value of an integer with the sign at `start`; and the mistake in an integer of digits and `_`
--- that is not too large
-abbrev pub largest : List ℕ → ℕ → ℕ
-largest text start = if slice_index text start == 45 then 9223372036854775808 else 9223372036854775807
-
+-- the mistake in an integer of digits and `_` that is not too large: a zero before `_` or `__` and a digit, or a
+-- misplaced `_`
 abbrev pub grouping_mistake : List ℕ → ℕ → WordsContent
 grouping_mistake text digits =
-    if begins text digits (codes "0_") && is_digit (slice_index text (ahead text digits 2)) then said LEADING_ZERO
+    let after = if begins text digits (codes "0__") then ahead text digits 3 else ahead text digits 2 in
+    if begins text digits (codes "0_") && is_digit (slice_index text after) then said LEADING_ZERO
     else said UNDERSCORE
 
--- the code for the integer: with `_` instead of `__` if that is between digits and the integer has no other `_`,
--- otherwise without any `_`
+-- the code for the integer: with `_` instead of `__` if that is between digits, the integer has no other `_` and the
+-- first digit is not 0; otherwise without any `_`
 abbrev pub regrouped : List ℕ → ℕ → ℕ → ℕ → ℕ → CodeContent
 regrouped text start digits end value =
     let first = end_of class.Digit text digits in
     let rest = ahead text first 2 in
-    if (nat_lt digits first && begins text first (codes "__") && nat_lt rest end) && end_of class.Digit text rest == end
+    let is_padded = slice_index text digits == 48 in
+    if (nat_lt digits first && (not is_padded && (begins text first (codes "__") && nat_lt rest end)))
+    && end_of class.Digit text rest == end
     then pieces (part text start first) (codes "_") (part text rest end)
     else decimal_code text start value
 
@@ -190,7 +194,7 @@ plain text start digits end =
     if has_zero && nat_le end (end_of class.Decimal text digits) then Some (zeros text start digits end)
     else if nat_lt digits point && point == end then Some (integer text start digits end)
     else if nat_le end (end_of class.Number text start) then float text start point end
-    else Some (quoted (said UNQUOTED) text start end)
+    else Some (in_quotes (said UNQUOTED) text start end)
 
 abbrev pub signed : List ℕ → ℕ → ℕ → ℕ → Option FindingContent
 signed text start digits end =
@@ -204,7 +208,7 @@ number text at =
     let end = end_of class.Word text at in
     let digits = after_sign text start in
     first_found (slash_date text start end)
-    (first_found (prefixed text start digits end) (signed text start digits end))
+    (first_found (prefixed_number text start digits end) (signed text start digits end))
 
 -- the finding for digits that are grouped by commas, or None
 unfoldable pub thousands : List ℕ → ℕ → Option FindingContent

@@ -3,8 +3,8 @@ use Rattle.std.specs.Prelude.{ℕ, ◌+◌, ◌-◌, ◌*◌, ◌==◌, ◌&&◌
 use Rattle.std.specs.Prelude.{slice_index, Option, Some, None, if◌then◌else◌}
 use Rattle.toml_span_report.specs.Bytes.{ahead, begins, byte_before, end_of, first_of_line, is_last, last_of_line}
 use Rattle.toml_span_report.specs.Bytes.{part, start_of}
-use Rattle.toml_span_report.specs.Finding.{FindingContent, MeantContent, as_meant, first_found, marked, pieces}
-use Rattle.toml_span_report.specs.Finding.{removed, replaced, span_of}
+use Rattle.toml_span_report.specs.Finding.{FindingContent, SubstituteContent, as_substitute, first_found, marked}
+use Rattle.toml_span_report.specs.Finding.{pieces, removed, replaced, span_of}
 use Rattle.toml_span_report.specs.Scan.{is_in_header, open_before}
 use Rattle.toml_span_report.specs.found.Keys.{comment, header_key, other_key, other_sign}
 use Rattle.toml_span_report.specs.found.Values.{unquoted_value}
@@ -16,19 +16,20 @@ use Rattle.toml_span_report.specs.declared.words.TheConstants.{OTHER_SIGN, OTHER
 use Rattle.toml_span_report.specs.declared.words.TheConstants.{SEMICOLONS, SLASHES}
 
 -- the TOML character that the character c looks like, and the Unicode name of c
-unfoldable pub look_alike : ℕ → Option MeantContent
+unfoldable pub look_alike : ℕ → Option SubstituteContent
 look_alike c =
-    if c == 0xA0 then Some (as_meant (said OTHER_SPACE) (codes "NO-BREAK SPACE (U+00A0)") (codes " "))
-    else if c == 0x2009 then Some (as_meant (said OTHER_SPACE) (codes "THIN SPACE (U+2009)") (codes " "))
-    else if c == 0x202F then Some (as_meant (said OTHER_SPACE) (codes "NARROW NO-BREAK SPACE (U+202F)") (codes " "))
-    else if c == 0x3000 then Some (as_meant (said OTHER_SPACE) (codes "IDEOGRAPHIC SPACE (U+3000)") (codes " "))
-    else if c == 0x200B then Some (as_meant (said INVISIBLE) (codes "ZERO WIDTH SPACE (U+200B)") [])
-    else if c == 0xFEFF then Some (as_meant (said INVISIBLE) (codes "BYTE ORDER MARK (U+FEFF)") [])
-    else if c == 0x2013 then Some (as_meant (said OTHER_SIGN) (codes "EN DASH (U+2013)") (codes "-"))
-    else if c == 0x2014 then Some (as_meant (said OTHER_SIGN) (codes "EM DASH (U+2014)") (codes "-"))
-    else if c == 0x2212 then Some (as_meant (said OTHER_SIGN) (codes "MINUS SIGN (U+2212)") (codes "-"))
-    else if c == 0xFF1D then Some (as_meant (said OTHER_SIGN) (codes "FULLWIDTH EQUALS SIGN (U+FF1D)") (codes "="))
-    else if c == 0xFF0C then Some (as_meant (said OTHER_SIGN) (codes "FULLWIDTH COMMA (U+FF0C)") (codes ","))
+    if c == 0xA0 then Some (as_substitute (said OTHER_SPACE) (codes "NO-BREAK SPACE (U+00A0)") (codes " "))
+    else if c == 0x2009 then Some (as_substitute (said OTHER_SPACE) (codes "THIN SPACE (U+2009)") (codes " "))
+    else if c == 0x202F
+    then Some (as_substitute (said OTHER_SPACE) (codes "NARROW NO-BREAK SPACE (U+202F)") (codes " "))
+    else if c == 0x3000 then Some (as_substitute (said OTHER_SPACE) (codes "IDEOGRAPHIC SPACE (U+3000)") (codes " "))
+    else if c == 0x200B then Some (as_substitute (said INVISIBLE) (codes "ZERO WIDTH SPACE (U+200B)") [])
+    else if c == 0xFEFF then Some (as_substitute (said INVISIBLE) (codes "BYTE ORDER MARK (U+FEFF)") [])
+    else if c == 0x2013 then Some (as_substitute (said OTHER_SIGN) (codes "EN DASH (U+2013)") (codes "-"))
+    else if c == 0x2014 then Some (as_substitute (said OTHER_SIGN) (codes "EM DASH (U+2014)") (codes "-"))
+    else if c == 0x2212 then Some (as_substitute (said OTHER_SIGN) (codes "MINUS SIGN (U+2212)") (codes "-"))
+    else if c == 0xFF1D then Some (as_substitute (said OTHER_SIGN) (codes "FULLWIDTH EQUALS SIGN (U+FF1D)") (codes "="))
+    else if c == 0xFF0C then Some (as_substitute (said OTHER_SIGN) (codes "FULLWIDTH COMMA (U+FF0C)") (codes ","))
     else None
 
 unfoldable pub curly_name : ℕ → List ℕ
@@ -56,13 +57,13 @@ curly text at name =
     }
     else record (marked (said CURLY_QUOTES) at (ahead text at 1)) { label = pieces name [] [] }
 
-unfoldable pub other_character : List ℕ → ℕ → MeantContent → FindingContent
+unfoldable pub other_character : List ℕ → ℕ → SubstituteContent → FindingContent
 other_character text at m =
     record (replaced m.mistake at (end_of class.Continuation text (ahead text at 1)) (pieces m.code [] [])) {
       label = pieces m.name [] [];
     }
 
-abbrev pub as_alike : List ℕ → ℕ → Option MeantContent → Option FindingContent
+abbrev pub as_alike : List ℕ → ℕ → Option SubstituteContent → Option FindingContent
 as_alike text at None = None
 as_alike text at (Some m) = Some (other_character text at m)
 
@@ -123,8 +124,8 @@ foreign text at =
     else None
 
 -- the finding for a key or value that needs quotes because of the character at `at`, or None
-unfoldable pub unquoted : List ℕ → ℕ → ℕ → Option FindingContent
-unquoted text at start =
+unfoldable pub unquoted_key_or_value : List ℕ → ℕ → ℕ → Option FindingContent
+unquoted_key_or_value text at start =
     let state = open_before text at in
     if is_in_header text state then header_key text at
     else first_found (other_key text at)
@@ -149,7 +150,7 @@ value text at start =
     else other_value text at start
 
 abbrev pub elsewhere : List ℕ → ℕ → ℕ → Option FindingContent
-elsewhere text at start = first_found (foreign text at) (unquoted text at start)
+elsewhere text at start = first_found (foreign text at) (unquoted_key_or_value text at start)
 
 unfoldable pub unexpected : List ℕ → ℕ → ℕ → Option FindingContent
 unexpected text at c =

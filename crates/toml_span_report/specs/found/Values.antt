@@ -3,7 +3,8 @@ use Rattle.std.specs.Prelude.{ℕ, ◌==◌, ◌&&◌, ◌||◌, max, Bool, true
 use Rattle.std.specs.Prelude.{slice_index, Option, Some, None, if◌then◌else◌}
 use Rattle.std.specs.Str.{bytes_eq}
 use Rattle.toml_span_report.specs.Bytes.{ahead, byte_after, end_of, part, start_of}
-use Rattle.toml_span_report.specs.Finding.{FindingContent, MeantContent, as_meant, marked, pieces, quoted, replaced}
+use Rattle.toml_span_report.specs.Finding.{FindingContent, SubstituteContent, as_substitute, marked, pieces, in_quotes}
+use Rattle.toml_span_report.specs.Finding.{replaced}
 use Rattle.toml_span_report.specs.declared.bytes.Class.TheVariants as class
 use Rattle.toml_span_report.specs.Words.{said}
 use Rattle.toml_span_report.specs.declared.words.TheConstants.{NEAR_FALSE, NEAR_TRUE, NULL, OTHER_BOOLEAN}
@@ -12,8 +13,8 @@ use Rattle.toml_span_report.specs.declared.words.TheConstants.{UNQUOTED, UNQUOTE
 
 -- The word and the name are equal up to the offset `at`. From there on they are equal after one byte is skipped in the
 -- word, in the name or in both, or after two swapped bytes are skipped in both.
-unfoldable pub is_near_at : List ℕ → List ℕ → ℕ → Bool
-is_near_at word name at =
+unfoldable pub is_within_one_edit_at : List ℕ → List ℕ → ℕ → Bool
+is_within_one_edit_at word name at =
     let after = ahead word at 1 in
     let last = length word in
     let name_after = ahead name at 1 in
@@ -26,38 +27,38 @@ is_near_at word name at =
     && bytes_eq (part rest 1 last) (part name_rest 1 name_last)))
 
 -- whether the word is at most one edit away from the name, which has at most five bytes
-unfoldable pub is_near : List ℕ → List ℕ → Bool
-is_near word name =
-    is_near_at word name 0 || is_near_at word name 1 || is_near_at word name 2 || is_near_at word name 3
-    || is_near_at word name 4 || is_near_at word name 5
+unfoldable pub is_within_one_edit : List ℕ → List ℕ → Bool
+is_within_one_edit word name =
+    is_within_one_edit_at word name 0 || is_within_one_edit_at word name 1 || is_within_one_edit_at word name 2
+    || is_within_one_edit_at word name 3 || is_within_one_edit_at word name 4 || is_within_one_edit_at word name 5
 
-unfoldable pub near_boolean : List ℕ → Option MeantContent
+unfoldable pub near_boolean : List ℕ → Option SubstituteContent
 near_boolean word =
-    if is_near word (codes "true") then Some (as_meant (said NEAR_TRUE) [] (codes "true"))
-    else if is_near word (codes "false") then Some (as_meant (said NEAR_FALSE) [] (codes "false"))
+    if is_within_one_edit word (codes "true") then Some (as_substitute (said NEAR_TRUE) [] (codes "true"))
+    else if is_within_one_edit word (codes "false") then Some (as_substitute (said NEAR_FALSE) [] (codes "false"))
     else None
 
 -- what TOML has for a word of other languages, or for a misspelled boolean
-unfoldable pub known_word : List ℕ → Option MeantContent
+unfoldable pub known_word : List ℕ → Option SubstituteContent
 known_word word =
     if bytes_eq word (codes "True") || bytes_eq word (codes "TRUE")
-    then Some (as_meant (said UPPER_BOOLEAN) [] (codes "true"))
+    then Some (as_substitute (said UPPER_BOOLEAN) [] (codes "true"))
     else if bytes_eq word (codes "False") || bytes_eq word (codes "FALSE")
-    then Some (as_meant (said UPPER_BOOLEAN) [] (codes "false"))
+    then Some (as_substitute (said UPPER_BOOLEAN) [] (codes "false"))
     else if bytes_eq word (codes "yes") || bytes_eq word (codes "Yes") || bytes_eq word (codes "YES")
     || bytes_eq word (codes "on") || bytes_eq word (codes "On") || bytes_eq word (codes "ON")
-    then Some (as_meant (said OTHER_BOOLEAN) [] (codes "true"))
+    then Some (as_substitute (said OTHER_BOOLEAN) [] (codes "true"))
     else if bytes_eq word (codes "no") || bytes_eq word (codes "No") || bytes_eq word (codes "NO")
     || bytes_eq word (codes "off") || bytes_eq word (codes "Off") || bytes_eq word (codes "OFF")
-    then Some (as_meant (said OTHER_BOOLEAN) [] (codes "false"))
+    then Some (as_substitute (said OTHER_BOOLEAN) [] (codes "false"))
     else if bytes_eq word (codes "null") || bytes_eq word (codes "Null") || bytes_eq word (codes "NULL")
     || bytes_eq word (codes "None") || bytes_eq word (codes "nil") || bytes_eq word (codes "undefined")
-    then Some (as_meant (said NULL) [] [])
+    then Some (as_substitute (said NULL) [] [])
     else if bytes_eq word (codes "NaN") || bytes_eq word (codes "NAN") || bytes_eq word (codes "Nan")
-    then Some (as_meant (said OTHER_FLOAT) [] (codes "nan"))
+    then Some (as_substitute (said OTHER_FLOAT) [] (codes "nan"))
     else if bytes_eq word (codes "Infinity") || bytes_eq word (codes "infinity") || bytes_eq word (codes "Inf")
     || bytes_eq word (codes "INF")
-    then Some (as_meant (said OTHER_FLOAT) [] (codes "inf"))
+    then Some (as_substitute (said OTHER_FLOAT) [] (codes "inf"))
     else near_boolean word
 
 -- whether words that are meant as one string end before this byte
@@ -76,11 +77,11 @@ unfoldable pub unquoted_value : List ℕ → ℕ → FindingContent
 unquoted_value text at =
     let end = end_of class.Word text at in
     if is_quote (byte_after text end) then marked (said UNQUOTED_TEXT) at end
-    else quoted (said UNQUOTED) text at (phrase_end text at end)
+    else in_quotes (said UNQUOTED) text at (phrase_end text at end)
 
 -- the finding for a string with a prefix, whose quote is at `quote`
-unfoldable pub prefixed : List ℕ → ℕ → ℕ → FindingContent
-prefixed text at quote =
+unfoldable pub prefixed_string : List ℕ → ℕ → ℕ → FindingContent
+prefixed_string text at quote =
     let close = end_of class.Unquoted text (ahead text quote 1) in
     let content = part text (ahead text quote 1) close in
     if not (slice_index text close == slice_index text quote) || length content == 0
@@ -89,17 +90,17 @@ prefixed text at quote =
     then replaced (said RAW_STRING) at (ahead text close 1) (pieces (codes "'") content (codes "'"))
     else replaced (said PREFIXED) at (ahead text close 1) (pieces (part text quote (ahead text close 1)) [] [])
 
-abbrev pub known_value : ℕ → ℕ → MeantContent → FindingContent
+abbrev pub known_value : ℕ → ℕ → SubstituteContent → FindingContent
 known_value at end known =
     if length known.code == 0 then marked known.mistake at end
     else replaced known.mistake at end (pieces known.code [] [])
 
-abbrev pub word_meant : List ℕ → ℕ → ℕ → Option MeantContent → FindingContent
+abbrev pub word_meant : List ℕ → ℕ → ℕ → Option SubstituteContent → FindingContent
 word_meant text at end None = unquoted_value text at
 word_meant text at end (Some known) = known_value at end known
 
 unfoldable pub unquoted : List ℕ → ℕ → FindingContent
 unquoted text at =
     let end = end_of class.Word text at in
-    if nat_le end (ahead text at 2) && is_quote (slice_index text end) then prefixed text at end
+    if nat_le end (ahead text at 2) && is_quote (slice_index text end) then prefixed_string text at end
     else word_meant text at end (known_word (part text at end))

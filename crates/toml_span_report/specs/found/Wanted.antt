@@ -3,11 +3,12 @@ use Rattle.std.specs.Prelude.{ℕ, ◌-◌, ◌==◌, ◌&&◌, ◌||◌, Bool, 
 use Rattle.std.specs.Prelude.{Option, Some, None, if◌then◌else◌}
 use Rattle.std.specs.Str.{bytes_eq}
 use Rattle.toml_span_lex.specs.declared.span.Span.{Span}
-use Rattle.toml_span_report.specs.Bytes.{ahead, byte_before, byte_after, end_of, first_of_line, is_digit, is_last}
-use Rattle.toml_span_report.specs.Bytes.{last_of_line, part, start_of}
-use Rattle.toml_span_report.specs.Finding.{FindingContent, marked, mended, pieces, quoted, removed, replaced, span_of}
-use Rattle.toml_span_report.specs.found.Keys.{extra, no_equals, no_key}
-use Rattle.toml_span_report.specs.found.Lists.{no_bracket, no_comma, no_value, unfinished_key}
+use Rattle.toml_span_report.specs.Bytes.{ahead, begins, byte_before, byte_after, end_of, first_of_line, is_digit}
+use Rattle.toml_span_report.specs.Bytes.{is_last, last_of_line, part, start_of}
+use Rattle.toml_span_report.specs.Finding.{FindingContent, marked, mended, pieces, in_quotes, removed, replaced}
+use Rattle.toml_span_report.specs.Finding.{span_of}
+use Rattle.toml_span_report.specs.found.Keys.{extra, at_equals, at_key}
+use Rattle.toml_span_report.specs.found.Lists.{at_bracket, at_comma, at_value, unfinished_key}
 use Rattle.toml_span_report.specs.found.Numbers.{thousands}
 use Rattle.toml_span_report.specs.found.Strings.{quote_in_string}
 use Rattle.toml_span_report.specs.found.Values.{unquoted_value}
@@ -15,14 +16,14 @@ use Rattle.toml_span_report.specs.declared.bytes.Class.TheVariants as class
 use Rattle.toml_span_report.specs.Tables.{text_in}
 use Rattle.toml_span_report.specs.declared.mistakes.wanted.TheConstants.{AFTERNOON}
 use Rattle.toml_span_report.specs.Words.{WordsContent, said}
-use Rattle.toml_span_report.specs.declared.words.TheConstants.{AFTER_VALUE, COMMA_BEHIND_VALUE, EXTRA_CLOSING}
-use Rattle.toml_span_report.specs.declared.words.TheConstants.{FLOAT_DUE, HALF_DAY, HEADER_BRACKET, JOINED}
-use Rattle.toml_span_report.specs.declared.words.TheConstants.{KEY_AFTER_HEADER, LAST_COMMA, SECOND_KEY, STRING_DUE}
-use Rattle.toml_span_report.specs.declared.words.TheConstants.{VALUE_OF_HEADER, ZONE_NAME}
+use Rattle.toml_span_report.specs.declared.words.TheConstants.{AFTER_VALUE, COMMA_AFTER_VALUE, EXTRA_CLOSING}
+use Rattle.toml_span_report.specs.declared.words.TheConstants.{FLOAT_EXPECTED, HALF_DAY, HEADER_BRACKET, JOINED}
+use Rattle.toml_span_report.specs.declared.words.TheConstants.{KEY_AFTER_HEADER, LAST_COMMA, SECOND_KEY}
+use Rattle.toml_span_report.specs.declared.words.TheConstants.{STRING_EXPECTED, VALUE_OF_HEADER, ZONE_NAME}
 
 -- the finding for a key that should be on the next line; the replacement puts a line feed before it
-abbrev pub broken : WordsContent → List ℕ → ℕ → ℕ → FindingContent
-broken mistake text from at = mended mistake (span_of at (end_of class.Dotted text at)) (span_of from at)
+abbrev pub onto_next_line : WordsContent → List ℕ → ℕ → ℕ → FindingContent
+onto_next_line mistake text from at = mended mistake (span_of at (end_of class.Dotted text at)) (span_of from at)
     (pieces (10 ∷ []) [] [])
 
 -- the first finding or, if it is None, the second; and the finding for a comma after a value
@@ -30,21 +31,22 @@ abbrev pub or_comma : Option FindingContent → FindingContent → FindingConten
 or_comma (Some f) other = f
 or_comma None other = other
 
-unfoldable pub comma : List ℕ → ℕ → FindingContent
-comma text at =
+unfoldable pub comma_after_value : List ℕ → ℕ → FindingContent
+comma_after_value text at =
     let end = ahead text at 1 in
     or_comma (thousands text at)
     (if is_last text end || byte_after text end == 35 then removed (said LAST_COMMA) at end
     else if slice_index text (end_of class.Left text end) == 61
-    then mended (said COMMA_BEHIND_VALUE) (span_of at end) (span_of at (end_of class.Blank text end))
+    then mended (said COMMA_AFTER_VALUE) (span_of at end) (span_of at (end_of class.Blank text end))
     (pieces (10 ∷ []) [] [])
     else marked (said AFTER_VALUE) at end)
 
 -- the finding for a token after a header, on the same line
 unfoldable pub header_value : List ℕ → ℕ → ℕ → FindingContent
 header_value text line at =
+    let width = if begins text line (codes "[[") then 2 else 1 in
     replaced (said VALUE_OF_HEADER) line (last_of_line text at)
-    (pieces (part text (ahead text line 1) (start_of class.Blank text at - 1)) (codes " ")
+    (pieces (part text (ahead text line width) (start_of class.Blank text at - width)) (codes " ")
     (part text at (last_of_line text at)))
 
 unfoldable pub after_header : List ℕ → List ℕ → ℕ → ℕ → Option FindingContent
@@ -52,7 +54,7 @@ after_header found text line at =
     if bytes_eq found (codes "a right bracket") then Some (extra (said HEADER_BRACKET) text at)
     else if bytes_eq found (codes "an equals") then Some (header_value text line at)
     else if bytes_eq found (codes "an identifier") || bytes_eq found (codes "a string")
-    then Some (broken (said KEY_AFTER_HEADER) text (start_of class.Blank text at) at)
+    then Some (onto_next_line (said KEY_AFTER_HEADER) text (start_of class.Blank text at) at)
     else Some (marked (said AFTER_VALUE) at (ahead text at 1))
 
 abbrev pub is_half_day : List ℕ → Bool
@@ -101,7 +103,7 @@ word_after text at =
     if is_time && is_half_day word then half_day text at end
     else if is_time && is_zone word then zone text at end
     else if byte_after text (end_of class.Dotted text at) == 61
-    then broken (said SECOND_KEY) text (start_of class.Blank text at) at
+    then onto_next_line (said SECOND_KEY) text (start_of class.Blank text at) at
     else marked (said AFTER_VALUE) at end
 
 -- the finding for the token `found` after a value, on the same line
@@ -109,7 +111,7 @@ unfoldable pub after_value : List ℕ → List ℕ → ℕ → Option FindingCon
 after_value found text at =
     let is_string = byte_before text at == 34 || byte_before text at == 39 in
     let start = start_of class.Atom text at in
-    if bytes_eq found (codes "a comma") then Some (comma text at)
+    if bytes_eq found (codes "a comma") then Some (comma_after_value text at)
     else if bytes_eq found (codes "a right bracket") || bytes_eq found (codes "a right brace")
     then Some (removed (said EXTRA_CLOSING) at (ahead text at 1))
     else if bytes_eq found (codes "a plus") && is_string then Some (marked (said JOINED) at (ahead text at 1))
@@ -121,8 +123,8 @@ after_value found text at =
     else if bytes_eq found (codes "an identifier") then Some (word_after text at)
     else Some (marked (said AFTER_VALUE) at (ahead text at 1))
 
-unfoldable pub no_newline : List ℕ → List ℕ → ℕ → Option FindingContent
-no_newline found text at =
+unfoldable pub at_newline : List ℕ → List ℕ → ℕ → Option FindingContent
+at_newline found text at =
     let line = first_of_line text at in
     if slice_index text line == 91 && byte_before text at == 93 then after_header found text line at
     else after_value found text at
@@ -132,11 +134,11 @@ unfoldable pub other_kind : List ℕ → List ℕ → List ℕ → Span → Opti
 other_kind expected found text span =
     if bytes_eq found (codes "integer") && (bytes_eq expected (codes "a float")
     && end_of class.Number text span.start == span.end)
-    then Some (replaced (said FLOAT_DUE) span.start span.end
+    then Some (replaced (said FLOAT_EXPECTED) span.start span.end
     (pieces (part text span.start span.end) (codes ".0") []))
     else if (bytes_eq found (codes "integer") || bytes_eq found (codes "float") || bytes_eq found (codes "boolean"))
     && bytes_eq expected (codes "a string")
-    then Some (quoted (said STRING_DUE) text span.start span.end)
+    then Some (in_quotes (said STRING_EXPECTED) text span.start span.end)
     else None
 
 abbrev pub ends_line : List ℕ → Bool
@@ -145,11 +147,11 @@ ends_line found =
 
 unfoldable pub wanted : List ℕ → List ℕ → List ℕ → Span → Option FindingContent
 wanted expected found text span =
-    if bytes_eq expected (codes "a value") then no_value found text span.start
-    else if bytes_eq expected (codes "an equals") then no_equals found text span.start
+    if bytes_eq expected (codes "a value") then at_value found text span.start
+    else if bytes_eq expected (codes "an equals") then at_equals found text span.start
     else if bytes_eq expected (codes "a table key") && ends_line found then unfinished_key text span.start
-    else if bytes_eq expected (codes "a table key") then no_key found text span.start
-    else if bytes_eq expected (codes "newline") then no_newline found text span.start
-    else if bytes_eq expected (codes "a right bracket") then no_bracket found text span.start
-    else if bytes_eq expected (codes "a comma") then no_comma found text span.start
+    else if bytes_eq expected (codes "a table key") then at_key found text span.start
+    else if bytes_eq expected (codes "newline") then at_newline found text span.start
+    else if bytes_eq expected (codes "a right bracket") then at_bracket found text span.start
+    else if bytes_eq expected (codes "a comma") then at_comma found text span.start
     else other_kind expected found text span

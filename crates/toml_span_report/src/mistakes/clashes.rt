@@ -6,7 +6,7 @@ ghost use Rattle.toml_span_report.specs.found.Clashes as spec;
 use crate::bytes::{
     Class, ahead, begins, byte_after, byte_at, end_of, first_of_line, last_of_line, part, start_of,
 };
-use crate::finding::{Code, Finding, pieces, shown, six, span_of};
+use crate::finding::{Code, Finding, pieces, six, span_of, without_replacement};
 use crate::mistakes::numbers::after_sign;
 use crate::words::{
     ARRAY_OF_TABLE, CLOSED_ARRAY, CLOSED_TABLE, CLOSED_TABLE_HEADER, DOTTED_TABLE, TABLE_OF_ARRAY,
@@ -33,15 +33,15 @@ pub(crate) fn table_twice<'a>(text: &'a str, span: Span, first: Span) -> Finding
     let end = header_end(text, span.start);
     let header = part(text, span.start, end);
     if is_array && !was_array {
-        let mut found = shown(ARRAY_OF_TABLE, span, first, pieces(header, "", ""));
+        let mut found = without_replacement(ARRAY_OF_TABLE, span, first, pieces(header, "", ""));
         found.edit = Some(span_of(first.start, header_end(text, first.start)));
         found
     } else if was_array && !is_array {
-        let mut found = shown(TABLE_OF_ARRAY, span, first, pieces("[", header, "]"));
+        let mut found = without_replacement(TABLE_OF_ARRAY, span, first, pieces("[", header, "]"));
         found.edit = Some(span_of(span.start, end));
         found
     } else {
-        shown(TABLE_TWICE, span, first, pieces("[", header, "]"))
+        without_replacement(TABLE_TWICE, span, first, pieces("[", header, "]"))
     }
 }
 
@@ -60,9 +60,9 @@ fn value_at(text: &str, end: usize) -> usize
 }
 
 /// Returns the label for the value at the offset `at`, such as `this is a string, not a table`.
-#[tactic(auto, unfolding(crate::specs::found::Clashes::no_table))]
-fn no_table(text: &str, at: usize) -> &'static str
-    ensures { result.now ≡ spec.no_table text.now at }
+#[tactic(auto, unfolding(crate::specs::found::Clashes::kind_label))]
+fn kind_label(text: &str, at: usize) -> &'static str
+    ensures { result.now ≡ spec.kind_label text.now at }
 {
     let digits = after_sign(text, at);
     let end = end_of(Class::Grouped, text, digits);
@@ -134,9 +134,9 @@ fn body<'a>(text: &'a str, end: usize) -> &'a str
     }
 }
 
-/// Returns the assignment to write in an inline table, instead of a header `[..]` that goes through the table. The part
-/// of the header that names the table ends at `end`. Returns empty code if this part is the last one, or if the
-/// header's line does not end with `]`.
+/// Returns the assignment to write in an inline table, instead of a header that goes through the table: a table for
+/// `[..]`, an array of one table for `[[..]]`. The part of the header that names the inline table ends at `end`.
+/// Returns empty code if this part is the last one, or if the header's line does not end with `]`.
 #[tactic(auto, unfolding(crate::specs::found::Clashes::subtable))]
 fn subtable<'a>(text: &'a str, end: usize) -> Code<'a>
     ensures { code_content result ≡ spec.subtable text.now end }
@@ -145,17 +145,16 @@ fn subtable<'a>(text: &'a str, end: usize) -> Code<'a>
     let name = end_of(Class::Blank, text, ahead(text, dot, 1));
     let last = last_of_line(text, end);
     let close = last.saturating_sub(1);
+    let inner = last.saturating_sub(2);
     if byte_at(text, dot) != b'.' || byte_at(text, close) != b']' {
-        return pieces("", "", "");
+        pieces("", "", "")
+    } else if begins(text, inner, b"]]") {
+        let name = part(text, name, inner);
+        six(name, " = [{", body(text, last), "}]", "", "")
+    } else {
+        let name = part(text, name, close);
+        six(name, " = {", body(text, last), "}", "", "")
     }
-    six(
-        part(text, name, close),
-        " = {",
-        body(text, last),
-        "}",
-        "",
-        "",
-    )
 }
 
 /// Recognizes a key or header, at `span`, that goes through an earlier value. The key of the value is at `first`.
@@ -168,23 +167,28 @@ pub(crate) fn through_value<'a>(text: &'a str, span: Span, first: Span) -> Optio
     let none = pieces("", "", "");
     match byte_at(text, value) {
         b'{' if byte_at(text, line) == b'[' => {
-            Some(shown(CLOSED_TABLE_HEADER, span, first, subtable(text, span.end)))
+            Some(without_replacement(CLOSED_TABLE_HEADER, span, first, subtable(text, span.end)))
         }
         b'{' => {
-            Some(shown(
+            Some(without_replacement(
                 CLOSED_TABLE,
                 span,
                 first,
                 extended(text, first.end, value, line),
             ))
         }
-        b'[' if begins(text, line, b"[[") => Some(shown(CLOSED_ARRAY, span, first, none)),
-        b'.' => Some(shown(DOTTED_TABLE, span, first, none)),
+        b'[' if begins(text, line, b"[[") => Some(without_replacement(
+            CLOSED_ARRAY,
+            span,
+            first,
+            none,
+        )),
+        b'.' => Some(without_replacement(DOTTED_TABLE, span, first, none)),
         0 | b']' => None,
         _ => {
-            let mut found = shown(THROUGH_VALUE, span, first, none);
+            let mut found = without_replacement(THROUGH_VALUE, span, first, none);
             found.words = Words {
-                also: no_table(text, value),
+                also: kind_label(text, value),
                 ..found.words
             };
             Some(found)

@@ -88,8 +88,8 @@ const MONTHS: [(&str, &str); 11] = [
 ];
 
 /// Returns whether the number that the two digits at the offset `at` spell is divisible by four.
-fn is_fourth(text: &str, at: usize) -> bool
-    ensures { result ≡ spec.is_fourth text.now at }
+fn is_multiple_of_four(text: &str, at: usize) -> bool
+    ensures { result ≡ spec.is_multiple_of_four text.now at }
 {
     let tens = u32::from(byte_at(text, at));
     (2 * tens + u32::from(byte_at(text, ahead(text, at, 1)))) % 4 == 0
@@ -116,7 +116,7 @@ fn month_length<'a>(text: &'a str, year: usize, month: usize) -> Code<'a>
         years
     };
     if begins(text, month, b"02") {
-        let days = if is_fourth(text, century) {
+        let days = if is_multiple_of_four(text, century) {
             " has 29 days"
         } else {
             " has 28 days"

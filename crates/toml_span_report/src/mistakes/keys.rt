@@ -1,6 +1,6 @@
 //! Mistakes in keys and headers. The module `mistakes` says what the functions take and return.
 ghost use Rattle.std.specs.Prelude.{◌≡◌, option_map};
-ghost use Rattle.toml_span_report.specs.Finding.{code_content, finding_content, meant_content};
+ghost use Rattle.toml_span_report.specs.Finding.{code_content, finding_content, substitute_content};
 ghost use Rattle.toml_span_report.specs.Words.{texts};
 ghost use Rattle.toml_span_report.specs.found.Keys as spec;
 
@@ -9,8 +9,8 @@ use crate::bytes::{
     last_of_line, part, start_of,
 };
 use crate::finding::{
-    Code, Finding, Meant, marked, mended, pieces, quote_for, quoted, removed, replaced, shown, six,
-    span_of,
+    Code, Finding, Substitute, in_quotes, marked, mended, pieces, quote_for, removed, replaced,
+    six, span_of, without_replacement,
 };
 use crate::mistakes::dates::is_date;
 use crate::mistakes::numbers::after_sign;
@@ -45,7 +45,7 @@ pub(crate) fn header_key<'a>(text: &'a str, at: usize) -> Option<Finding<'a>>
     let end = end_of(Class::Header, text, at);
     let to = start_of(Class::Blank, text, end);
     if from < to && matches!(byte_at(text, end), b'.' | b']') {
-        Some(quoted(BARE_KEY, text, from, to))
+        Some(in_quotes(BARE_KEY, text, from, to))
     } else {
         None
     }
@@ -59,7 +59,7 @@ pub(crate) fn other_key<'a>(text: &'a str, at: usize) -> Option<Finding<'a>>
     let from = start_of(Class::Name, text, at);
     let to = end_of(Class::Name, text, at);
     if from < to && matches!(byte_after(text, to), b'=' | b'.') {
-        Some(quoted(BARE_KEY, text, from, to))
+        Some(in_quotes(BARE_KEY, text, from, to))
     } else {
         None
     }
@@ -149,10 +149,10 @@ fn known_pair<'a>(
     mark: Span,
     edit: Span,
     at: usize,
-    known: Meant,
+    known: Substitute,
 ) -> Finding<'a>
     ensures { finding_content result
-        ≡ spec.known_pair (texts mistake.entry) key.now mark edit at (meant_content known) }
+        ≡ spec.known_pair (texts mistake.entry) key.now mark edit at (substitute_content known) }
 {
     if known.code.is_empty() {
         return marked(known.mistake, at, edit.end);
@@ -220,19 +220,19 @@ fn closing_of(are_values: bool, has_more: bool) -> &'static str
     }
 }
 
-/// Returns the finding for a list in the style of YAML. Its key begins at `start`, the colon after the key is at
+/// Returns the finding for a list in the style of YAML. Its key spans `start..end`, the colon after the key is at
 /// `colon`, and the dash of its first item is at `dash`. The code is a header if the first item is a table, otherwise
 /// an array of at most two items, and `..` for more.
 #[tactic(auto, unfolding(crate::specs::found::Keys::yaml_list))]
-fn yaml_list<'a>(text: &'a str, start: usize, colon: usize, dash: usize) -> Finding<'a>
-    ensures { finding_content result ≡ spec.yaml_list text.now start colon dash }
+fn yaml_list<'a>(text: &'a str, start: usize, end: usize, colon: usize, dash: usize) -> Finding<'a>
+    ensures { finding_content result ≡ spec.yaml_list text.now start end colon dash }
 {
     let mark = span_of(start, ahead(text, colon, 1));
-    let key = part(text, start, colon);
+    let key = part(text, start, end);
     let first = end_of(Class::Blank, text, ahead(text, dash, 1));
     let first_end = last_of_line(text, first);
     if byte_at(text, end_of(Class::Dotted, text, first)) == b':' {
-        return shown(YAML_ITEMS, mark, mark, pieces("[[", key, "]]"));
+        return without_replacement(YAML_ITEMS, mark, mark, pieces("[[", key, "]]"));
     }
     let next = end_of(Class::Gap, text, first_end);
     let second = end_of(Class::Blank, text, ahead(text, next, 1));
@@ -249,7 +249,7 @@ fn yaml_list<'a>(text: &'a str, start: usize, colon: usize, dash: usize) -> Find
     }
     let code = six(key, opening, one, comma, other, closing);
     if has_more {
-        shown(YAML_LIST, mark, mark, code)
+        without_replacement(YAML_LIST, mark, mark, code)
     } else {
         mended(YAML_LIST, mark, span_of(start, second_end), code)
     }
@@ -261,17 +261,18 @@ fn yaml_list<'a>(text: &'a str, start: usize, colon: usize, dash: usize) -> Find
 fn yaml<'a>(text: &'a str, at: usize) -> Finding<'a>
     ensures { finding_content result ≡ spec.yaml text.now at }
 {
-    let end = ahead(text, at, 1);
-    let below = end_of(Class::Gap, text, end);
-    let start = key_start(text, at);
+    let next = ahead(text, at, 1);
+    let below = end_of(Class::Gap, text, next);
+    let end = start_of(Class::Blank, text, at);
+    let start = key_start(text, end);
     if begins(text, below, b"- ") {
-        return yaml_list(text, start, at, below);
+        return yaml_list(text, start, end, at, below);
     }
     replaced(
         YAML_TABLE,
         start,
-        end,
-        pieces("[", part(text, start, at), "]"),
+        next,
+        pieces("[", part(text, start, end), "]"),
     )
 }
 
@@ -323,7 +324,7 @@ fn spaced_key<'a>(text: &'a str, end: usize, at: usize, stop: usize) -> Finding<
     }
     let from = end_of(Class::Blank, text, start_of(Class::Spaced, text, at));
     let to = start_of(Class::Blank, text, stop);
-    quoted(BARE_KEY, text, from, to)
+    in_quotes(BARE_KEY, text, from, to)
 }
 
 /// Returns the finding for an item of a YAML list. Its dash is at `dash`, its first word at `at`.
@@ -341,7 +342,7 @@ fn yaml_item<'a>(text: &'a str, dash: usize, at: usize) -> Finding<'a>
             pieces(part(text, at, end), "", ""),
         )
     } else {
-        shown(YAML_ITEMS, mark, mark, pieces("[[name]]", "", ""))
+        without_replacement(YAML_ITEMS, mark, mark, pieces("[[name]]", "", ""))
     }
 }
 
@@ -370,9 +371,9 @@ fn second_word<'a>(text: &'a str, end: usize, at: usize) -> Option<Finding<'a>>
 }
 
 /// Recognizes the mistake in the token `found` at `at`, where `=` is expected.
-#[tactic(auto, unfolding(crate::specs::found::Keys::no_equals))]
-pub(crate) fn no_equals<'a>(found: &str, text: &'a str, at: usize) -> Option<Finding<'a>>
-    ensures { option_map finding_content result ≡ spec.no_equals found.now text.now at }
+#[tactic(auto, unfolding(crate::specs::found::Keys::at_equals))]
+pub(crate) fn at_equals<'a>(found: &str, text: &'a str, at: usize) -> Option<Finding<'a>>
+    ensures { option_map finding_content result ≡ spec.at_equals found.now text.now at }
 {
     let end = start_of(Class::Blank, text, at);
     match found {
@@ -426,7 +427,7 @@ fn placeholder<'a>(text: &'a str, at: usize) -> Finding<'a>
         return marked(TEMPLATE, at, ahead(text, at, 2));
     }
     let end = ahead(text, close, 2);
-    quoted(TEMPLATE, text, at, end)
+    in_quotes(TEMPLATE, text, at, end)
 }
 
 /// Returns the finding for the extra dot, comma or bracket at `at`.
@@ -454,9 +455,9 @@ pub(crate) fn missing_key<'a>(mistake: Mistake, text: &'a str, at: usize) -> Fin
 }
 
 /// Recognizes the mistake in the token `found` at `at`, where a key is expected.
-#[tactic(auto, unfolding(crate::specs::found::Keys::no_key))]
-pub(crate) fn no_key<'a>(found: &str, text: &'a str, at: usize) -> Option<Finding<'a>>
-    ensures { option_map finding_content result ≡ spec.no_key found.now text.now at }
+#[tactic(auto, unfolding(crate::specs::found::Keys::at_key))]
+pub(crate) fn at_key<'a>(found: &str, text: &'a str, at: usize) -> Option<Finding<'a>>
+    ensures { option_map finding_content result ≡ spec.at_key found.now text.now at }
 {
     match found {
         "a period" => Some(extra(EXTRA_DOT, text, at)),

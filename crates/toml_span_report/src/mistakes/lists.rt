@@ -12,11 +12,11 @@ use crate::bytes::{
 use crate::finding::{Finding, marked, mended, pieces, removed, replaced, span_of};
 use crate::mistakes::keys::{header_key, missing_key, other_sign};
 use crate::mistakes::values::{unquoted, unquoted_value};
-use crate::scan::{is_in_header, is_long, open_before};
+use crate::scan::{innermost, is_in_header, is_long, open_before};
 use crate::words::{
     ARRAY_ALONE, CLOSED_BY_BRACE, CLOSED_BY_BRACKET, EQUALS, EXTRA_COMMA, HASH_VALUE,
-    LEADING_POINT, Mistake, NO_COMMA, NO_COMMA_IN_TABLE, NO_NAME, NO_VALUE_BEHIND, OPEN_ARRAY,
-    OPEN_HEADER, OPEN_TABLE, VALUE_BELOW,
+    LEADING_POINT, Mistake, NO_COMMA, NO_COMMA_IN_TABLE, NO_NAME, NO_VALUE_AFTER_EQUALS,
+    OPEN_ARRAY, OPEN_HEADER, OPEN_TABLE, VALUE_BELOW,
 };
 
 /// Returns the finding for the outermost bracket or brace that is still open at the offset `at`.
@@ -91,7 +91,7 @@ pub(crate) fn missing_value<'a>(text: &'a str, at: usize) -> Option<Finding<'a>>
     if byte_before(text, at) == b'=' {
         match value_below(text, at) {
             Some(found) => Some(found),
-            None => Some(marked(NO_VALUE_BEHIND, at, at)),
+            None => Some(marked(NO_VALUE_AFTER_EQUALS, at, at)),
         }
     } else {
         open_end(text, at)
@@ -114,9 +114,9 @@ fn hash<'a>(text: &'a str, at: usize) -> Option<Finding<'a>>
 }
 
 /// Recognizes an extra comma at `at`, where a value is expected. Returns `None` if the comma follows `=`.
-#[tactic(auto, unfolding(crate::specs::found::Lists::comma))]
-fn comma<'a>(text: &'a str, at: usize) -> Option<Finding<'a>>
-    ensures { option_map finding_content result ≡ spec.comma text.now at }
+#[tactic(auto, unfolding(crate::specs::found::Lists::extra_comma))]
+fn extra_comma<'a>(text: &'a str, at: usize) -> Option<Finding<'a>>
+    ensures { option_map finding_content result ≡ spec.extra_comma text.now at }
 {
     if byte_before(text, at) == b'=' {
         None
@@ -158,12 +158,12 @@ fn equals<'a>(text: &'a str, at: usize) -> Option<Finding<'a>>
 }
 
 /// Recognizes the mistake in the token `found` at `at`, where a value is expected.
-#[tactic(auto, unfolding(crate::specs::found::Lists::no_value))]
-pub(crate) fn no_value<'a>(found: &str, text: &'a str, at: usize) -> Option<Finding<'a>>
-    ensures { option_map finding_content result ≡ spec.no_value found.now text.now at }
+#[tactic(auto, unfolding(crate::specs::found::Lists::at_value))]
+pub(crate) fn at_value<'a>(found: &str, text: &'a str, at: usize) -> Option<Finding<'a>>
+    ensures { option_map finding_content result ≡ spec.at_value found.now text.now at }
 {
     match found {
-        "a comma" => comma(text, at),
+        "a comma" => extra_comma(text, at),
         "an equals" => equals(text, at),
         "a period" => point(text, at),
         "a newline" | "eof" => missing_value(text, at),
@@ -269,6 +269,7 @@ fn unseparated<'a>(mistake: Mistake, text: &'a str, at: usize) -> Finding<'a>
 }
 
 /// Returns the finding for the closing bracket at `at`, which is of the wrong kind. `closing` is the correct bracket.
+/// The finding also marks the bracket to close.
 #[tactic(auto, unfolding(crate::specs::found::Lists::wrong_closing))]
 fn wrong_closing<'a>(
     mistake: Mistake,
@@ -279,7 +280,7 @@ fn wrong_closing<'a>(
     ensures { finding_content result ≡ spec.wrong_closing (texts mistake.entry) text.now at closing.now }
 {
     let end = ahead(text, at, 1);
-    let bracket = open_before(text, at).bracket;
+    let bracket = innermost(text, at);
     let mut found = replaced(mistake, at, end, pieces(closing, "", ""));
     found.also = span_of(bracket, ahead(text, bracket, 1));
     found
@@ -299,9 +300,9 @@ fn glued<'a>(text: &'a str, at: usize) -> Option<Finding<'a>>
 }
 
 /// Recognizes the mistake in the token `found` at `at`, where `]` is expected.
-#[tactic(auto, unfolding(crate::specs::found::Lists::no_bracket))]
-pub(crate) fn no_bracket<'a>(found: &str, text: &'a str, at: usize) -> Option<Finding<'a>>
-    ensures { option_map finding_content result ≡ spec.no_bracket found.now text.now at }
+#[tactic(auto, unfolding(crate::specs::found::Lists::at_bracket))]
+pub(crate) fn at_bracket<'a>(found: &str, text: &'a str, at: usize) -> Option<Finding<'a>>
+    ensures { option_map finding_content result ≡ spec.at_bracket found.now text.now at }
 {
     let state = open_before(text, at);
     if is_in_header(text, state) {
@@ -316,9 +317,9 @@ pub(crate) fn no_bracket<'a>(found: &str, text: &'a str, at: usize) -> Option<Fi
 }
 
 /// Recognizes the mistake in the token `found` at `at`, where a comma is expected in an inline table.
-#[tactic(auto, unfolding(crate::specs::found::Lists::no_comma))]
-pub(crate) fn no_comma<'a>(found: &str, text: &'a str, at: usize) -> Option<Finding<'a>>
-    ensures { option_map finding_content result ≡ spec.no_comma found.now text.now at }
+#[tactic(auto, unfolding(crate::specs::found::Lists::at_comma))]
+pub(crate) fn at_comma<'a>(found: &str, text: &'a str, at: usize) -> Option<Finding<'a>>
+    ensures { option_map finding_content result ≡ spec.at_comma found.now text.now at }
 {
     match found {
         "eof" => Some(unclosed(text, at)),

@@ -6,7 +6,7 @@ ghost use Rattle.toml_span_report.specs.Words.{texts};
 ghost use Rattle.toml_span_report.specs.found.Numbers as spec;
 
 use crate::bytes::{Class, ahead, begins, byte_at, end_of, is_in, part, start_of};
-use crate::finding::{Code, Finding, marked, pieces, quoted, replaced, six};
+use crate::finding::{Code, Finding, in_quotes, marked, pieces, replaced, six};
 use crate::mistakes::dates::slash_date;
 use crate::words::{
     LEADING_ZERO, MISPLACED, Mistake, NO_DIGITS, NO_EXPONENT, OCTAL, OTHER_DIGIT, SIGNED_DECIMAL,
@@ -116,15 +116,15 @@ fn decimal_code<'a>(text: &'a str, start: usize, value: u64) -> Code<'a>
 }
 
 /// Returns the finding for a number with a sign before a prefix such as `0x`. The `0` of the prefix is at `zero`. The
-/// replacement is the number in decimal. The finding has no replacement if a digit is not valid, or if the number
-/// without its sign is higher than 2^63.
+/// replacement is the number in decimal. The finding has no replacement if a digit is not valid, or if the number is
+/// too large or too small for an integer (`largest`).
 #[tactic(auto, unfolding(crate::specs::found::Numbers::signed_prefix))]
 fn signed_prefix<'a>(text: &'a str, start: usize, zero: usize, end: usize) -> Finding<'a>
     ensures { finding_content result ≡ spec.signed_prefix text.now start zero end }
 {
     let base = base_of(byte_at(text, ahead(text, zero, 1)));
     match value_of(part(text, ahead(text, zero, 2), end), base) {
-        Some(value) if value <= 9223372036854775808 => {
+        Some(value) if value <= largest(text, start) => {
             replaced(SIGNED_DECIMAL, start, end, decimal_code(text, start, value))
         }
         _ => marked(SIGNED_PREFIX, start, end),
@@ -151,9 +151,9 @@ fn unsigned_prefix<'a>(text: &'a str, start: usize, end: usize, letter: u8) -> F
 
 /// Recognizes the mistake in an invalid number with a prefix such as `0x`. Returns `None` unless the prefix begins at
 /// `zero`.
-#[tactic(auto, unfolding(crate::specs::found::Numbers::prefixed))]
-fn prefixed<'a>(text: &'a str, start: usize, zero: usize, end: usize) -> Option<Finding<'a>>
-    ensures { option_map finding_content result ≡ spec.prefixed text.now start zero end }
+#[tactic(auto, unfolding(crate::specs::found::Numbers::prefixed_number))]
+fn prefixed_number<'a>(text: &'a str, start: usize, zero: usize, end: usize) -> Option<Finding<'a>>
+    ensures { option_map finding_content result ≡ spec.prefixed_number text.now start zero end }
 {
     let letter = byte_at(text, ahead(text, zero, 1));
     let digits = digits_of(letter);
@@ -171,14 +171,16 @@ fn prefixed<'a>(text: &'a str, start: usize, zero: usize, end: usize) -> Option<
 }
 
 /// Returns the finding for a number with leading zeros. Its digits begin at `digits`, with the zeros. For a number such
-/// as `0755`, the replacement is octal (`0o755`). For any other number, it has no leading zeros.
+/// as `0755`, of one zero and three octal digits, the replacement is octal (`0o755`). For any other number, it has no
+/// leading zeros.
 #[tactic(auto, unfolding(crate::specs::found::Numbers::zeros))]
 fn zeros<'a>(text: &'a str, start: usize, digits: usize, end: usize) -> Finding<'a>
     ensures { finding_content result ≡ spec.zeros text.now start digits end }
 {
     let more = ahead(text, digits, 1);
     let is_mode = ahead(text, digits, 4) == end
-        && !matches!(byte_at(text, more), b'0' | b'8' | b'9');
+        && byte_at(text, more) != b'0'
+        && value_of(part(text, more, end), 8).is_some();
     if is_mode && start == digits && end_of(Class::Digit, text, digits) == end {
         let code = pieces("0o", part(text, more, end), "");
         return replaced(OCTAL, start, end, code);
@@ -218,13 +220,17 @@ fn largest(text: &str, start: usize) -> u64
     }
 }
 
-/// Returns the mistake in an integer of digits and `_` that is not too large: a zero before `_` and a digit, as in
-/// `0_1`, or a misplaced `_`. The digits begin at `digits`.
+/// Returns the mistake in an integer of digits and `_` that is not too large: a zero before `_` or `__` and a digit, as
+/// in `0_1`, or a misplaced `_`. The digits begin at `digits`.
 fn grouping_mistake(text: &str, digits: usize) -> Mistake
     ensures { texts result ≡ spec.grouping_mistake text.now digits }
 {
-    let is_padded = begins(text, digits, b"0_");
-    if is_padded && is_in(Class::Digit, byte_at(text, ahead(text, digits, 2))) {
+    let after = if begins(text, digits, b"0__") {
+        ahead(text, digits, 3)
+    } else {
+        ahead(text, digits, 2)
+    };
+    if begins(text, digits, b"0_") && is_in(Class::Digit, byte_at(text, after)) {
         LEADING_ZERO
     } else {
         UNDERSCORE
@@ -232,14 +238,15 @@ fn grouping_mistake(text: &str, digits: usize) -> Mistake
 }
 
 /// Returns the finding for an invalid integer of digits and `_`, which begin at `digits`: too large, with a leading
-/// zero, or with a misplaced `_`.
+/// zero, or with a misplaced `_`. Its replacement has a leading zero only if it is `0`.
 #[tactic(auto, unfolding(crate::specs::found::Numbers::integer))]
 fn integer<'a>(text: &'a str, start: usize, digits: usize, end: usize) -> Finding<'a>
     ensures { finding_content result ≡ spec.integer text.now start digits end }
 {
     let first = end_of(Class::Digit, text, digits);
     let rest = ahead(text, first, 2);
-    let is_twice = digits < first && begins(text, first, b"__") && rest < end;
+    let is_padded = byte_at(text, digits) == b'0';
+    let is_twice = digits < first && !is_padded && begins(text, first, b"__") && rest < end;
     match value_of(part(text, digits, end), 10) {
         Some(value) if value <= largest(text, start) => {
             let code = if is_twice && end_of(Class::Digit, text, rest) == end {
@@ -319,7 +326,7 @@ fn plain<'a>(text: &'a str, start: usize, digits: usize, end: usize) -> Option<F
     } else if end <= end_of(Class::Number, text, start) {
         float(text, start, point, end)
     } else {
-        Some(quoted(UNQUOTED, text, start, end))
+        Some(in_quotes(UNQUOTED, text, start, end))
     }
 }
 
@@ -334,7 +341,7 @@ pub(crate) fn number<'a>(text: &'a str, at: usize) -> Option<Finding<'a>>
     if let Some(found) = slash_date(text, start, end) {
         return Some(found);
     }
-    if let Some(found) = prefixed(text, start, digits, end) {
+    if let Some(found) = prefixed_number(text, start, digits, end) {
         return Some(found);
     }
     if matches!(byte_at(text, digits), b'+' | b'-') {

@@ -1,7 +1,7 @@
 //! Mistakes with characters that do not begin a token, such as curly quotes and `;`. The module `mistakes` says what
 //! the functions take and return.
 ghost use Rattle.std.specs.Prelude.{◌≡◌, option_map};
-ghost use Rattle.toml_span_report.specs.Finding.{finding_content, meant_content};
+ghost use Rattle.toml_span_report.specs.Finding.{finding_content, substitute_content};
 ghost use Rattle.toml_span_report.specs.found.Symbols as spec;
 
 use crate::bytes::{
@@ -9,7 +9,7 @@ use crate::bytes::{
     start_of,
 };
 use crate::finding::{
-    Finding, Meant, as_meant, marked, mended, pieces, removed, replaced, span_of,
+    Finding, Substitute, as_substitute, marked, mended, pieces, removed, replaced, span_of,
 };
 use crate::mistakes::keys::{comment, header_key, other_key, other_sign};
 use crate::mistakes::values::unquoted_value;
@@ -22,21 +22,21 @@ use crate::words::{
 /// Returns the TOML character that `c` looks like, with the mistake and the Unicode name of `c`. If `c` is invisible,
 /// the code is empty. Returns `None` for any other character.
 #[tactic(auto, unfolding(crate::specs::found::Symbols::look_alike))]
-fn look_alike(c: char) -> Option<Meant>
-    ensures { option_map meant_content result ≡ spec.look_alike c }
+fn look_alike(c: char) -> Option<Substitute>
+    ensures { option_map substitute_content result ≡ spec.look_alike c }
 {
     match c as u32 {
-        0xA0 => as_meant(OTHER_SPACE, "NO-BREAK SPACE (U+00A0)", " "),
-        0x2009 => as_meant(OTHER_SPACE, "THIN SPACE (U+2009)", " "),
-        0x202F => as_meant(OTHER_SPACE, "NARROW NO-BREAK SPACE (U+202F)", " "),
-        0x3000 => as_meant(OTHER_SPACE, "IDEOGRAPHIC SPACE (U+3000)", " "),
-        0x200B => as_meant(INVISIBLE, "ZERO WIDTH SPACE (U+200B)", ""),
-        0xFEFF => as_meant(INVISIBLE, "BYTE ORDER MARK (U+FEFF)", ""),
-        0x2013 => as_meant(OTHER_SIGN, "EN DASH (U+2013)", "-"),
-        0x2014 => as_meant(OTHER_SIGN, "EM DASH (U+2014)", "-"),
-        0x2212 => as_meant(OTHER_SIGN, "MINUS SIGN (U+2212)", "-"),
-        0xFF1D => as_meant(OTHER_SIGN, "FULLWIDTH EQUALS SIGN (U+FF1D)", "="),
-        0xFF0C => as_meant(OTHER_SIGN, "FULLWIDTH COMMA (U+FF0C)", ","),
+        0xA0 => as_substitute(OTHER_SPACE, "NO-BREAK SPACE (U+00A0)", " "),
+        0x2009 => as_substitute(OTHER_SPACE, "THIN SPACE (U+2009)", " "),
+        0x202F => as_substitute(OTHER_SPACE, "NARROW NO-BREAK SPACE (U+202F)", " "),
+        0x3000 => as_substitute(OTHER_SPACE, "IDEOGRAPHIC SPACE (U+3000)", " "),
+        0x200B => as_substitute(INVISIBLE, "ZERO WIDTH SPACE (U+200B)", ""),
+        0xFEFF => as_substitute(INVISIBLE, "BYTE ORDER MARK (U+FEFF)", ""),
+        0x2013 => as_substitute(OTHER_SIGN, "EN DASH (U+2013)", "-"),
+        0x2014 => as_substitute(OTHER_SIGN, "EM DASH (U+2014)", "-"),
+        0x2212 => as_substitute(OTHER_SIGN, "MINUS SIGN (U+2212)", "-"),
+        0xFF1D => as_substitute(OTHER_SIGN, "FULLWIDTH EQUALS SIGN (U+FF1D)", "="),
+        0xFF0C => as_substitute(OTHER_SIGN, "FULLWIDTH COMMA (U+FF0C)", ","),
         _ => None,
     }
 }
@@ -85,8 +85,8 @@ fn curly<'a>(text: &'a str, at: usize, name: &'static str) -> Finding<'a>
 
 /// Returns the finding for the character at `at`, which `meant.code` should replace.
 #[tactic(auto, unfolding(crate::specs::found::Symbols::other_character))]
-fn other_character<'a>(text: &'a str, at: usize, meant: Meant) -> Finding<'a>
-    ensures { finding_content result ≡ spec.other_character text.now at (meant_content meant) }
+fn other_character<'a>(text: &'a str, at: usize, meant: Substitute) -> Finding<'a>
+    ensures { finding_content result ≡ spec.other_character text.now at (substitute_content meant) }
 {
     let end = end_of(Class::Continuation, text, ahead(text, at, 1));
     let code = pieces(meant.code, "", "");
@@ -205,9 +205,9 @@ fn foreign<'a>(text: &'a str, at: usize) -> Option<Finding<'a>>
 
 /// Recognizes a key or value that needs quotes because of the character at `at`. The word that contains the character
 /// begins at `start`.
-#[tactic(auto, unfolding(crate::specs::found::Symbols::unquoted))]
-fn unquoted<'a>(text: &'a str, at: usize, start: usize) -> Option<Finding<'a>>
-    ensures { option_map finding_content result ≡ spec.unquoted text.now at start }
+#[tactic(auto, unfolding(crate::specs::found::Symbols::unquoted_key_or_value))]
+fn unquoted_key_or_value<'a>(text: &'a str, at: usize, start: usize) -> Option<Finding<'a>>
+    ensures { option_map finding_content result ≡ spec.unquoted_key_or_value text.now at start }
 {
     let state = open_before(text, at);
     if is_in_header(text, state) {
@@ -259,6 +259,6 @@ pub(crate) fn unexpected<'a>(text: &'a str, at: usize, c: char) -> Option<Findin
     }
     match foreign(text, at) {
         Some(found) => Some(found),
-        None => unquoted(text, at, start),
+        None => unquoted_key_or_value(text, at, start),
     }
 }

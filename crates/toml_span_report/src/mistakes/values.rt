@@ -1,11 +1,11 @@
 //! Recognizes words that are written instead of values, such as `True` or a string without quotes. The module
 //! `mistakes` says what the functions take and return.
 ghost use Rattle.std.specs.Prelude.{◌≡◌, option_map};
-ghost use Rattle.toml_span_report.specs.Finding.{finding_content, meant_content};
+ghost use Rattle.toml_span_report.specs.Finding.{finding_content, substitute_content};
 ghost use Rattle.toml_span_report.specs.found.Values as spec;
 
 use crate::bytes::{Class, ahead, byte_after, byte_at, end_of, part, start_of};
-use crate::finding::{Finding, Meant, as_meant, marked, pieces, quoted, replaced};
+use crate::finding::{Finding, Substitute, as_substitute, in_quotes, marked, pieces, replaced};
 use crate::words::{
     NEAR_FALSE, NEAR_TRUE, NULL, OTHER_BOOLEAN, OTHER_FLOAT, PREFIXED, RAW_STRING, UNQUOTED,
     UNQUOTED_TEXT, UPPER_BOOLEAN,
@@ -13,9 +13,9 @@ use crate::words::{
 
 /// Returns whether `word` and `name` are equal, or differ only at the offset `at`, where a byte is missing, extra or
 /// different, or two bytes are swapped.
-#[tactic(auto, unfolding(crate::specs::found::Values::is_near_at))]
-fn is_near_at(word: &str, name: &str, at: usize) -> bool
-    ensures { result ≡ spec.is_near_at word.now name.now at }
+#[tactic(auto, unfolding(crate::specs::found::Values::is_within_one_edit_at))]
+fn is_within_one_edit_at(word: &str, name: &str, at: usize) -> bool
+    ensures { result ≡ spec.is_within_one_edit_at word.now name.now at }
 {
     let (after, last) = (ahead(word, at, 1), word.len());
     let (name_after, name_last) = (ahead(name, at, 1), name.len());
@@ -33,27 +33,27 @@ fn is_near_at(word: &str, name: &str, at: usize) -> bool
 
 /// Returns whether `word` and `name` are equal, or differ in one byte that is missing, extra or different, or in two
 /// swapped bytes. `name` has at most five bytes.
-#[tactic(auto, unfolding(crate::specs::found::Values::is_near))]
-fn is_near(word: &str, name: &str) -> bool
-    ensures { result ≡ spec.is_near word.now name.now }
+#[tactic(auto, unfolding(crate::specs::found::Values::is_within_one_edit))]
+fn is_within_one_edit(word: &str, name: &str) -> bool
+    ensures { result ≡ spec.is_within_one_edit word.now name.now }
 {
-    is_near_at(word, name, 0)
-        || is_near_at(word, name, 1)
-        || is_near_at(word, name, 2)
-        || is_near_at(word, name, 3)
-        || is_near_at(word, name, 4)
-        || is_near_at(word, name, 5)
+    is_within_one_edit_at(word, name, 0)
+        || is_within_one_edit_at(word, name, 1)
+        || is_within_one_edit_at(word, name, 2)
+        || is_within_one_edit_at(word, name, 3)
+        || is_within_one_edit_at(word, name, 4)
+        || is_within_one_edit_at(word, name, 5)
 }
 
-/// Returns the boolean that a word probably misspells, or `None` if the word is not near a boolean (`is_near`).
+/// Returns the boolean that a word probably misspells, or `None` if there is none (`is_within_one_edit`).
 #[tactic(auto, unfolding(crate::specs::found::Values::near_boolean))]
-fn near_boolean(word: &str) -> Option<Meant>
-    ensures { option_map meant_content result ≡ spec.near_boolean word.now }
+fn near_boolean(word: &str) -> Option<Substitute>
+    ensures { option_map substitute_content result ≡ spec.near_boolean word.now }
 {
-    if is_near(word, "true") {
-        as_meant(NEAR_TRUE, "", "true")
-    } else if is_near(word, "false") {
-        as_meant(NEAR_FALSE, "", "false")
+    if is_within_one_edit(word, "true") {
+        as_substitute(NEAR_TRUE, "", "true")
+    } else if is_within_one_edit(word, "false") {
+        as_substitute(NEAR_FALSE, "", "false")
     } else {
         None
     }
@@ -62,17 +62,17 @@ fn near_boolean(word: &str) -> Option<Meant>
 /// Returns what TOML has for a word of other languages, or for a misspelled boolean: the mistake, and the code to
 /// write. The code is empty if TOML has nothing for the word. Returns `None` for any other word.
 #[tactic(auto, unfolding(crate::specs::found::Values::known_word))]
-pub(crate) fn known_word(word: &str) -> Option<Meant>
-    ensures { option_map meant_content result ≡ spec.known_word word.now }
+pub(crate) fn known_word(word: &str) -> Option<Substitute>
+    ensures { option_map substitute_content result ≡ spec.known_word word.now }
 {
     match word {
-        "True" | "TRUE" => as_meant(UPPER_BOOLEAN, "", "true"),
-        "False" | "FALSE" => as_meant(UPPER_BOOLEAN, "", "false"),
-        "yes" | "Yes" | "YES" | "on" | "On" | "ON" => as_meant(OTHER_BOOLEAN, "", "true"),
-        "no" | "No" | "NO" | "off" | "Off" | "OFF" => as_meant(OTHER_BOOLEAN, "", "false"),
-        "null" | "Null" | "NULL" | "None" | "nil" | "undefined" => as_meant(NULL, "", ""),
-        "NaN" | "NAN" | "Nan" => as_meant(OTHER_FLOAT, "", "nan"),
-        "Infinity" | "infinity" | "Inf" | "INF" => as_meant(OTHER_FLOAT, "", "inf"),
+        "True" | "TRUE" => as_substitute(UPPER_BOOLEAN, "", "true"),
+        "False" | "FALSE" => as_substitute(UPPER_BOOLEAN, "", "false"),
+        "yes" | "Yes" | "YES" | "on" | "On" | "ON" => as_substitute(OTHER_BOOLEAN, "", "true"),
+        "no" | "No" | "NO" | "off" | "Off" | "OFF" => as_substitute(OTHER_BOOLEAN, "", "false"),
+        "null" | "Null" | "NULL" | "None" | "nil" | "undefined" => as_substitute(NULL, "", ""),
+        "NaN" | "NAN" | "Nan" => as_substitute(OTHER_FLOAT, "", "nan"),
+        "Infinity" | "infinity" | "Inf" | "INF" => as_substitute(OTHER_FLOAT, "", "inf"),
         _ => near_boolean(word),
     }
 }
@@ -99,15 +99,15 @@ pub(crate) fn unquoted_value<'a>(text: &'a str, at: usize) -> Finding<'a>
     let end = end_of(Class::Word, text, at);
     match byte_after(text, end) {
         b'"' | b'\'' => marked(UNQUOTED_TEXT, at, end),
-        _ => quoted(UNQUOTED, text, at, phrase_end(text, at, end)),
+        _ => in_quotes(UNQUOTED, text, at, phrase_end(text, at, end)),
     }
 }
 
 /// Returns the finding for a string with letters before its quote, such as `r".."`. The letters begin at `at`, and the
 /// quote is at `quote`.
-#[tactic(auto, unfolding(crate::specs::found::Values::prefixed))]
-fn prefixed<'a>(text: &'a str, at: usize, quote: usize) -> Finding<'a>
-    ensures { finding_content result ≡ spec.prefixed text.now at quote }
+#[tactic(auto, unfolding(crate::specs::found::Values::prefixed_string))]
+fn prefixed_string<'a>(text: &'a str, at: usize, quote: usize) -> Finding<'a>
+    ensures { finding_content result ≡ spec.prefixed_string text.now at quote }
 {
     let close = end_of(Class::Unquoted, text, ahead(text, quote, 1));
     let content = part(text, ahead(text, quote, 1), close);
@@ -132,8 +132,8 @@ fn prefixed<'a>(text: &'a str, at: usize, quote: usize) -> Finding<'a>
 
 /// Returns the finding for the word in `at..end`, which is written instead of a value. `known` is what TOML has for the
 /// word. The finding has a replacement unless `known.code` is empty.
-fn known_value<'a>(at: usize, end: usize, known: Meant) -> Finding<'a>
-    ensures { finding_content result ≡ spec.known_value at end (meant_content known) }
+fn known_value<'a>(at: usize, end: usize, known: Substitute) -> Finding<'a>
+    ensures { finding_content result ≡ spec.known_value at end (substitute_content known) }
 {
     if known.code.is_empty() {
         marked(known.mistake, at, end)
@@ -149,7 +149,7 @@ pub(crate) fn unquoted<'a>(text: &'a str, at: usize) -> Finding<'a>
 {
     let end = end_of(Class::Word, text, at);
     if end <= ahead(text, at, 2) && matches!(byte_at(text, end), b'"' | b'\'') {
-        return prefixed(text, at, end);
+        return prefixed_string(text, at, end);
     }
     match known_word(part(text, at, end)) {
         Some(known) => known_value(at, end, known),

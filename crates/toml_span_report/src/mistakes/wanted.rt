@@ -6,35 +6,36 @@ ghost use Rattle.toml_span_report.specs.Words.{texts};
 ghost use Rattle.toml_span_report.specs.found.Wanted as spec;
 
 use crate::bytes::{
-    Class, ahead, byte_after, byte_at, byte_before, end_of, first_of_line, is_in, is_last,
+    Class, ahead, begins, byte_after, byte_at, byte_before, end_of, first_of_line, is_in, is_last,
     last_of_line, part, start_of,
 };
-use crate::finding::{Finding, marked, mended, pieces, quoted, removed, replaced, span_of};
-use crate::mistakes::keys::{extra, no_equals, no_key};
-use crate::mistakes::lists::{no_bracket, no_comma, no_value, unfinished_key};
+use crate::finding::{Finding, in_quotes, marked, mended, pieces, removed, replaced, span_of};
+use crate::mistakes::keys::{at_equals, at_key, extra};
+use crate::mistakes::lists::{at_bracket, at_comma, at_value, unfinished_key};
 use crate::mistakes::numbers::thousands;
 use crate::mistakes::strings::quote_in_string;
 use crate::mistakes::values::unquoted_value;
 use crate::tables::text_in;
 use crate::words::{
-    AFTER_VALUE, COMMA_BEHIND_VALUE, EXTRA_CLOSING, FLOAT_DUE, HALF_DAY, HEADER_BRACKET, JOINED,
-    KEY_AFTER_HEADER, LAST_COMMA, Mistake, SECOND_KEY, STRING_DUE, VALUE_OF_HEADER, ZONE_NAME,
+    AFTER_VALUE, COMMA_AFTER_VALUE, EXTRA_CLOSING, FLOAT_EXPECTED, HALF_DAY, HEADER_BRACKET,
+    JOINED, KEY_AFTER_HEADER, LAST_COMMA, Mistake, SECOND_KEY, STRING_EXPECTED, VALUE_OF_HEADER,
+    ZONE_NAME,
 };
 use toml_span_lex::span::Span;
 
 /// Returns the finding for the key at `at`, which should be on the next line. The replacement puts a line feed in place
 /// of the bytes `from..at`.
-fn broken<'a>(mistake: Mistake, text: &'a str, from: usize, at: usize) -> Finding<'a>
-    ensures { finding_content result ≡ spec.broken (texts mistake.entry) text.now from at }
+fn onto_next_line<'a>(mistake: Mistake, text: &'a str, from: usize, at: usize) -> Finding<'a>
+    ensures { finding_content result ≡ spec.onto_next_line (texts mistake.entry) text.now from at }
 {
     let mark = span_of(at, end_of(Class::Dotted, text, at));
     mended(mistake, mark, span_of(from, at), pieces("\n", "", ""))
 }
 
 /// Returns the finding for the comma at `at`, after a value on the same line.
-#[tactic(auto, unfolding(crate::specs::found::Wanted::comma))]
-fn comma<'a>(text: &'a str, at: usize) -> Finding<'a>
-    ensures { finding_content result ≡ spec.comma text.now at }
+#[tactic(auto, unfolding(crate::specs::found::Wanted::comma_after_value))]
+fn comma_after_value<'a>(text: &'a str, at: usize) -> Finding<'a>
+    ensures { finding_content result ≡ spec.comma_after_value text.now at }
 {
     let end = ahead(text, at, 1);
     if let Some(found) = thousands(text, at) {
@@ -44,7 +45,7 @@ fn comma<'a>(text: &'a str, at: usize) -> Finding<'a>
         removed(LAST_COMMA, at, end)
     } else if byte_at(text, end_of(Class::Left, text, end)) == b'=' {
         mended(
-            COMMA_BEHIND_VALUE,
+            COMMA_AFTER_VALUE,
             span_of(at, end),
             span_of(at, end_of(Class::Blank, text, end)),
             pieces("\n", "", ""),
@@ -59,9 +60,10 @@ fn comma<'a>(text: &'a str, at: usize) -> Finding<'a>
 fn header_value<'a>(text: &'a str, line: usize, at: usize) -> Finding<'a>
     ensures { finding_content result ≡ spec.header_value text.now line at }
 {
-    let stop = start_of(Class::Blank, text, at).saturating_sub(1);
+    let width = if begins(text, line, b"[[") { 2 } else { 1 };
+    let stop = start_of(Class::Blank, text, at).saturating_sub(width);
     let last = last_of_line(text, at);
-    let name = part(text, ahead(text, line, 1), stop);
+    let name = part(text, ahead(text, line, width), stop);
     let code = pieces(name, " ", part(text, at, last));
     replaced(VALUE_OF_HEADER, line, last, code)
 }
@@ -77,7 +79,7 @@ fn after_header<'a>(found: &str, text: &'a str, line: usize, at: usize) -> Optio
     match found {
         "a right bracket" => Some(extra(HEADER_BRACKET, text, at)),
         "an equals" => Some(header_value(text, line, at)),
-        "an identifier" | "a string" => Some(broken(KEY_AFTER_HEADER, text, from, at)),
+        "an identifier" | "a string" => Some(onto_next_line(KEY_AFTER_HEADER, text, from, at)),
         _ => Some(marked(AFTER_VALUE, at, end)),
     }
 }
@@ -177,7 +179,7 @@ fn word_after<'a>(text: &'a str, at: usize) -> Finding<'a>
         return zone(text, at, end);
     }
     if byte_after(text, end_of(Class::Dotted, text, at)) == b'=' {
-        return broken(SECOND_KEY, text, start_of(Class::Blank, text, at), at);
+        return onto_next_line(SECOND_KEY, text, start_of(Class::Blank, text, at), at);
     }
     marked(AFTER_VALUE, at, end)
 }
@@ -190,7 +192,7 @@ fn after_value<'a>(found: &str, text: &'a str, at: usize) -> Option<Finding<'a>>
     let is_string = matches!(byte_before(text, at), b'"' | b'\'');
     let start = start_of(Class::Atom, text, at);
     match found {
-        "a comma" => Some(comma(text, at)),
+        "a comma" => Some(comma_after_value(text, at)),
         "a right bracket" | "a right brace" => Some(removed(EXTRA_CLOSING, at, ahead(text, at, 1))),
         "a plus" if is_string => Some(marked(JOINED, at, ahead(text, at, 1))),
         "a period" | "a colon" | "a plus" if start < at => Some(unquoted_value(text, start)),
@@ -201,9 +203,9 @@ fn after_value<'a>(found: &str, text: &'a str, at: usize) -> Option<Finding<'a>>
 }
 
 /// Recognizes the mistake in the token `found` at `at`, where a line should end.
-#[tactic(auto, unfolding(crate::specs::found::Wanted::no_newline))]
-fn no_newline<'a>(found: &str, text: &'a str, at: usize) -> Option<Finding<'a>>
-    ensures { option_map finding_content result ≡ spec.no_newline found.now text.now at }
+#[tactic(auto, unfolding(crate::specs::found::Wanted::at_newline))]
+fn at_newline<'a>(found: &str, text: &'a str, at: usize) -> Option<Finding<'a>>
+    ensures { option_map finding_content result ≡ spec.at_newline found.now text.now at }
 {
     let line = first_of_line(text, at);
     if byte_at(text, line) == b'[' && byte_before(text, at) == b']' {
@@ -225,15 +227,15 @@ pub(crate) fn wanted<'a>(
     ensures { option_map finding_content result ≡ spec.wanted expected.now found.now text.now span }
 {
     match expected {
-        "a value" => no_value(found, text, span.start),
-        "an equals" => no_equals(found, text, span.start),
+        "a value" => at_value(found, text, span.start),
+        "an equals" => at_equals(found, text, span.start),
         "a table key" if matches!(found, "eof" | "a newline" | "a comment") => {
             unfinished_key(text, span.start)
         }
-        "a table key" => no_key(found, text, span.start),
-        "newline" => no_newline(found, text, span.start),
-        "a right bracket" => no_bracket(found, text, span.start),
-        "a comma" => no_comma(found, text, span.start),
+        "a table key" => at_key(found, text, span.start),
+        "newline" => at_newline(found, text, span.start),
+        "a right bracket" => at_bracket(found, text, span.start),
+        "a comma" => at_comma(found, text, span.start),
         _ => other_kind(expected, found, text, span),
     }
 }
@@ -248,10 +250,10 @@ fn other_kind<'a>(expected: &str, found: &str, text: &'a str, span: Span) -> Opt
     match found {
         "integer" if expected == "a float" && end_of(Class::Number, text, from) == to => {
             let code = pieces(part(text, from, to), ".0", "");
-            Some(replaced(FLOAT_DUE, from, to, code))
+            Some(replaced(FLOAT_EXPECTED, from, to, code))
         }
         "integer" | "float" | "boolean" if expected == "a string" => {
-            Some(quoted(STRING_DUE, text, from, to))
+            Some(in_quotes(STRING_EXPECTED, text, from, to))
         }
         _ => None,
     }

@@ -3,7 +3,7 @@ use Rattle.toml_span_lex.specs.Tokens.{lexeme}
 use Rattle.toml_span_lex.proofs.MadeStrings.{string_stands}
 use Rattle.toml_span_lex.proofs.NoFault.{token_or_fault}
 use Rattle.toml_span_lex.proofs.Standing.{token_stands}
-use Rattle.toml_span_report.proofs.tokens.token_after.Goals as goal
+use Rattle.toml_span_report.proofs.tokens.token_end.Goals as goal
 
 pub returns-in-Ok : goal.returns-in-Ok
 returns-in-Ok c = grind (arith, nat_tests, common_steps, string_stands)

@@ -1,11 +1,11 @@
 use Rattle.toml_span_lex.proofs.Common.{arith, common_steps}
-use Rattle.toml_span_report.specs.Strips.{marked_lines_of}
-use Rattle.toml_span_report.proofs.strips.place_label.Goals as goal
+use Rattle.toml_span_report.specs.Strips.{strips_of}
+use Rattle.toml_span_report.proofs.strips.insert_label.Goals as goal
 
 pub returns-then-again-from : goal.returns-then-again-from
-unfolding marked_lines_of
+unfolding strips_of
 returns-then-again-from g c = grind (arith, common_steps)
 
 pub returns : goal.returns
-unfolding marked_lines_of
+unfolding strips_of
 returns g c = grind (arith, common_steps)

@@ -1,6 +1,0 @@
-use Rattle.toml_span_report.proofs.PlaceLemmas.{place_is}
-use Rattle.toml_span_report.proofs.places.place.Goals as goal
-
-pub returns-clause-value : goal.returns-clause-value
-returns-clause-value c =
-    place_is c.args.text.now c.args.at _ c.floor_char_boundary.ensures.bound c.floor_char_boundary.ensures.boundary c.floor_char_boundary.ensures.nearest
