@@ -1,4 +1,4 @@
-//! Measures how fast a document is parsed.
+//! Measures how fast a TOML file is parsed, or split into tokens.
 //!
 //! `toml_span_bench FILE N` parses FILE N times, or for about a second if N is 0, and drops the tree each time. It
 //! prints one line with the shortest and the mean time of a pass in nanoseconds. `toml_span_bench tokens FILE N` only
@@ -12,7 +12,7 @@ use std::{env, fs, io};
 use toml_span::parse;
 use toml_span::tokens::Tokenizer;
 
-/// How long to measure, in nanoseconds, if the number of passes is 0.
+/// How long to measure if N is 0, in nanoseconds.
 const SECOND: u128 = 1_000_000_000;
 
 /// The usage message.
@@ -37,8 +37,9 @@ fn is_read(alloc: Global, text: &str, in_tokens: bool) -> bool {
     false
 }
 
-/// Parses a text `passes` times, or for about a second if `passes` is 0, and prints a line with the shortest and the
-/// mean time. If `in_tokens`, splits the text into tokens instead. Fails if the clock or the output fails.
+/// Parses `text` `passes` times, or for about a second if `passes` is 0. If `in_tokens`, splits it into tokens instead.
+/// Prints a line with the shortest and the mean time, the length of `text`, `ok` or `error`, and the name `file`. Fails
+/// if reading the clock or writing the line fails.
 fn measure(
     rt: &HostRuntime,
     file: &str,

@@ -20,7 +20,7 @@ use Rattle.toml_span_tree.specs.declared.value.Value.{Value}
 abbrev pub bound : ℕ
 bound = 16777216
 
--- The bytes are valid UTF-8, and not longer than `bound`.
+-- The bytes are valid UTF-8, and at most `bound` many.
 abbrev pub IsText : List ℕ → Type 0
 IsText bytes = (length bytes ≤ bound) × IsUtf8 bytes
 
@@ -44,7 +44,7 @@ pub record IsRead (bytes : List ℕ) (nodes nodes' : List Record) (strings strin
     pub strings_are : strings' ≡ filled (tree_strings bytes (view root)) strings
     pub counts_are : counts ≡ tree_counts bytes (view root)
 
--- The bytes are not a document, and P holds for the contents of the error.
+-- The bytes are not a document, and `P` holds for the content of their error.
 abbrev pub IsInvalid : List ℕ → (ErrorContent → Type 0) → Type 0
 IsInvalid bytes P = (error : Error) × IsRefusal bytes depth_limit (stops.Fault error) × P (content_of error)
 

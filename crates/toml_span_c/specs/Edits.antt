@@ -12,7 +12,7 @@ use Rattle.toml_span_c.specs.declared.edits.Segment.{Segment}
 abbrev pub names_of : List Segment → Path
 names_of segments = map (λ s. s.bytes.now) segments
 
--- The record has the number of the change, and its value or its new path.
+-- The record has the number of the change. It also has the value, name or path of a change that has one.
 abbrev pub IsChange : ChangeRecord → Change → Type 0
 IsChange r (changes.Set v) = (r.change ≡ 1) × (v.now ≡ r.value.now)
 IsChange r (changes.Replace v) = (r.change ≡ 2) × (v.now ≡ r.value.now)
@@ -33,7 +33,7 @@ IsEdit r e = (map (λ s. s.now) e.path.now ≡ names_of r.path.now) × IsChange 
 abbrev pub ChangeMade : ChangeRecord → List ℕ → List ℕ → Type 0
 ChangeMade r text new = (e : Edit) × IsEdit r e × EditMade e text new
 
--- The changes are made one after the other.
+-- The text `new` is `text` with the changes made one after the other.
 abbrev pub ChangesMade : List ChangeRecord → List ℕ → List ℕ → Type 0
 ChangesMade [] text new = new ≡ text
 ChangesMade (r ∷ rs) text new = (mid : List ℕ) × ChangeMade r text mid × ChangesMade rs mid new

@@ -1,4 +1,4 @@
--- The record of an error.
+-- The record of an error, and the numbers and names of kinds of errors.
 use Rattle.std.specs.Prelude.{ℕ, ◌==◌, List, [], codes, Option, Some, None, unwrap_or, if◌then◌else◌}
 use Rattle.toml_span_lex.specs.declared.span.Span.{Span}
 use Rattle.toml_span_tree.specs.Error.{ErrorContent, Kind, unexpected_eof, exceeded_depth_limit, invalid_char_in_string}
@@ -30,7 +30,7 @@ code_number (dotted_key_invalid_type first) = 16
 code_number unquoted_string = 17
 code_number _ = 0
 
--- the name of the kind of error with the number `code`, or an empty string
+-- the name of the kind of error with the number `code`, or an empty text for any other number
 abbrev pub code_name : ℕ → List ℕ
 code_name code =
     if code == 1 then codes "unexpected-eof"

@@ -65,7 +65,7 @@ scalar_text (float x) = Some (float_text x)
 scalar_text (datetime d) = Some d
 scalar_text _ = None
 
--- the text of a string, float or date, and `None` for any other value
+-- the text of a string, float, date or time, and `None` for any other value
 abbrev pub text_of : Inner → Option (List ℕ)
 text_of (scalar s) = scalar_text s
 text_of _ = None
@@ -78,7 +78,7 @@ abbrev pub members_count : Members → ℕ
 members_count no_members = 0
 members_count (member name key n ms) = suc (members_count ms)
 
--- the number of elements or entries, and 0 for any other value
+-- the number of elements of an array or of entries of a table, and 0 for any other value
 abbrev pub children_of : Inner → ℕ
 children_of (array ns) = items_count ns
 children_of (table ms) = members_count ms
@@ -86,8 +86,8 @@ children_of _ = 0
 
 -- ---- the order of the values
 
--- A value with the name and span of its key, if it has one, its position in its parent, and two indices of records:
--- that of its parent, and that of the first one after the values inside it.
+-- A value with the name and span of its key, if it has one, and its position in its parent. `parent` is the index of
+-- the parent's record. `next` is the index of the first record after those of the value and of the values inside it.
 pub record Entry : Type 0 where
   pub parent : ℕ
   pub position : ℕ
@@ -145,8 +145,8 @@ is_written_at document span s =
     nat_le span.start span.end && nat_le span.end (length document)
     && bytes_eq (slice_range document span.start span.end) s
 
--- The place of a text: in the document, if the document has the text at the span, otherwise in the string array, after
--- `after` bytes. For `None`, a place without bytes.
+-- Where a text is: in the document, if the document has the text at the span, otherwise in the string array, after
+-- `after` bytes. For `None`, a `Text` without bytes.
 abbrev pub place_of : List ℕ → ℕ → Span → Option (List ℕ) → Text
 place_of document after span None = record { source = 0; at = 0; length = 0 }
 place_of document after span (Some s) =
@@ -196,7 +196,7 @@ records_of document after (e ∷ es) =
 abbrev pub strings_of : List ℕ → List Entry → List ℕ
 strings_of document es = flat_map (entry_strings document) es
 
--- the records of a tree, its strings, and the numbers of both
+-- the records of a tree, the bytes of its strings, and the numbers of both
 abbrev pub tree_records : List ℕ → Node → List Record
 tree_records document n = records_of document 0 (tree_entries n)
 

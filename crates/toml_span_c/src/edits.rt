@@ -29,7 +29,8 @@ pub struct ChangeRecord<'a> {
     pub path: &'a [Segment<'a>],
     /// The new path if `change` is 10.
     pub target: &'a [Segment<'a>],
-    /// The new value as TOML or, if `change` is 4, the new name.
+    /// The new value as TOML or, if `change` is 4, the new name. Must be valid UTF-8, even for a change without a
+    /// value.
     pub value: &'a [u8],
 }
 
@@ -139,8 +140,8 @@ fn indexed_change_made(
     }
 }
 
-/// Applies the changes to a text, one after the other. Fails with the index of the first change that is refused and the
-/// reason.
+/// Applies the changes to a text, one after the other. Stops at the first change that is refused, and fails with its
+/// index and the reason.
 fn changes_made(
     alloc: Global,
     text: &str,
@@ -173,11 +174,12 @@ fn message_of(alloc: Global, refusal: &Refusal) -> Result<String, AllocError> {
     }
 }
 
-/// Applies the changes to a valid document. Writes the new text to `out` if it fits, and sets `needed` to its length.
-/// Returns 0. Returns 4 if an allocation fails; `out`, `needed` and `refused` are then unchanged.
+/// Applies the changes to a valid document. If all are made, returns 0, writes the new text to `out` if it fits, and
+/// sets `needed` to the length of the new text.
 ///
 /// If a change is refused, returns 3, and sets `refused` to the index of the change. Then `out` has as much of the
-/// message as fits, and `needed` is the length of the message.
+/// message as fits, and `needed` is the length of the message. If an allocation fails, returns 4, and leaves `out`,
+/// `needed` and `refused` unchanged.
 fn put_changed(
     alloc: Global,
     document: &str,

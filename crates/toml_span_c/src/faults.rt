@@ -1,4 +1,4 @@
-//! Converts errors to records.
+//! Converts errors to records, and kinds of errors to numbers and names.
 ghost use Rattle.std.specs.Prelude.{◌≡◌};
 ghost use Rattle.toml_span_tree.specs.Error.{content_of, kind_of};
 ghost use Rattle.toml_span_c.specs.Faults as spec;

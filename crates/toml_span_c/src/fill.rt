@@ -1,4 +1,4 @@
-//! Fills the caller's arrays with records.
+//! Writes the records and strings of a document into the caller's two arrays.
 ghost use Rattle.std.specs.Prelude.{◌≡◌, ◌≤◌, ◌+◌, ◌++◌, ◌∷◌, [], ℕ, suc, false, length, option_map};
 ghost use Rattle.toml_span_lex.specs.declared.span.Span.{Span};
 ghost use Rattle.toml_span_tree.specs.Value.{view, inner_of, items_view, members_view, is_taken};
@@ -13,7 +13,7 @@ use crate::records::{
 use toml_span_lex::span::Span;
 use toml_span_tree::{Table, Value};
 
-/// The place of a value: the name and span of its key, if it has one, the index of its parent's record, and its
+/// Where a value is in the tree: the name and span of its key, if it has one, the index of its parent's record, and its
 /// position in the parent.
 #[derive(Clone, Copy)]
 pub(crate) struct Site<'a> {
@@ -56,7 +56,7 @@ fn put_bytes(strings: &mut [u8], count: &mut usize, bytes: &[u8])
 }
 
 /// Returns where C finds a text: in the document, if the document has exactly this text at `span`, otherwise in
-/// `strings`. Writes a text that is not at `span` with `put_bytes`. Returns a place without bytes for `None`.
+/// `strings`, to which `put_bytes` then writes the text. For `None`, returns a `Text` without bytes.
 #[inline(always)]
 fn put_text(
     document: &str,
@@ -105,7 +105,8 @@ fn put_record(nodes: &mut [Record], at: usize, added: Record)
     }
 }
 
-/// Returns the record of a value, with 0 as its `next`, and writes the texts of the record (see `put_text`).
+/// Returns the record of a value, with 0 as its `next`. Writes the name of the key and the text of the value as
+/// `put_text` does.
 #[inline(never)]
 fn begin_record(
     document: &str,
@@ -149,8 +150,8 @@ fn begin_record(
     }
 }
 
-/// Writes the record of a value, followed by those of the values inside, as far as they fit. Adds the numbers of all
-/// records and bytes to `counts`. Does nothing for a taken value.
+/// Writes the record of a value, and then those of the values inside it, with their strings, as far as they fit. Adds
+/// to `counts` the numbers of all these records and of all bytes of their strings. Does nothing for a taken value.
 #[cycle(put_value)]
 fn put_value(
     document: &str,
@@ -175,7 +176,8 @@ fn put_value(
     put_record(nodes, at, record);
 }
 
-/// Writes the records of the values inside `value`. `at` is the index of the record of `value` itself.
+/// Writes the records of the values inside `value`, as `put_value` does. `at` is the index of the record of `value`
+/// itself.
 #[cycle(put_value)]
 fn put_held(
     document: &str,
@@ -197,7 +199,7 @@ fn put_held(
     }
 }
 
-/// Writes the records of the elements of an array. `parent` is the index of the array's record.
+/// Writes the records of the elements of an array, as `put_value` does. `parent` is the index of the array's record.
 #[cycle(put_value)]
 fn put_elements(
     document: &str,
@@ -225,8 +227,8 @@ fn put_elements(
     }
 }
 
-/// Writes the records of the entries of a table, in the order of their names. `parent` is the index of the table's
-/// record.
+/// Writes the records of the entries of a table, as `put_value` does, in the order of their names. `parent` is the
+/// index of the table's record.
 #[cycle(put_value)]
 fn put_entries(
     document: &str,

@@ -13,9 +13,9 @@ use toml_span_format::{Options, format};
 /// The maximum number of spaces per level of indentation.
 pub const MOST_SPACES: usize = 64;
 
-/// Writes the formatted text of a valid document to `out` if it fits, and sets `needed` to its length. Returns 0.
-/// Returns 3 if the text would differ from the document in more than its layout, or 4 if an allocation fails; `out` and
-/// `needed` are then unchanged.
+/// Formats a valid document. On success, returns 0, writes the formatted text to `out` if it fits, and sets `needed` to
+/// the length of this text. Returns 3 if the text would differ from the document in more than its layout, or 4 if an
+/// allocation fails; `out` and `needed` are then unchanged.
 fn put_formatted(
     alloc: Global,
     document: &str,

@@ -1,5 +1,5 @@
-//! The calls for C, which parse, edit and format documents. Parsing writes the values of a document as records into the
-//! caller's arrays.
+//! The calls for C, which parse, edit and format documents, and describe errors. Parsing writes a record for each value
+//! of a document into one array of the caller, and strings into another.
 //!
 //! A call keeps no state, and returns nothing that it has allocated. include/toml_span.h describes the calls for C
 //! programmers.

@@ -19,7 +19,7 @@ pub struct Range {
     pub end: usize,
 }
 
-/// The bytes of a text: where they start, and how many they are.
+/// Where the bytes of a text are, and how many.
 #[repr(C)]
 #[derive(Clone, Copy)]
 pub struct Text {
@@ -49,11 +49,11 @@ pub struct Record {
     pub text: Text,
     /// The index of the parent's record, or `NONE` for the root.
     pub parent: usize,
-    /// The position of the value in its parent, counted from 0.
+    /// The position of the value in its parent, counted from 0. The entries of a table are in the order of their names.
     pub position: usize,
     /// The number of elements of an array, or of entries of a table.
     pub children: usize,
-    /// The index of the first record after those of this value and all values inside.
+    /// The index of the first record after those of this value and of all values inside it.
     pub next: usize,
     /// The value of an integer.
     pub integer: i64,
@@ -61,7 +61,7 @@ pub struct Record {
     pub number: f64,
 }
 
-/// The number of records, and the number of bytes of strings.
+/// The number of records, and the number of bytes of all strings.
 #[repr(C)]
 #[derive(Clone, Copy)]
 pub struct Counts {

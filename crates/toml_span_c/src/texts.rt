@@ -1,4 +1,4 @@
-//! The calls that describe errors.
+//! The calls that describe errors, and functions that write a text to the caller's array.
 ghost use Rattle.std.specs.Prelude.{◌≡◌, ◌≢◌, ℕ, List, IsUtf8};
 ghost use Rattle.toml_span_tree.specs.Message.{display_text};
 ghost use Rattle.toml_span_report.specs.Errors.{IsReport};

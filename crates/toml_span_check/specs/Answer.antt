@@ -30,8 +30,8 @@ use Rattle.toml_span_places.specs.Dotted.{Locates}
 use Rattle.toml_span_places.specs.Spelled.{value_text}
 use Rattle.toml_span_read.specs.Data.{depth_limit}
 
--- The answer to a file: the number of errors, the text of the reports or the document that is printed, and the lines
--- that say why the file's schema can't be used.
+-- The answer to a file: the number of errors, the text of the reports or the value that is printed, and the complaint
+-- about the file's schema (see `SchemaReports`).
 abbrev pub Answer : Type 0
 Answer = ℕ × List ℕ × List ℕ
 
@@ -63,13 +63,13 @@ report_text format name text r = formatted_report format r name text
 abbrev pub reports_text : Format → List ℕ → List ℕ → List ReportContent → List ℕ
 reports_text format name text rs = flat_map (report_text format name text) rs
 
--- `answer` has the number of all errors of `text`, and the text of their reports
+-- `answer` has the number and the text of the reports that `Checks` allows for `text`
 abbrev pub AreReported : Format → List ℕ → List ℕ → Answer → Type 0
 AreReported format name text answer =
     (rs : List ReportContent) × Checks text rs × (answer ≡ (length rs, reports_text format name text rs, []))
 
--- The answer for a valid text. Its errors are syntax that the version lacks, errors that the schema of the file
--- reports, and a complaint if the schema can't be used. The reports of the schema come last.
+-- The answer for a valid text. It counts the reports on newer forms (see `Lacks`), the errors among the reports of the
+-- schema, and a complaint as one error. The reports of the schema come last.
 abbrev pub AreChecked : Says → Format → Version → Chooser → List ℕ → List ℕ → Node → Answer → Type 0
 AreChecked says format version chooser name text root answer =
     (rs more : List ReportContent) × (complaint : List ℕ) × Lacks version name text rs
@@ -87,7 +87,7 @@ Given says format (Check version chooser) pointer name text n answer =
 Given says format (Show form) pointer name text n answer =
     (place : Option Node) × Locates pointer n place × (answer ≡ found format form pointer name place)
 
--- the answer for a text: the answer for a document or, if the text is not valid TOML, all its errors
+-- the answer for a text: that of `Given` if the text is a document, otherwise that of `AreReported`
 abbrev pub IsRead : Says → Format → Task → List ℕ → List ℕ → List ℕ → Answer → Type 0
 IsRead says format task pointer name text answer =
     ((root : Value) × IsTree text depth_limit root × Given says format task pointer name text (view root) answer)

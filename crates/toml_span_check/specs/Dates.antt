@@ -1,4 +1,4 @@
--- Dates and times in the form of the suite `toml-test`.
+-- Dates and times in the form of the test suite `toml-test`.
 use Rattle.std.specs.Prelude.{ℕ, ◌==◌, ◌||◌, nat_lt, Bool, List, ◌++◌, codes, length, take, drop}
 use Rattle.std.specs.Prelude.{slice_index, if◌then◌else◌}
 use Rattle.std.specs.List.{list_any}

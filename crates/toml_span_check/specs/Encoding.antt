@@ -9,8 +9,8 @@ use Rattle.toml_span_check.specs.declared.encoding.Encoding.{Encoding}
 use Rattle.toml_span_check.specs.declared.encoding.Encoding.TheVariants.{LittleEndian, BigEndian, Windows1252, Latin1}
 
 -- The encoding that a file seems to have. `at` is the offset of the first byte that is not valid UTF-8. A byte order
--- mark means UTF-16. Otherwise a byte below 0xA0 at this offset means Windows-1252, since such a byte is not a
--- printable character of Latin-1.
+-- mark FF FE or FE FF means UTF-16. Otherwise a byte below 0xA0 at this offset means Windows-1252, since such a byte is
+-- not a printable character of Latin-1.
 abbrev pub encoding_of : List ℕ → ℕ → Encoding
 encoding_of bytes at =
     if slice_index bytes 0 == 255 && slice_index bytes 1 == 254 then LittleEndian

@@ -1,4 +1,4 @@
--- All errors of a text.
+-- The errors of a text, up to a maximum number.
 use Rattle.std.specs.Prelude.{◌≡◌, ℕ, ◌-◌, ◌/◌, ◌≤◌, min, max, ◌==◌, List, [], ◌∷◌, ◌++◌, codes, take, drop, length}
 use Rattle.std.specs.Prelude.{if◌then◌else◌}
 use Rattle.std.specs.List.{list_any, repeat}
@@ -62,7 +62,7 @@ pub data Finds (text : List ℕ) : Progress → Type 0 where
   reading : (p q : Progress) (copy : List ℕ) → Finds text p → IsBlanked text copy → AddsError copy p q → Finds text q
   clash : (p q : Progress) → Finds text p → AddsError p.blanked p q → Finds text q
 
--- the maximum number of errors for a text of this length
+-- the maximum number of errors to look for in a text of this length
 abbrev pub most : ℕ → ℕ
 most len = max (min (134217728 / max len 1) 100) 1
 

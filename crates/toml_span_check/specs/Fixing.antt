@@ -62,7 +62,7 @@ NextFix text new =
     ((root : Value) × IsTree text depth_limit root × (new ≡ None))
     ⊎ ((error : Error) × IsRefusal text depth_limit (stops.Fault error) × FixesError text (content_of error) new)
 
--- this many fixes, one after the other, change the source `text` to another source
+-- `text` after this number of fixes, one after the other
 pub data Leads (text : List ℕ) : ℕ → List ℕ → Type 0 where
   no_fix : (new : List ℕ) → new ≡ text → Leads text 0 new
   one_more : (n : ℕ) (mid new : List ℕ) → Leads text n mid → NextFix mid (Some new) → Leads text (n + 1) new

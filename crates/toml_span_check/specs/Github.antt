@@ -54,7 +54,8 @@ marked_end text span =
 abbrev pub line_column : List ℕ → ℕ → ℕ × ℕ
 line_column text at = (line_number text (floor_boundary text at), column text (floor_boundary text at))
 
--- GitHub accepts columns only if the start and the end are on the same line. The end is after the last character.
+-- GitHub accepts columns only if the start and the end are on the same line. The end column is the one after the last
+-- character.
 unfoldable pub columns : ℕ × ℕ → ℕ × ℕ → List ℕ
 columns start end =
     if start.0 == end.0 then codes ",col=" ++ decimal start.1 ++ codes ",endColumn=" ++ decimal end.1 else []

@@ -1,4 +1,4 @@
--- The reports on newer forms, the places where a document uses syntax that TOML 1.0 lacks.
+-- The reports on newer forms, which are syntax that TOML 1.0 lacks, and the replacements of these reports.
 use Rattle.std.specs.Prelude.{◌≡◌, ◌⊎◌, ℕ, ◌-◌, Bool, true, false, ◌==◌, ◌||◌, List, [], ◌++◌, map, drop, length, codes}
 use Rattle.std.specs.Prelude.{encode_utf8, slice_index, if◌then◌else◌, None, Ok, Err}
 use Rattle.std.specs.List.{flat_map}
@@ -100,7 +100,7 @@ is_auto Auto = true
 is_auto Toml10 = false
 is_auto Toml11 = false
 
--- The reports on syntax in `text` that this version of TOML lacks. `name` is the name of the file.
+-- The reports on all newer forms in `text` if the file `name` is checked as TOML 1.0. Otherwise, the list is empty.
 abbrev pub Lacks : Version → List ℕ → List ℕ → List ReportContent → Type 0
 Lacks version name text rs =
     ((is_older version name ≡ true) × AreNewer text (is_auto version) rs)
@@ -111,8 +111,8 @@ Lacks version name text rs =
 abbrev pub all_edits : List ReportContent → List SpanEdit
 all_edits rs = flat_map (λ r. edits r.replacements) rs
 
--- `new` is `text` with the replacements of all reports, and `n` is their number. If the replacements can't be made,
--- `new` is `text`, and `n` is 0.
+-- `new` is `text` with the replacements of all reports of `Lacks`, and `n` is the number of the replacements. If the
+-- replacements can't be made, `new` is `text`, and `n` is 0.
 abbrev pub Replaces : Version → List ℕ → List ℕ → ℕ → List ℕ → Type 0
 Replaces version name text n new =
     (rs : List ReportContent) × Lacks version name text rs

@@ -21,8 +21,8 @@ use Rattle.toml_span_check.specs.declared.formats.Format.{Format}
 use Rattle.toml_span_check.specs.declared.formats.Format.TheVariants.{Text, Sarif}
 use Rattle.toml_span_check.specs.declared.run.Tally.{Tally}
 
--- A search: the patterns of files to leave out, the argument, and the files that were found. For a directory, these are
--- files below the directory; otherwise, the argument itself.
+-- A search: the patterns of paths to leave out, the argument, and the names of the files that were found (see
+-- `Inputs::find`).
 abbrev pub Search : Type 0
 Search = List (List ℕ) × List ℕ × List (List ℕ)
 
@@ -45,14 +45,14 @@ abbrev pub HasReadOrNot : Option (List ℕ) → Option (List ℕ) → Result (Li
 HasReadOrNot old new (Ok bytes) = HasReadAll old new bytes
 HasReadOrNot old new (Err reason) = (bytes : List ℕ) × HasRead old new bytes
 
--- a message that says why a file can't be read: for some common kinds of errors a fixed one, otherwise the system's
+-- a message that says why a file can't be read: a fixed one for some common kinds of errors, any one for others
 abbrev pub IsReason : ErrorKind → List ℕ → Type 0
 IsReason kind.NotFound message = message ≡ codes "no such file"
 IsReason kind.PermissionDenied message = message ≡ codes "permission denied"
 IsReason kind.IsADirectory message = message ≡ codes "no `*.toml` file in this directory"
 IsReason _ message = ⊤
 
--- The second log is the first with one more search. Nothing is required if logs are not known.
+-- The second log is the first with one more search. Nothing is required if the first log is not known.
 abbrev pub LogsSearch : Option Asked → Option Asked → Search → Type 0
 LogsSearch None new search = ⊤
 LogsSearch (Some asked) new search = new ≡ Some (record asked { searches = asked.searches ++ search ∷ [] })
@@ -65,7 +65,7 @@ pub data FindsAll (excludes : List (List ℕ))
       (found : List (List ℕ)) → FindsAll excludes names old mid files → LogsSearch mid new (excludes, name, found)
       → FindsAll excludes (names ++ name ∷ []) old new (files ++ found)
 
--- The second log is the first with these reads added. Nothing is required if logs are not known.
+-- The second log is the first with these reads added. Nothing is required if the first log is not known.
 abbrev pub Logs : Option Asked → Option Asked → List Reading → Type 0
 Logs None new more = ⊤
 Logs (Some asked) new more = new ≡ Some (record asked { readings = asked.readings ++ more })
@@ -129,7 +129,7 @@ summary (Text style) (Check version chooser) is_watched files wrong =
     if nat_lt 0 wrong.errors then found_errors files wrong else if is_watched then found_none files else []
 summary _ _ is_watched files wrong = []
 
--- the output for all files: for a check in the format SARIF, the document around the results
+-- the output of a check of all files: in the format SARIF, the document with these results
 abbrev pub together : Format → List ℕ → List ℕ
 together Sarif stdout = document stdout
 together _ stdout = stdout

@@ -44,8 +44,8 @@ uri name = scheme_of name ++ flat_map uri_byte name
 unfoldable pub artifact : List ℕ → List ℕ
 artifact name = codes "{\"artifactLocation\":{\"uri\":\"" ++ uri name ++ codes "\"}"
 
--- Lines and columns are counted from 1, columns in characters. The end is after the last character. A span whose end is
--- before its start is shown as empty.
+-- Lines and columns are counted from 1, columns in characters. The end column is the one after the last character. A
+-- span whose end is before its start is shown as empty.
 unfoldable pub lines : ℕ × ℕ → ℕ × ℕ → List ℕ
 lines start end =
     codes "{\"startLine\":" ++ decimal start.0 ++ codes ",\"startColumn\":" ++ decimal start.1

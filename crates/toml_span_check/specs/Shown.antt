@@ -1,4 +1,4 @@
--- A value as JSON, in which scalars may have their types, as in the suite `toml-test`.
+-- A value as JSON, in which scalars may have their types, as in the test suite `toml-test`, or as its raw text.
 use Rattle.std.specs.Prelude.{ℕ, Bool, true, false, List, [], ◌++◌, codes, if◌then◌else◌}
 use Rattle.std.specs.Fmt.{signed_decimal}
 use Rattle.toml_span_report.specs.Visible.{quoted}

@@ -11,14 +11,15 @@ word_byte byte = if nat_lt byte 128 then byte ∷ [] else codes "\0x" ++ digit (
 abbrev pub bytes_text : List ℕ → List ℕ
 bytes_text word = flat_map word_byte word
 
--- An argument as a text. Arguments do not contain NUL, so a NUL is only in the text of one that is not valid UTF-8.
+-- An argument as a text. Arguments do not contain NUL, so only the text of an argument that is not valid UTF-8 has a
+-- NUL.
 abbrev pub word_text : List ℕ → List ℕ
 word_text word = if is_utf8 word then word else bytes_text word
 
 abbrev pub is_bytes : List ℕ → Bool
 is_bytes text = list_any (λ byte. byte == 0) text
 
--- an argument's text as it is displayed: with a backslash for each NUL, as in `\xe9`
+-- a character of an argument's text as it is displayed: NUL as a backslash, as in `\xe9`, and any other as it is
 abbrev pub shown_char : ℕ → List ℕ
 shown_char c = encode_utf8 (if c == 0 then 92 else c)
 

@@ -1,4 +1,4 @@
-//! Checks one file: returns the reports of its errors, or the document to print.
+//! Checks one file, or parses it for printing. Returns the verdict and the text of the reports, or the document.
 ghost use Rattle.std.specs.Prelude.{◌≡◌, ◌++◌, IfOk, OnOk, ℕ, List, [], map, string_bytes};
 ghost use Rattle.std.specs.Str.{IsValidUpTo};
 ghost use Rattle.toml_span_lex.specs.declared.stop.Stop.TheVariants.{Fault};
@@ -28,7 +28,7 @@ pub enum Form {
     Plain,
     /// As JSON in which each scalar has its type, as in the test suite `toml-test`.
     Tagged,
-    /// As lines, one for each value, with spans.
+    /// As lines, one for each value, with the value's path, kind and span.
     Items,
     /// A string, float, date or time as its text, anything else as JSON.
     Raw,
@@ -39,20 +39,19 @@ pub enum Form {
 /// The task for a file.
 #[derive(Clone, Copy, PartialEq, Eq)]
 pub enum Task {
-    /// Report the errors of the file, read as this version of TOML, and violations of the schema that the chooser
+    /// Report the errors of the file, checked as this version of TOML, and violations of the schema that the chooser
     /// selects.
     Check(Version, Chooser),
     /// Print the document, or a value in it, in this form.
     Show(Form),
 }
 
-/// The number of errors of a file, and the reason if its schema can't be used.
+/// The number of errors of a file, and the complaint about its schema.
 #[derive(Drop)]
 pub(crate) struct Verdict {
     /// The number of errors. A complaint counts as one error.
     pub(crate) errors: usize,
-    /// Lines for standard error that say why the file's schema can't be used. Empty if nothing is wrong with the
-    /// schema.
+    /// The lines of `SchemaReports::complaint`, for standard error. Empty if the file is not checked against a schema.
     pub(crate) complaint: String,
 }
 
@@ -68,7 +67,8 @@ impl Verdict {
     }
 }
 
-/// Returns the text, in this format, of an error report about the file `name` as a whole. It shows no source line.
+/// Returns the text of an error report in this format. The report is about the file `name` as a whole, without source
+/// lines.
 fn plain_fault(
     alloc: Global,
     format: Format,
@@ -101,8 +101,8 @@ fn push_reports(
     Ok(())
 }
 
-/// Returns the number and the text of the reports on errors of the source `text`, as `every::check` makes them. `error`
-/// is the error that `parse` returns for `text`.
+/// Returns the number and the text of the reports that `every::check` returns for the source `text`. `error` is the
+/// error that `parse` returns for `text`.
 fn errors_text(
     alloc: Global,
     format: Format,
@@ -119,8 +119,8 @@ fn errors_text(
     Ok((reports.len(), out.into_bytes()))
 }
 
-/// Returns the verdict on the source `text`, whose tree is `root`, and the text of its reports: first those on syntax
-/// that this version of TOML lacks, then those from `schemas`.
+/// Returns the verdict on the source `text`, whose tree is `root`, and the text of its reports: first those of
+/// `version_reports`, then those from `schemas`.
 fn document_text<S: Schemas>(
     alloc: Global,
     format: Format,

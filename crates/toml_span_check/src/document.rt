@@ -24,8 +24,8 @@ fn push_line(mut text: String, held: &mut Vec<u8>) -> Result<(), AllocError>
     Ok(())
 }
 
-/// Writes the bytes of `held`, and then a value in this form. The last bytes may stay in `held`. Fails if a write
-/// fails.
+/// Appends a value in this form to the buffer `held`, and writes and empties the buffer each time it is large (see
+/// `write_held`). Fails if a write fails.
 fn write_value<W: Sink>(
     alloc: Global,
     form: Form,
@@ -47,7 +47,7 @@ fn write_value<W: Sink>(
     write_held(writer, held)
 }
 
-/// Returns the value at `path` in the tree `root`, or `None` if the path names no value or can't be read.
+/// Returns the value at `path` in the tree `root`, or `None` if `path` is malformed or names no value.
 pub(crate) fn place_of<'v, 'de>(
     alloc: Global,
     path: &str,
@@ -62,9 +62,9 @@ pub(crate) fn place_of<'v, 'de>(
     }
 }
 
-/// Writes the bytes of `held`, and then `place`, the value at the path `pointer`. The last bytes may stay in `held`. If
-/// `place` is `None`, writes nothing, and appends to `held` the report that `pointer` names no value. Returns the
-/// number of errors, 0 or 1. Fails if a write fails.
+/// Prints `place`, the value at the path `pointer`, as `write_value` does. If `place` is `None`, writes nothing, and
+/// appends to `held` the report that `pointer` names no value. Returns the number of errors, 0 or 1. Fails if a write
+/// fails.
 pub(crate) fn show<W: Sink>(
     alloc: Global,
     format: Format,

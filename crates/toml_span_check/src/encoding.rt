@@ -77,8 +77,8 @@ fn push_byte(out: &mut String, byte: u8) -> Result<(), AllocError>
     out.push(hex_digit(byte % 16) as char)
 }
 
-/// Returns the message that a file is not valid UTF-8. `at` is the byte offset of the first invalid byte, which the
-/// message names. Fails if an allocation fails.
+/// Returns the message that a file is not valid UTF-8. The message names the first invalid byte and its offset `at`.
+/// Fails if an allocation fails.
 #[tactic(auto, unfolding(crate::specs::Encoding::not_utf8_text))]
 pub fn not_utf8_text(alloc: Global, bytes: &[u8], at: usize) -> Result<String, AllocError>
     ensures { IfOk result (λ out. string_bytes out ≡ spec.not_utf8_text bytes.now at) }

@@ -1,4 +1,4 @@
-//! Finds all errors of a text.
+//! Finds the errors of a text, not only the first.
 ghost use Rattle.std.specs.Prelude.{◌≡◌, ◌∷◌, ◌++◌, [], IfOk, OnOk, map, length, nat_le, string_bytes};
 ghost use Rattle.toml_span_lex.specs.declared.stop.Stop.TheVariants.{Fault};
 ghost use Rattle.toml_span.specs.Parsing.{IsRefusal};
@@ -110,7 +110,8 @@ fn push_new(found: &mut Found, report: Report, place: usize) -> Result<(), Alloc
     Ok(())
 }
 
-/// Returns `found` with the error `next` added, and with spaces in place of the error's statement.
+/// Returns `found` with the error `next` added, and with spaces in place of the error's statement (for a header, up to
+/// the end of its section).
 fn with_error(alloc: Global, mut found: Found, next: ErrorAt) -> Result<Found, AllocError>
     ensures { IfOk result (λ more. Adds (report_content next.report) next.place (progress found)
         (progress more)) }
@@ -215,8 +216,8 @@ pub(crate) fn errors_from(
     with_clashes(alloc, found, text)
 }
 
-/// Returns the reports of all errors of a text. The list is empty if and only if `parse` returns a tree. Otherwise the
-/// first report is about the error that `parse` returns.
+/// Returns the reports of the errors of a text, not only of the first. The list is empty if and only if `parse` returns
+/// a tree. Otherwise the first report is about the error that `parse` returns.
 ///
 /// After a statement that can't be read, reading continues at the next statement. If the unreadable statement is not
 /// closed, reading continues at the first header, or key and `=`, that is on a later line and not indented further.

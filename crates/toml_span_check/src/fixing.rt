@@ -168,10 +168,10 @@ fn next_fix(alloc: Global, text: &str) -> Result<Option<String>, AllocError>
 
 /// Fixes errors of a source, one after the other. Returns the new source with the number of fixes.
 ///
-/// An error is fixed if its report has replacements, and all of them are safe. The first error of the new source must
-/// then start after the text that the first replacement inserts. It must also start nearer to the end of the source
-/// than the old error. Stops at the first error that can't be fixed, or after 100 fixes. Each fix takes time linear in
-/// the length of the source. Fails if an allocation fails.
+/// An error is fixed if its report has replacements, and all of them are safe. The first error of the new source, if
+/// there is one, must then start after the text that the first replacement inserts. It must also start nearer to the
+/// end of the source than the old error. Stops at the first error that can't be fixed, or after 100 fixes. Each fix
+/// takes time linear in the length of the source. Fails if an allocation fails.
 pub fn with_fixes(alloc: Global, text: &str) -> Result<Fixed, AllocError>
     ensures { IfOk result (λ made. Fixes text.now made.count (string_bytes made.text)) }
 {

@@ -14,7 +14,7 @@ use std::{fs, io};
 use toml_span_lines::run::{Cut, read_bytes};
 use toml_span_lines::tracked::Tracked;
 
-/// The name of files that contain patterns of files to ignore.
+/// The name of files that contain patterns of paths to ignore.
 const IGNORE: &str = ".gitignore";
 
 /// The patterns of a `.gitignore` file.
@@ -114,7 +114,7 @@ fn text_of(rt: &HostRuntime, alloc: Global, path: &str) -> Result<String, AllocE
     }
 }
 
-/// Returns the part of a path after the last slash.
+/// Returns the part of a path after the last slash, or the whole path if it has no slash.
 fn last_name(path: &str) -> &str {
     match path.rsplit_once('/') {
         Some((_, name)) => name,
@@ -296,8 +296,8 @@ fn patterns_of(alloc: Global, texts: &[&str]) -> Result<Vec<Pattern>, AllocError
 /// Returns the sorted paths of the TOML files below a directory. Does not follow links to directories. A directory that
 /// can't be listed is included, so that reading it reports why.
 ///
-/// Leaves out paths that match a pattern of `excludes` or of a `.gitignore` file in the directory or below. Leaves out
-/// directories that are hidden or named `target` or `node_modules`.
+/// Leaves out paths that the patterns `excludes`, or those of `.gitignore` files in the directory or below, exclude.
+/// Leaves out directories that are hidden or named `target` or `node_modules`.
 pub(crate) fn files_below(
     rt: &HostRuntime,
     alloc: Global,

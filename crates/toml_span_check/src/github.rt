@@ -12,7 +12,7 @@ use toml_span::{Label, Span};
 use toml_span_report::visible::push_visible;
 use toml_span_report::{Report, Severity, line_column};
 
-/// Returns the workflow command for a severity, such as `::error`.
+/// Returns the workflow command, such as `::error`, for a severity.
 fn command_of(severity: Severity) -> &'static str
     ensures { result.now ≡ spec.command_of severity }
 {
@@ -92,8 +92,8 @@ pub(crate) fn push_number(out: &mut String, title: &str, number: usize) -> Resul
     write!(out, "{number}")
 }
 
-/// Returns the end of a span or, if the span ends with a line feed, the offset of the line feed. The result is not less
-/// than the start of the span.
+/// Returns the end of a span or, if the span ends with a line feed, the offset of the line feed. If the span ends
+/// before its start, returns the start.
 fn marked_end(text: &str, span: Span) -> usize
     ensures { result ≡ spec.marked_end text.now span }
 {
@@ -105,8 +105,8 @@ fn marked_end(text: &str, span: Span) -> usize
     }
 }
 
-/// Appends the first and last column of a region, or nothing if the region has several lines. `start` and `end` are
-/// pairs of a line and a column, counted from 1. The region ends before `end`.
+/// Appends the columns of the start and the end of a region, or nothing if they are on different lines. `start` and
+/// `end` are pairs of a line and a column, counted from 1. The region ends before `end`.
 #[tactic(auto, unfolding(crate::specs::Github::columns))]
 fn push_columns(
     out: &mut String,

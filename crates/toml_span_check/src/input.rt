@@ -19,8 +19,8 @@ pub trait Inputs {
     ghost log: { Self → Option Asked };
 
     /// Returns the names of the files to read for the argument `name`. For a directory, these are the TOML files below
-    /// it that match no pattern of `excludes`. If no file is found, or `name` is not a directory, returns `name`
-    /// itself. Fails if an allocation fails.
+    /// it, except for those that the search leaves out, for example because of the patterns `excludes`. If no file is
+    /// found, or `name` is not a directory, returns `name` itself. Fails if an allocation fails.
     fn find(
         &mut self,
         alloc: Global,

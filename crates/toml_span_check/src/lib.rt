@@ -1,4 +1,4 @@
-//! Checks TOML files and reports their errors, and prints documents and values in them.
+//! Finds and checks TOML files, reports and fixes their errors, and prints documents or single values.
 #![tactic(auto)]
 
 pub mod answer;

@@ -11,16 +11,16 @@ use std::alloc::{AllocError, Global};
 use toml_span_report::Report;
 use toml_span_report::visible::push_quoted;
 
-/// The SARIF document up to the name of the tool.
+/// The start of the SARIF document, before the name of the tool.
 const HEAD: &str = r#"{
 "$schema":"https://docs.oasis-open.org/sarif/sarif/v2.1.0/errata01/os/schemas/sarif-schema-2.1.0.json",
 "version":"2.1.0",
 "runs":[{"tool":{"driver":{"name":"#;
 
-/// The SARIF document from the name of the tool to the results.
+/// The part of the SARIF document between the name of the tool and the results.
 const RESULTS: &str = r#"}},"columnKind":"unicodeCodePoints","results":["#;
 
-/// The SARIF document after the results.
+/// The end of the SARIF document, after the results.
 const TAIL: &str = "\n]}]}\n";
 
 /// Returns a report as a command for GitHub workflows, with a line feed at the end. The command annotates the lines of

@@ -185,8 +185,8 @@ pub fn newer_reports(alloc: Global, text: &str, is_default: bool) -> Result<Vec<
     reports_of(alloc, text, forms.as_slice(), is_default)
 }
 
-/// Returns a report for each place where the document `text` uses syntax that this version of TOML lacks. The list is
-/// empty if the text can't be read. `name` is the name of the file. Fails if an allocation fails.
+/// Returns the reports of `newer_reports` if `version` says to check the file `name` as TOML 1.0, otherwise an empty
+/// list. `text` is the source of the file. Fails if an allocation fails.
 pub fn version_reports(
     alloc: Global,
     text: &str,
@@ -213,11 +213,11 @@ fn all_edits<'r>(alloc: Global, reports: &'r [Report]) -> Result<Vec<Replacement
     Ok(edits)
 }
 
-/// Replaces syntax that this version of TOML lacks with syntax of the same meaning. Returns the new text with the
-/// number of replacements.
+/// Replaces newer forms with syntax that means the same in TOML 1.0, if `version` says to check the file `name` as TOML
+/// 1.0. Returns the new text with the number of replacements.
 ///
-/// Syntax without such a replacement stays, and so does a text that can't be read. `name` is the name of the file.
-/// Takes time linear in the length of the text. Fails if an allocation fails.
+/// Forms without such a replacement stay. A text that can't be read is returned unchanged. Takes time linear in the
+/// length of the text. Fails if an allocation fails.
 pub fn with_older_forms(
     alloc: Global,
     text: &str,

@@ -1,4 +1,4 @@
-//! Patterns of files and directories to leave out of a search.
+//! Patterns of paths, as in `.gitignore` files.
 ghost use Rattle.std.specs.Prelude.{◌≡◌, ◌≤◌, IfSome, map, string_bytes};
 ghost use Rattle.toml_span_check.specs.Patterns as spec;
 
@@ -63,12 +63,12 @@ fn path_matches(steps: &mut usize, pattern: &[String], path: &[&str]) -> Option<
     }
 }
 
-/// A pattern of `--exclude` or of a line of a `.gitignore` file.
+/// A pattern of paths, such as a line of a `.gitignore` file.
 #[derive(Drop)]
 pub struct Pattern {
     /// The parts between slashes. The first is `**` if the pattern matches at any depth.
     parts: Vec<String>,
-    /// Whether the pattern begins with `!`. Paths that match such a pattern are kept.
+    /// Whether the pattern begins with `!`, and so deselects the paths that it matches (see `last_match`).
     is_negated: bool,
     /// Whether the pattern matches only directories.
     is_directory: bool,
@@ -164,8 +164,8 @@ fn is_match(pattern: &Pattern, path: &[&str], is_directory: bool) -> bool {
     path_matches(&mut steps, pattern.parts.as_slice(), path).unwrap_or(false)
 }
 
-/// Returns whether to leave out `path`: `false` if the last pattern that matches it begins with `!`, otherwise `true`.
-/// Returns `None` if no pattern matches.
+/// Returns whether the patterns select `path`: `false` if the last pattern that matches it begins with `!`, otherwise
+/// `true`. Returns `None` if no pattern matches.
 ///
 /// `path` is relative to the directory of the patterns. `is_directory` says whether `path` names a directory. Fails if
 /// an allocation fails.

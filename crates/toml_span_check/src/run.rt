@@ -36,7 +36,7 @@ struct Collected {
     /// The bytes that remain to be written to standard output.
     held: Vec<u8>,
     /// The text for standard error: a line for each file that can't be read, complaints about schemas, and at the end
-    /// the line with the counts.
+    /// the line of `push_summary`.
     errors: String,
     status: u8,
     wrong: Tally,
@@ -158,8 +158,8 @@ fn collect_one<S: Schemas, O: Sink>(
     Ok(())
 }
 
-/// Returns the names of the files that the arguments `names` select. `excludes` are patterns of files to leave out of
-/// directories.
+/// Returns the names of the files that the arguments `names` select. `excludes` are patterns of paths to leave out when
+/// directories are searched.
 fn find_all<I: Inputs>(
     alloc: Global,
     excludes: &[&str],
@@ -397,12 +397,13 @@ fn run_quiet<I: Inputs, S: Schemas>(
 
 /// Reads the files that the arguments `names` select, and checks or prints each of them.
 ///
-/// `excludes` are patterns of files to leave out of directories, and `pointer` is the path of the value to print.
-/// `is_watched` says whether standard error is a terminal, on which a check without errors prints the number of files.
-/// `is_quiet` suppresses all output. `schemas` checks documents against their schemas.
+/// `excludes` are patterns of paths to leave out when directories are searched, and `pointer` is the path of the value
+/// to print. `is_watched` says whether standard error is a terminal, on which a check with `Format::Text` and without
+/// errors prints the number of files. `is_quiet` suppresses all output. `schemas` checks documents against their
+/// schemas.
 ///
-/// Returns the exit status: 0 without errors; 1 if a file has errors; 2 if a file can't be read or its schema can't be
-/// used; 3 if a write failed; 4 if an allocation failed.
+/// Returns the exit status, the highest that applies: 0 without errors; 1 if a file has errors; 2 if a file can't be
+/// read, or if there is a complaint about its schema; 3 if a write failed; 4 if an allocation failed.
 pub fn run<I: Inputs, S: Schemas, O: Sink, E: Sink>(
     alloc: Global,
     format: Format,

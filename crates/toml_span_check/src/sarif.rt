@@ -13,7 +13,7 @@ use toml_span::{Label, Span};
 use toml_span_report::visible::push_quoted;
 use toml_span_report::{Replacement, Report, Severity, line_column};
 
-/// The document up to the results, with a rule for each code that `check` reports.
+/// The start of the document, before the results, with a rule for each code that `check` reports.
 const HEAD: &str = r#"{
 "$schema":"https://docs.oasis-open.org/sarif/sarif/v2.1.0/errata01/os/schemas/sarif-schema-2.1.0.json",
 "version":"2.1.0",
@@ -72,7 +72,7 @@ const HEAD: &str = r#"{
 {"id":"schema-not-fetched","shortDescription":{"text":"A schema on a server, for which no local copy is named."}}
 ]}},"columnKind":"unicodeCodePoints","results":["#;
 
-/// The document after the results.
+/// The end of the document, after the results.
 const TAIL: &str = "\n]}]}\n";
 
 /// Returns the SARIF level for a severity.
@@ -86,7 +86,7 @@ fn level_of(severity: Severity) -> &'static str
     }
 }
 
-/// Returns whether a URI path can have this byte unescaped: an unreserved character, or a slash.
+/// Returns whether this byte needs no escape in the path of a URI: an unreserved character, or a slash.
 fn is_plain(byte: u8) -> bool
     ensures { result ≡ spec.is_plain byte }
 {
@@ -313,7 +313,8 @@ fn push_related(
     out.push_str(without_comma(others.as_str()))
 }
 
-/// Appends two members of an object: the location that `push_place` appends, and those of the secondary labels.
+/// Appends the members `locations`, with the location that `push_place` appends, and `relatedLocations`, with the
+/// locations of the secondary labels.
 fn push_places(
     alloc: Global,
     out: &mut String,
@@ -422,7 +423,7 @@ pub(crate) fn sarif(
     Ok(out)
 }
 
-/// Returns the concatenation of `head`, the elements without the comma before the first one, and `tail`.
+/// Returns the concatenation of `head`, `elements` without a comma at the start, and `tail`.
 fn between(alloc: Global, head: &str, elements: &[u8], tail: &str) -> Result<Vec<u8>, AllocError>
     ensures { IfOk result (λ out. out.items ≡ head.now ++ spec.without_comma elements.now ++ tail.now) }
 {

@@ -1,4 +1,4 @@
-//! The trait `Schemas`, which checks documents against schemas. Users of this crate implement it.
+//! Checks of documents against schemas, by the trait `Schemas`. Users of this crate implement the trait.
 ghost use Rattle.std.specs.Prelude.{◌≡◌, ◌+◌, ℕ, List, [], IfOk, map, string_bytes};
 ghost use Rattle.toml_span_check.specs.Schemas as spec;
 ghost use Rattle.toml_span_check.specs.Schemas.{Says, no_schema};
@@ -16,7 +16,7 @@ use toml_span_report::{Report, Severity};
 pub enum Chooser {
     /// The files themselves, by directives: comments such as `#:schema ./app.schema.json`.
     Files,
-    /// Arguments of the command line, and directives.
+    /// Options of the command line or of an editor, and directives.
     Arguments,
 }
 
@@ -25,7 +25,8 @@ pub enum Chooser {
 pub struct SchemaReports {
     /// The reports, in the order in which they are printed.
     pub reports: Vec<Report>,
-    /// Lines for standard error that say why the schema can't be used. Empty if nothing is wrong with the schema.
+    /// Lines for standard error that say why a schema or a catalog can't be used, or why the document can't be checked.
+    /// Empty if neither is the case.
     pub complaint: String,
 }
 
@@ -37,8 +38,8 @@ pub trait Schemas {
     /// tree, the reports, and the complaint.
     ghost says: { Chooser → List ℕ → List ℕ → Node → List ReportContent → List ℕ → Type 0 };
 
-    /// Finds the schema of a document, if it has one, checks the document against it, and returns the reports. `text`
-    /// is the source of the file `name`, and `root` its tree. Fails if an allocation fails.
+    /// Finds the schema of a document, if there is one, and checks the document against the schema. `text` is the
+    /// source of the file `name`, and `root` its tree. Fails if an allocation fails.
     fn check(
         &mut self,
         alloc: Global,

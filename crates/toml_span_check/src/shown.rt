@@ -1,4 +1,4 @@
-//! Prints values as JSON.
+//! Prints values as JSON, or strings, floats, dates and times as their text.
 ghost use Rattle.std.specs.Prelude.{◌≡◌, ◌++◌, false, true, OnOk, IfOk, string_bytes, codes};
 ghost use Rattle.toml_span_tree.specs.Value.{view, inner_view, items_view, members_view};
 ghost use Rattle.toml_span_check.specs.Shown as spec;
@@ -15,7 +15,7 @@ pub(crate) fn truth(is_true: bool) -> &'static str
     if is_true { "true" } else { "false" }
 }
 
-/// Appends a comma if `later`, which is true for each element except the first.
+/// Appends a comma if `later` is true, as it is for each element or entry except the first.
 pub(crate) fn push_comma(out: &mut String, later: bool) -> Result<(), AllocError>
     ensures { OnOk result (string_bytes out.new ≡ string_bytes out.old ++ spec.comma_if later) }
 {

@@ -1,4 +1,5 @@
-//! Finds the statement (a header or an assignment) that contains an error, and the start of the next statement.
+//! Finds the statement (a header or an assignment) at an offset, and where the next one begins, even in a text with
+//! errors. A blank line or a comment line counts as a statement too.
 use toml_span::ErrorKind;
 use toml_span_lex::span::Span;
 
@@ -17,7 +18,7 @@ pub(crate) struct Open {
     is_header: bool,
 }
 
-/// The statement that contains an error. Each offset is the start of a line, or the length of the text.
+/// A statement. Each offset is the start of a line, or the length of the text.
 #[derive(Clone, Copy)]
 pub(crate) struct Statement {
     /// The start of the statement.
@@ -53,8 +54,8 @@ fn is_long(text: &str, at: usize) -> bool {
     quote == byte_at(text, at.saturating_add(1)) && quote == byte_at(text, at.saturating_add(2))
 }
 
-/// Returns the offset after the blanks at the start of the line that begins at `line`. A byte order mark before the
-/// blanks is skipped too.
+/// Returns the offset after the blanks at the start of the line that begins at `line`. A byte order mark at the start
+/// of the text is skipped too.
 fn first_at(text: &str, line: usize) -> usize {
     if line == 0 && text.starts_with('\u{feff}') {
         blanks_end(text, 3)
@@ -109,7 +110,8 @@ fn inside(text: &str, open: Open, at: usize) -> Open {
 }
 
 /// Returns the state after a line feed. `open` is the state before it. A line feed ends comments, single-line strings
-/// and headers, even unclosed ones, but neither a string with three quotes nor a header that contains one.
+/// and headers, even unclosed ones, but neither an open string with three quotes nor a header in which such a string is
+/// open.
 fn after_line(open: Open) -> Open {
     let mut next = open;
     next.skip = 0;
@@ -192,7 +194,8 @@ fn bare_end(text: &str, from: usize) -> usize {
     bytes.len()
 }
 
-/// Returns the offset after the part of a key at `from` and the blanks that follow, or `from` if no part begins there.
+/// Returns the offset after the part of a key at `from` and after the blanks that follow it, or `from` if no part
+/// begins there.
 fn part_end(text: &str, from: usize) -> usize {
     let end = match byte_at(text, from) {
         b'"' | b'\'' => quoted_end(text, from),
@@ -205,8 +208,8 @@ fn part_end(text: &str, from: usize) -> usize {
     }
 }
 
-/// Returns the offset after the key at `from`, which may be dotted, and the blanks that follow. Returns `None` if no
-/// key begins there, or if a part is missing after a dot.
+/// Returns the offset after the key at `from`, which may be dotted, and after the blanks that follow it. Returns `None`
+/// if no key begins there, or if a part is missing after a dot.
 fn key_end(text: &str, from: usize) -> Option<usize> {
     let mut at = from;
     for _ in from..text.len() {
@@ -223,7 +226,7 @@ fn key_end(text: &str, from: usize) -> Option<usize> {
 }
 
 /// Returns the end of the header whose `[` is at `from`. Returns `None` if the header is not complete, or if anything
-/// but a comment follows on the line.
+/// other than blanks and a comment follows on the line.
 fn header_end(text: &str, from: usize) -> Option<usize> {
     let is_array = byte_at(text, from.saturating_add(1)) == b'[';
     let width = if is_array { 2usize } else { 1 };
@@ -238,8 +241,8 @@ fn header_end(text: &str, from: usize) -> Option<usize> {
     }
 }
 
-/// Returns the end of the header, or of the key and `=`, on the line that begins at `line`. Returns `None` if the line
-/// begins with neither.
+/// Returns the end of the header, or of the key and `=`, on the line that begins at `line`. Returns `None` for any
+/// other line (see `header_end` and `key_end`).
 fn head_end(text: &str, line: usize) -> Option<usize> {
     let from = first_at(text, line);
     if byte_at(text, from) == b'[' {
@@ -291,9 +294,9 @@ fn next_head(text: &str, start: usize, place: usize) -> usize {
     text.len()
 }
 
-/// Returns the start of the statement after the one at `start`, which has an error at `place`, or the length of the
-/// text. If the statement at `start` can't be read (`is_broken`), skips the lines that continue it, but stops at a line
-/// for which `resumes` is true.
+/// Returns the start of the statement after the one at `start`, or the length of the text if no statement follows. The
+/// statement at `start` contains the offset `place` of an error. If it can't be read (`is_broken`), skips the lines
+/// that continue it, but stops at a line for which `resumes` is true.
 fn next_of(text: &str, start: usize, place: usize, is_broken: bool) -> usize {
     let mut open = begin(text, start);
     for at in start..text.len() {
@@ -335,8 +338,8 @@ fn next_header(text: &str, from: usize) -> usize {
     text.len()
 }
 
-/// Returns whether the error is a clash, or a dotted key through an earlier value. The statement with such an error can
-/// be read by itself.
+/// Returns whether the error is a clash, or a dotted key that goes through an earlier value. The statement with such an
+/// error can be read by itself.
 pub(crate) fn is_clash(kind: &ErrorKind<'_>) -> bool {
     matches!(
         kind,

@@ -1,4 +1,4 @@
-//! Command-line arguments as text, even if they are not valid UTF-8.
+//! Command-line arguments and file names as text, even if they are not valid UTF-8.
 ghost use Rattle.std.specs.Prelude.{◌≡◌, ◌<◌, ◌++◌, IfOk, OnOk, encode_utf8, string_bytes};
 ghost use Rattle.std.specs.Char.{digit_char};
 ghost use Rattle.toml_span_check.specs.Words as spec;
@@ -49,7 +49,7 @@ pub fn word_text(alloc: Global, word: &[u8]) -> Result<String, AllocError>
     }
 }
 
-/// Returns whether `word_text` made the text from an argument that is not valid UTF-8.
+/// Returns whether `word_text` made `text` from an argument that is not valid UTF-8.
 pub fn is_bytes(text: &str) -> bool
     ensures { result ≡ spec.is_bytes text.now }
 {

@@ -15,8 +15,9 @@ AsksForFixing words auto_is_coloured =
     (format : Format) × (task : Task) × (pointer : List ℕ) × (excludes names : List (List ℕ)) × (is_quiet : Bool)
     × Asks queries.Check words auto_is_coloured format task pointer excludes names is_quiet true
 
--- After files have been fixed, a line is written which says how many errors were fixed, and the files are checked. If a
--- fixed file or this line can't be written (status 3), no file is checked.
+-- After files have been fixed, a line is written to standard error: how many errors were fixed, or why a fixed file was
+-- not written. The line may be empty. Then the files are checked, unless a fixed file or the line was not written; the
+-- status is then 3.
 abbrev pub ChecksFixed : List (List ℕ) → Bool → Bool → Option (List ℕ) → Option (List ℕ) → Bool → Option (List ℕ)
     → Option (List ℕ) → Bool → ℕ → Type 0
 ChecksFixed words auto_is_coloured is_watched stdout stdout' out_failed stderr stderr' err_failed status =

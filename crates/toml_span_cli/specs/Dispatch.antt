@@ -1,4 +1,4 @@
--- The request that the arguments make, and how it is carried out.
+-- The request that the first argument makes, and how it is carried out.
 use Rattle.std.specs.Prelude.{◌≤◌, ℕ, Bool, true, false, ◌||◌, List, drop, Option, Some, None, slice_get}
 use Rattle.std.specs.Prelude.{if◌then◌else◌}
 use Rattle.std.specs.Io.KnownBytes.{Keeps}
@@ -32,7 +32,8 @@ request_of word exists =
 -- What a command does. `words` are the name of the command, or of the program, and the arguments. `is_coloured` says
 -- whether `--color auto` means colors, and `is_watched` whether standard error is a terminal. `stdout` and `stdout'`
 -- are the texts on standard output before and after, and `out_failed` says whether a write to it failed. `stderr`,
--- `stderr'` and `err_failed` are the same for standard error. `status` is the exit status.
+-- `stderr'` and `err_failed` are the same for standard error. `status` is the exit status. For commands other than
+-- `check`, `get` and `show`, only its range is stated.
 abbrev pub Performs : Command → List (List ℕ) → Bool → Bool → Option (List ℕ) → Option (List ℕ) → Bool → Option (List ℕ)
     → Option (List ℕ) → Bool → ℕ → Type 0
 Performs commands.Check words is_coloured is_watched stdout stdout' out_failed stderr stderr' err_failed status =

@@ -1,5 +1,5 @@
--- The options in the arguments. The crate `clap` splits the arguments into options, as its definitions `matches_of` and
--- `fault_of` state.
+-- The arguments of `check` and `get`. The crate `clap` parses them, as its definitions `matches_of` and `fault_of`
+-- state.
 use Rattle.std.specs.Prelude.{◌≡◌, ◌==◌, ◌&&◌, ℕ, Bool, true, false, List, [], ◌∷◌, length, Option, Some, None, codes}
 use Rattle.std.specs.Prelude.{unwrap_or, if◌then◌else◌, Result, Ok, Err}
 use Rattle.std.specs.Str.{bytes_eq}
@@ -58,7 +58,7 @@ files = record (new_rule (codes "FILE")) {
 abbrev pub required : List ℕ → Rule
 required name = record (new_rule name) { required = true }
 
--- a program that has a version, and so the option `--version`
+-- the program `app` with a version, and so with the option `--version`
 abbrev pub with_version : App → App
 with_version app = record app { top = record app.top { has_version = true } }
 
@@ -96,7 +96,7 @@ program queries.Get = get
 
 -- ---- the meaning of the options
 
--- the value of an option, or an empty text if the option has no value
+-- the value of the option or argument `name`, or an empty text if it has no value
 abbrev pub value_of : List Row → List ℕ → List ℕ
 value_of rows name = unwrap_or (first_of name rows) []
 
@@ -123,14 +123,15 @@ format_named name style =
     else if bytes_eq name (codes "sarif") then Some Sarif
     else None
 
--- the form that is chosen, after one more flag for `form`; two flags that choose a form are a mistake
+-- the choice of some flags, after one more flag, which chooses `form` if it is set; two flags that choose a form are a
+-- mistake
 abbrev pub with_form : Result (Option Form) Mistake → Bool → Form → Result (Option Form) Mistake
 with_form chosen false form = chosen
 with_form (Ok None) true form = Ok (Some form)
 with_form (Ok (Some earlier)) true form = Err mistake.Forms
 with_form (Err mistake) true form = Err mistake
 
--- the form in which to print the value, if a flag chooses one
+-- the form in which to print the value, if a flag chooses one; a mistake if several flags do
 abbrev pub form_of : List Row → Result (Option Form) Mistake
 form_of rows =
     with_form (with_form (with_form (with_form (with_form (Ok None)
@@ -149,8 +150,7 @@ version_named name =
     else if bytes_eq name (codes "1.1") then Some version.Toml11
     else None
 
--- who chooses the schemas of files: the arguments, if `--schema` or `--catalog` has a value that is not empty,
--- otherwise the files
+-- `Arguments` if `--schema` or `--catalog` has a value that is not empty, otherwise `Files`
 abbrev pub chooser_of : List Row → Chooser
 chooser_of rows =
     if length (value_of rows (codes "schema")) == 0 && length (value_of rows (codes "catalog")) == 0 then Files
@@ -175,7 +175,7 @@ task_of queries.Get rows =
     if is_bytes (value_of rows (codes "PATH")) then Err mistake.Path
     else shows (form_of rows)
 
--- the format and the task; SARIF is a mistake if the task is to print a document
+-- the format and the task; SARIF is a mistake if the task is to print a value
 abbrev pub with_task : Format → Task → Result (Format × Task) Mistake
 with_task Sarif (Show form) = Err mistake.Sarif
 with_task format task = Ok (format, task)
@@ -201,8 +201,8 @@ asked query rows auto_is_coloured = with_style (style_named (value_of rows (code
 unfoldable pub options : Query → List (List ℕ) → List Row
 options query words = matches_of (program query) words
 
--- The arguments `words` are right, and mean this: the format and the task, the path of the value to print, the patterns
--- of files to leave out, the names of the files, whether to print nothing, and whether to fix errors.
+-- What the arguments `words` mean, if they are right: the format and the task, the path of the value to print, the
+-- patterns of files to leave out, the names of the files, whether to print nothing, and whether to fix errors.
 pub record Asks (query : Query) (words : List (List ℕ)) (auto_is_coloured : Bool) (format : Format) (task : Task)
     (pointer : List ℕ) (excludes names : List (List ℕ)) (is_quiet is_fixing : Bool) : Type 0 where
   pub what : asked query (options query words) auto_is_coloured ≡ Ok (format, task)
@@ -228,7 +228,7 @@ mistake_kinds (Ok what) = []
 mistake_kinds (Err mistake) = kind_of mistake ∷ []
 
 -- the kinds of error that clap may return for the arguments `words`, such as `DisplayHelp` if they ask for help; empty
--- if they are right
+-- if clap finds no mistake
 unfoldable pub refusals : Query → List (List ℕ) → Kinds
 refusals query words = fault_of (program query) words
 

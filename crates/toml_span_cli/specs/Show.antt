@@ -15,8 +15,8 @@ pub record PrintsUnread (name reason : List ℕ) (stderr stderr' : Option (List 
     : Type 0 where
   pub says : Prints stderr stderr' err_failed (complaint (shown_word name) reason) 2 status
 
--- The lines that `toml_span_lines` prints for the bytes of a file are written. Or the file can't be read, and the
--- status is 2.
+-- The lines that `toml_span_lines` prints for the bytes of a file are written. Or the file can't be read, as
+-- `PrintsUnread` states.
 pub record ShowsFile (name : List ℕ) (stdout stdout' : Option (List ℕ)) (out_failed : Bool)
     (stderr stderr' : Option (List ℕ)) (err_failed : Bool) (status : ℕ) : Type 0 where
   pub shows : ((bytes : List ℕ) × (left : Option (List ℕ)) × (unread : Bool)
@@ -31,7 +31,8 @@ ShowsWord true word stdout stdout' out_failed stderr stderr' err_failed status =
 ShowsWord false word stdout stdout' out_failed stderr stderr' err_failed status =
     ShowsFile word stdout stdout' out_failed stderr stderr' err_failed status
 
--- `show FILE`. The first of `words` is the command's name; the status is 2 for another number of arguments.
+-- `show FILE`. The first of `words` is the command's name. For any other number of arguments, a message is written to
+-- standard error, and the status is 2, or 3 if the write fails.
 abbrev pub PerformsShow : List (List ℕ) → Option (List ℕ) → Option (List ℕ) → Bool → Option (List ℕ) → Option (List ℕ) → Bool
     → ℕ → Type 0
 PerformsShow (command ∷ word ∷ []) stdout stdout' out_failed stderr stderr' err_failed status =

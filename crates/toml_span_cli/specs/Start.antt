@@ -23,8 +23,8 @@ abbrev pub help_of : Query → List ℕ
 help_of queries.Check = CHECK.now
 help_of queries.Get = GET.now
 
--- The output for an error of this kind: the help or the version, if the arguments ask for it, otherwise a message about
--- the mistake in the arguments. Nothing is printed if an allocation fails.
+-- The output and the exit status for clap's error of this kind: the help or the version, if the arguments ask for one
+-- of them, otherwise a message about the mistake in the arguments. Nothing is printed if an allocation fails.
 abbrev pub Refuses : Query → ErrorKind → Option (List ℕ) → Option (List ℕ) → Bool → Option (List ℕ) → Option (List ℕ)
     → Bool → ℕ → Type 0
 Refuses query kind stdout stdout' out_failed stderr stderr' err_failed status =

@@ -16,7 +16,7 @@ begins_with byte (first ∷ rest) = first == byte
 abbrev pub has : ℕ → List ℕ → Bool
 has byte word = list_any (λ other. other == byte) word
 
--- Whether an argument is an option, `-`, or the name of a file rather than a misspelled command: it begins with a dash,
--- or contains a dot, a slash, or a NUL, which marks a byte that is not UTF-8.
+-- Whether an argument can't be a misspelled command: it begins with a dash, or contains a dot, a slash, or a NUL. A NUL
+-- marks an argument that is not valid UTF-8.
 abbrev pub is_file : List ℕ → Bool
 is_file word = begins_with 45 word || has 46 word || has 47 word || has 0 word

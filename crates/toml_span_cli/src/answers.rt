@@ -1,4 +1,4 @@
-//! The output of a command, which is printed at the end.
+//! The output and the exit status of a command that prints only at its end.
 ghost use Rattle.std.specs.Prelude.{◌≡◌, ◌≤◌, false};
 
 use crate::say::quoted_word;
@@ -7,7 +7,7 @@ use toml_span_lines::run::write_bytes;
 use toml_span_lines::sink::Sink;
 use toml_span_report::visible::push_visible;
 
-/// The text that a command prints on standard output (`out`) and on standard error (`errors`), and its exit status.
+/// The texts that a command prints on standard output (`out`) and on standard error (`errors`), and its exit status.
 #[derive(Drop)]
 pub(crate) struct Answer {
     pub(crate) out: String,
@@ -25,8 +25,8 @@ pub(crate) fn printed(alloc: Global, out: String) -> Answer {
     }
 }
 
-/// Returns the answer of a command that fails with this status. The answer prints a line on standard error: `front`,
-/// the name of the file in backticks, and `reason`.
+/// Returns the answer of a command that fails with this status. Its line for standard error consists of `front`, the
+/// name of the file in backticks, a colon, and `reason`.
 pub(crate) fn failed(
     alloc: Global,
     front: &str,

@@ -11,7 +11,7 @@ const MOST_WAIT: u64 = 86_400;
 /// What to do with the result of the edits.
 #[derive(Clone, Copy, PartialEq, Eq)]
 pub(crate) enum Show {
-    /// Replace the file with the result.
+    /// Replace the file with the result. For standard input, print the result.
     No,
     /// Print the result.
     Text,
@@ -33,20 +33,20 @@ pub(crate) struct Arguments<'w> {
     pub(crate) is_help: bool,
 }
 
-/// Which option's value the next argument is.
+/// What the next argument is.
 #[derive(Clone, Copy)]
 enum Waiting {
-    /// The next argument is not the value of an option.
+    /// An option, or an argument that is neither an option nor the value of one.
     No,
-    /// `--wait`
+    /// The value of `--wait`.
     Wait,
-    /// `-e`
+    /// The value of `-e`.
     Edit,
-    /// `--` has been read. No later argument is an option or the value of one.
+    /// An argument after `--`: neither an option nor the value of one.
     Never,
 }
 
-/// Arguments that are being parsed.
+/// The arguments that have been parsed so far, and what the next one is.
 #[derive(Drop)]
 struct Reading<'w> {
     alloc: Global,
@@ -66,7 +66,7 @@ fn seconds(alloc: Global, word: &str) -> Result<u64, Stop<String>> {
 }
 
 impl<'w> Reading<'w> {
-    /// Fails with a message that the argument `word` is unexpected. Never returns `Ok`.
+    /// Always fails, with a message that the argument `word` is unexpected.
     fn unexpected(&self, word: &str) -> Result<(), Stop<String>> {
         let word = quoted_word(self.alloc, word)?;
         Err(Stop::Fault(format!(in self.alloc;
@@ -74,8 +74,8 @@ impl<'w> Reading<'w> {
         )?))
     }
 
-    /// Stores an argument that begins with a dash. An unknown argument with only one dash, such as `-1`, is not an
-    /// option. Fails with a message if the argument is wrong.
+    /// Stores the argument `word`, which begins with a dash. Fails with a message if it is an unknown option with two
+    /// dashes, or if VALUE in `--wait=VALUE` is wrong. Any other unknown argument, such as `-1`, is not an option.
     fn option(&mut self, word: &'w str) -> Result<(), Stop<String>> {
         match word {
             "-h" | "--help" => self.asked.is_help = true,

@@ -14,23 +14,23 @@ pub(crate) struct PathEdit<'w> {
 /// The action of an edit.
 #[derive(Clone, Copy)]
 pub(crate) enum Action<'w> {
-    /// Replaces the value at the path with this value, or adds the value.
+    /// Replaces the value at the path with this value. Adds this value if the path has none.
     Set(&'w str),
-    /// Renames the key to this name.
+    /// Renames the key at the path to this name.
     Rename(&'w str),
-    /// Removes a value with its key, or an element.
+    /// Removes the value at the path with its key, or the element at the path.
     Remove,
-    /// Adds this key with this value to the table.
+    /// Adds this key with this value to the table at the path.
     Add(&'w str, &'w str),
-    /// Adds this value at the end of the array.
+    /// Adds this value at the end of the array at the path. Adds the array if the path has no value.
     Append(&'w str),
-    /// Inserts this value before the element at the path.
+    /// Inserts this value into an array, at the position with which the path ends.
     Insert(&'w str),
-    /// Moves the value to this path.
+    /// Moves the value at the path to this path.
     Move(&'w str),
 }
 
-/// Returns the number of arguments of a command after the name of the file.
+/// Returns how many arguments an editing command takes after the name of the file.
 pub(crate) fn count_of(command: Command) -> usize {
     match command {
         Command::Edit => 0,
@@ -87,7 +87,8 @@ fn scripted(name: &str) -> Option<Command> {
 }
 
 /// Splits a line after the first word, which may be in quotes. Returns the word without quotes, and the rest of the
-/// line. Returns `None` if the line is blank, or if a quote is not closed. Quotes have no escapes.
+/// line without the blanks at its start. Returns `None` if the line is blank, or if the quotes of the word are not
+/// closed. Quotes have no escapes.
 fn first_word(line: &str) -> Option<(&str, &str)> {
     let line = line.trim_start();
     if line.is_empty() {
@@ -154,8 +155,8 @@ pub(crate) fn option_changes<'w>(
     Ok(changes)
 }
 
-/// Parses a script with one edit per line. Ignores blank lines, and lines that begin with `#`. Fails with a message if
-/// an edit is wrong.
+/// Parses a script with one edit per line. Ignores blanks at the start of a line, blank lines, and lines that begin
+/// with `#`. Fails with a message if an edit is wrong.
 pub(crate) fn script_changes(
     alloc: Global,
     script: &str,

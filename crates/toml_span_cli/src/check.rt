@@ -16,15 +16,15 @@ use toml_span_check::newer::with_older_forms;
 use toml_span_lines::run::BOUND;
 use toml_span_lines::sink::Sink;
 
-/// The number of errors that were fixed, and the number of files with fixes.
+/// The number of fixes, and the number of files with fixes.
 #[derive(Clone, Copy, Drop)]
 struct Count {
     errors: usize,
     files: usize,
 }
 
-/// Fixes the errors of a source, and then replaces syntax that the version of TOML in `task` lacks. Returns the new
-/// text with the number of fixes and replacements. `name` is the name of the file.
+/// Fixes errors of `text` as `with_fixes` does, and then replaces syntax that the version of TOML in `task` lacks.
+/// Returns the new text with the number of fixes and replacements. `name` is the name of the file.
 fn fixed(alloc: Global, text: &str, task: Task, name: &str) -> Result<Fixed, AllocError> {
     let made = with_fixes(alloc, text)?;
     let Task::Check(version, _) = task else {
@@ -37,11 +37,11 @@ fn fixed(alloc: Global, text: &str, task: Task, name: &str) -> Result<Fixed, All
     })
 }
 
-/// Fixes the errors of a file, and writes the file if there were fixes. Returns the number of fixes, or the answer for
-/// a failed write.
+/// Fixes errors of a file as `fixed` does, and writes the file if there were fixes. Returns the number of fixes, or the
+/// answer for a file that was not written.
 ///
 /// Returns 0 for standard input, and for a file that can't be read, is larger than 16 MiB or is not valid UTF-8. The
-/// check that follows reports such a file.
+/// check that follows reports what is wrong with them.
 fn fix_file(
     alloc: Global,
     host: &mut Host,
@@ -77,8 +77,8 @@ struct Outcome {
     is_written: bool,
 }
 
-/// Returns the outcome of fixes that were all written. The line counts the fixes. It is empty without fixes, or if
-/// `is_quiet`.
+/// Returns the outcome of fixes that were all written. Its line says how many fixes were made in how many files. The
+/// line is empty without fixes, or if `is_quiet`.
 fn counted(alloc: Global, count: Count, is_quiet: bool) -> Result<Outcome, AllocError> {
     let (errors, files) = (count.errors, count.files);
     let mut line = String::new(alloc);
@@ -93,8 +93,8 @@ fn counted(alloc: Global, count: Count, is_quiet: bool) -> Result<Outcome, Alloc
     })
 }
 
-/// Fixes the errors of the files that the arguments name, and of files in directories, but not of standard input. Stops
-/// at the first file that can't be written.
+/// Calls `fix_file` for each file that `options` names, and for each file found below a directory that `options` names.
+/// Stops at the first file that can't be written. Returns the outcome.
 fn fix_files(alloc: Global, options: &Options<'_>, host: &mut Host) -> Result<Outcome, AllocError> {
     let mut count = Count {
         errors: 0,
@@ -122,8 +122,8 @@ fn fix_files(alloc: Global, options: &Options<'_>, host: &mut Host) -> Result<Ou
     counted(alloc, count, options.is_quiet)
 }
 
-/// Returns a source of the schemas that the arguments `words`, and the files to check, name. If the arguments are
-/// wrong, only the files name schemas.
+/// Returns the `FileSchemas` for the options about schemas in `words`. If the arguments `words` are wrong, returns the
+/// `FileSchemas` without options.
 fn file_schemas(alloc: Global, words: &[String], host: &Host) -> Result<FileSchemas, AllocError> {
     match options_of(alloc, Query::Check, words, false) {
         Ok(options) => FileSchemas::new(alloc, host.rt, &options.schemas),
@@ -133,7 +133,7 @@ fn file_schemas(alloc: Global, words: &[String], host: &Host) -> Result<FileSche
 }
 
 /// Carries out `--fix`. Returns `None` if the arguments don't have this option, or are wrong. `words` are the name of
-/// the command and its arguments.
+/// the command, or of the program, and the arguments.
 fn fix(
     alloc: Global,
     words: &[String],
@@ -189,7 +189,8 @@ fn check_fixed<O: Sink, E: Sink>(
     }
 }
 
-/// Carries out `check` with these schemas, and returns the exit status. The other arguments are those of `check`.
+/// Carries out `check` with these schemas, and returns the exit status. The other parameters are those of the function
+/// `check`.
 fn check_with<O: Sink, E: Sink>(
     alloc: Global,
     words: &[String],
@@ -234,8 +235,8 @@ fn check_with<O: Sink, E: Sink>(
 
 /// Checks files. With `--fix`, first fixes their errors. Returns the exit status.
 ///
-/// `words` are the name of the command and its arguments. `is_coloured` says whether `--color auto` means colors, and
-/// `is_watched` whether standard error is a terminal.
+/// `words` are the name of the command, or of the program, and the arguments. `is_coloured` says whether `--color auto`
+/// means colors, and `is_watched` whether standard error is a terminal.
 pub(crate) fn check<O: Sink, E: Sink>(
     alloc: Global,
     words: &[String],

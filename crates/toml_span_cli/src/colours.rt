@@ -1,4 +1,4 @@
-//! Decides whether reports have colors for `--color auto`.
+//! Decides whether `--color auto` means colors.
 ghost use Rattle.std.specs.Prelude.{◌≡◌};
 ghost use Rattle.toml_span_cli.specs.Colours as spec;
 
@@ -7,7 +7,7 @@ use std::env;
 use std::env::VarError;
 
 /// Returns whether reports have colors. They have none if `no_color` is not empty. Otherwise they have colors if
-/// `force` is neither empty nor `0`, or on a terminal unless `term` is `dumb`.
+/// `force` is neither empty nor `0`, or if `is_terminal` and `term` is not `dumb`.
 ///
 /// `no_color`, `force` and `term` are the values of the variables `NO_COLOR`, `CLICOLOR_FORCE` and `TERM`, empty if not
 /// set.
@@ -35,7 +35,8 @@ fn variable(rt: &HostRuntime, name: &str) -> Result<String, AllocError> {
     }
 }
 
-/// Returns whether reports on standard output have colors. `is_terminal` says whether standard output is a terminal.
+/// Returns whether reports on standard output have colors with `--color auto`. `is_terminal` says whether standard
+/// output is a terminal.
 pub(crate) fn wants_colours(rt: &HostRuntime, is_terminal: bool) -> Result<bool, AllocError> {
     let no_color = variable(rt, "NO_COLOR")?;
     let force = variable(rt, "CLICOLOR_FORCE")?;

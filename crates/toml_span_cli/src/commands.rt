@@ -1,4 +1,4 @@
-//! The commands.
+//! The commands, with their names, usages and help texts.
 ghost use Rattle.std.specs.Prelude.{◌≡◌};
 ghost use Rattle.toml_span_cli.specs.Commands as spec;
 
@@ -56,7 +56,7 @@ pub(crate) fn command_named(name: &str) -> Option<Command>
     }
 }
 
-/// Returns the usage of a command: the name and the arguments.
+/// Returns the usage of a command: its name and its arguments.
 pub(crate) fn arguments_of(command: Command) -> &'static str {
     match command {
         Command::Check => "check [OPTION].. [FILE|DIRECTORY|-]..",
@@ -77,7 +77,7 @@ pub(crate) fn arguments_of(command: Command) -> &'static str {
     }
 }
 
-/// Returns the help text of a command.
+/// Returns the help text of a command. For a command that edits, the text lacks its end, which is `EDITING`.
 pub(crate) fn help_of(command: Command) -> &'static str {
     match command {
         Command::Check => CHECK,

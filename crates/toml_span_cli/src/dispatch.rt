@@ -28,13 +28,13 @@ use toml_span_report::nearest;
 enum Request {
     /// A command.
     Command(Command),
-    /// A check of files: the argument is an option, or the name of a file or directory.
+    /// A check of files: `is_file` holds for the argument, or there is a file or directory with this name.
     Files,
     /// The help of the program.
     Help,
     /// The version of the program.
     Version,
-    /// An unknown request: the argument is neither a command nor the name of a file or directory.
+    /// An unknown request: the argument makes none of the other requests.
     Unknown,
 }
 
@@ -75,8 +75,8 @@ fn say_unknown<E: Sink>(alloc: Global, word: &str, errors: &mut E) -> Result<u8,
     Ok(say(errors, text.as_str(), 2))
 }
 
-/// Prints the help of the program or of a command, or that the arguments are wrong. `words` are the name of the command
-/// and its arguments. Returns the exit status.
+/// Carries out `help`: prints the help of the program or of a command, or that the arguments are wrong. `words` are
+/// `help` and its arguments. Returns the exit status.
 fn help<O: Sink, E: Sink>(
     alloc: Global,
     words: &[String],
@@ -168,10 +168,11 @@ fn perform<O: Sink, E: Sink>(
 /// `words` are the name of the program and its arguments. `is_coloured` says whether `--color auto` means colors, and
 /// `is_watched` whether standard error is a terminal.
 ///
-/// Returns the exit status: 0 for success; 1 for an error in a file, a refused edit, or a file that `fmt` would change
-/// with `--check` or `--diff`; 2 if a file can't be read, its schema can't be used, or the arguments are wrong or
-/// missing; 3 if a write fails. For `lsp`, see `toml_span_lsp::Ended`. If an allocation fails, returns the status 4 or
-/// an `AllocError`.
+/// Returns the exit status: 0 for success; 1 for an error in a file, a path of `get` without a value, a refused edit,
+/// or a file that `fmt` can't format, or would change with `--check` or `--diff`; 2 if a file can't be read, its schema
+/// can't be used, or the arguments are wrong or missing; 3 if a write fails. `show` also returns 2 for a file that is
+/// not valid UTF-8 or is larger than 16 MiB. For `lsp`, see `toml_span_lsp::Ended`. If an allocation fails, returns the
+/// status 4 or an `AllocError`.
 pub(crate) fn dispatch<O: Sink, E: Sink>(
     alloc: Global,
     words: &[String],

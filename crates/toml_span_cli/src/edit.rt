@@ -44,8 +44,8 @@ fn refused(alloc: Global, file: &str, stop: Stop<String>) -> Result<Answer, Allo
     failed(alloc, "error: cannot edit ", file, reason.as_str(), 1)
 }
 
-/// Makes edits without replacing the file. Returns the answer, which prints the result, or how the result differs from
-/// the file.
+/// Makes edits without replacing the file. Returns the answer, which prints the result or, with `--diff`, how the
+/// result differs from the file.
 fn show(
     alloc: Global,
     file: &str,
@@ -95,7 +95,8 @@ fn write(
     }
 }
 
-/// Makes edits. For `-`, `--dry-run` and `--diff`, prints the result; otherwise replaces the file. Returns the answer.
+/// Makes edits, and returns the answer. For `-`, `--dry-run` and `--diff`, does what `show` does; otherwise replaces
+/// the file.
 fn perform(
     alloc: Global,
     file: &str,
@@ -110,7 +111,7 @@ fn perform(
     }
 }
 
-/// Makes the edits of the script on standard input in the file `file`. Returns the answer.
+/// Reads a script from standard input, and makes its edits in the file `file`. Returns the answer.
 fn perform_script(
     alloc: Global,
     file: &str,
@@ -155,7 +156,7 @@ fn misuse(alloc: Global, command: Command, message: &str) -> Result<Answer, Allo
     })
 }
 
-/// Returns the answer for a wrong number of arguments, `given`.
+/// Returns the answer for a wrong number of arguments. `given` is this number.
 fn miscounted(alloc: Global, command: Command, given: usize) -> Result<Answer, AllocError> {
     let wanted = count_of(command).saturating_add(1);
     let arguments = if wanted == 1 { "argument" } else { "arguments" };

@@ -71,7 +71,7 @@ fn title_of(page: &str) -> &str {
     }
 }
 
-/// Appends a line for each code in the list, with the first line of the explanation.
+/// Appends a line for each code in `list`: the code, and the first line of its explanation.
 fn push_titles(out: &mut String, list: &[&str]) -> Result<(), AllocError> {
     for code in list {
         out.push_str(*code)?;

@@ -1,4 +1,4 @@
-//! Reads and replaces single files.
+//! Reads and replaces single files, and reports files that were not edited.
 ghost use Rattle.std.specs.Prelude.{◌≤◌};
 
 use crate::answers::{Answer, failed};
@@ -8,8 +8,8 @@ use toml_span_check::input::Host;
 use toml_span_files::{Failure, Options, put_file};
 use toml_span_lookup::disk::Disk;
 
-/// Returns the bytes of a file, or of standard input for `-`, but at most `BOUND + 1`. Returns a message if they can't
-/// be read, or if `name` is a directory.
+/// Returns the bytes of a file, or of standard input for `-`, but at most one byte more than 16 MiB. Returns a message
+/// if they can't be read, or if `name` is a directory.
 pub(crate) fn read_file(
     alloc: Global,
     host: &mut Host,
@@ -80,8 +80,8 @@ pub(crate) fn unedited(
     Ok(answer)
 }
 
-/// Writes `text` to the file `name`, if the content of the file is still `bytes`. Returns `None`, or the answer for a
-/// file that was not written.
+/// Replaces the content of the file `name` with `text`, if the content is still `bytes`. Returns `None` on success,
+/// otherwise the answer for a file that was not written.
 pub(crate) fn replace(
     alloc: Global,
     rt: &HostRuntime,

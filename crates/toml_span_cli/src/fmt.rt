@@ -79,7 +79,8 @@ impl<'w> Asked<'w> {
         Ok(())
     }
 
-    /// Stores the option `word`, which has no `=VALUE`. Fails with a message if the option is unknown.
+    /// Stores the option `word`, which is not `--width=VALUE` or `--indent=VALUE`. Fails with a message if the option
+    /// is unknown.
     fn option(&mut self, alloc: Global, word: &str) -> Result<(), Stop<String>> {
         match word {
             "--check" => self.is_check = true,
@@ -115,8 +116,8 @@ impl<'w> Asked<'w> {
     }
 }
 
-/// Parses all arguments. If no file is named, the current directory is formatted. Fails with a message if an argument
-/// is wrong or missing.
+/// Parses all arguments. If they name no file, stores the name `.`, the current directory. Fails with a message if an
+/// argument is wrong, or if the value of the last option is missing.
 fn asked_of<'w>(alloc: Global, arguments: &'w [String]) -> Result<Asked<'w>, Stop<String>> {
     let mut asked = Asked {
         options: Options::new(),
@@ -228,7 +229,7 @@ fn put(
     }
 }
 
-/// Formats a file. Returns the answer, which says why if the file can't be read or formatted.
+/// Formats a file, and returns the answer. If the file can't be read or formatted, the answer says why.
 fn format_file(
     alloc: Global,
     asked: &Asked<'_>,
@@ -273,7 +274,8 @@ fn add(all: &mut Answer, one: &Answer) -> Result<(), AllocError> {
     Ok(())
 }
 
-/// Formats the files that the arguments name, and those in directories. Returns one answer for all files.
+/// Formats each file that the arguments name, and each file found below a directory that they name. Returns one answer
+/// for all files.
 fn format_each(alloc: Global, asked: &Asked<'_>, host: &mut Host) -> Result<Answer, AllocError> {
     let mut all = printed(alloc, String::new(alloc));
     for name in &asked.names {

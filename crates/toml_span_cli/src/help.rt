@@ -197,7 +197,7 @@ Exit status:
   4  out of memory
 ";
 
-/// The help of `set`.
+/// The help of `set`, without `EDITING`.
 pub(crate) const SET: &str = "\
 Replaces a value in a TOML file, or adds it if its key is missing, and keeps all
 other bytes.
@@ -212,7 +212,7 @@ is replaced only with --force.
   toml-span set Cargo.toml package.version '\"1.3.0\"'
 ";
 
-/// The help of `rename`.
+/// The help of `rename`, without `EDITING`.
 pub(crate) const RENAME: &str = "\
 Renames a key in a TOML file wherever it is written, and keeps all other bytes.
 
@@ -224,7 +224,7 @@ PATH is a dotted key such as dependencies.serde, or a pointer such as
   toml-span rename Cargo.toml dependencies.serde serde1
 ";
 
-/// The help of `remove`.
+/// The help of `remove`, without `EDITING`.
 pub(crate) const REMOVE: &str = "\
 Removes a value with its key, or an array element, from a TOML file.
 
@@ -237,7 +237,7 @@ its sections.
   toml-span remove Cargo.toml dependencies.serde
 ";
 
-/// The help of `add`.
+/// The help of `add`, without `EDITING`.
 pub(crate) const ADD: &str = "\
 Adds a key with a value to a table of a TOML file, and keeps all other bytes.
 
@@ -250,7 +250,7 @@ TOML requires it. VALUE is TOML, so a string needs its quotes: '\"text\"'.
   toml-span add Cargo.toml dependencies log '\"0.4\"'
 ";
 
-/// The help of `append`.
+/// The help of `append`, without `EDITING`.
 pub(crate) const APPEND: &str = "\
 Adds an element at the end of an array in a TOML file.
 
@@ -262,7 +262,7 @@ as /package/keywords. VALUE is TOML, so a string needs its quotes: '\"text\"'.
   toml-span append Cargo.toml package.keywords '\"parser\"'
 ";
 
-/// The help of `insert`.
+/// The help of `insert`, without `EDITING`.
 pub(crate) const INSERT: &str = "\
 Adds an element to an array in a TOML file, before another one.
 
@@ -274,7 +274,7 @@ PATH names the element that will follow: package.keywords[0], or as a pointer
   toml-span insert Cargo.toml 'package.keywords[0]' '\"toml\"'
 ";
 
-/// The help of `move`.
+/// The help of `move`, without `EDITING`.
 pub(crate) const MOVE: &str = "\
 Moves a value of a TOML file to another path, with the comments of its lines.
 
@@ -287,7 +287,7 @@ second PATH yet, unless both are elements of one array.
   toml-span move Cargo.toml dependencies.log dev-dependencies.log
 ";
 
-/// The help of `edit`.
+/// The help of `edit`, without `EDITING`.
 pub(crate) const EDIT: &str = "\
 Makes several edits in a TOML file at once: all of them or none.
 

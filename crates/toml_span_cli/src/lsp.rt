@@ -11,7 +11,8 @@ use toml_span_lines::sink::Sink;
 use toml_span_lines::tracked::Tracked;
 use toml_span_lsp::serve;
 
-/// Runs the language server on standard input, and returns the exit status.
+/// Runs the language server, which reads standard input and writes to `out`. If something was wrong, prints the reason
+/// to `errors`. Returns the exit status.
 fn run<O: Sink, E: Sink>(
     alloc: Global,
     host: &mut Host,

@@ -1,4 +1,4 @@
-//! The command line of `toml-span`: checks, prints, edits and formats TOML files.
+//! The program `toml-span`, which checks, prints, edits and formats TOML files, and has a language server.
 #![tactic(auto)]
 
 ghost use Rattle.std.specs.Prelude.{◌≤◌, IfOk};
@@ -59,7 +59,7 @@ fn status_of(rt: HostRuntime) -> Result<u8, AllocError>
     )
 }
 
-/// Runs the program. Exits with status 4 if an allocation fails.
+/// Runs the program. Exits with the status that `status_of` returns, or with 4 if an allocation fails.
 fn main(rt: HostRuntime) -> ExitCode {
     match status_of(rt) {
         Ok(status) => ExitCode::from(status),

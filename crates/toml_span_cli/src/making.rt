@@ -14,7 +14,7 @@ use toml_span_report::line_column;
 #[derive(Clone, Copy)]
 enum Kind {
     Set,
-    /// Sets the value, and replaces tables that headers or dotted keys define.
+    /// Sets the value, even if headers or dotted keys define the old value.
     SetForced,
     Rename,
     Remove,
@@ -65,7 +65,7 @@ fn value_of(alloc: Global, value: &str, is_string: bool) -> Result<String, Alloc
     }
 }
 
-/// Returns the kind of the edit for an action.
+/// Returns the kind of an edit with this action.
 fn kind_of(action: Action<'_>) -> Kind {
     match action {
         Action::Set(_) => Kind::Set,
@@ -183,8 +183,8 @@ fn message_of(alloc: Global, error: &EditError, count: usize) -> Result<String, 
     Ok(message)
 }
 
-/// Changes the edit that was refused with `error` so that it replaces tables too. Returns whether the edit was changed.
-/// It is changed only if it sets a value, and the reason for the refusal is `NotLiteral`.
+/// Changes the edit that was refused with `error` from `Set` to `SetForced`. Does so only if the edit is a `Set`, and
+/// the reason for the refusal is `NotLiteral`. Returns whether the edit was changed.
 fn force(list: &mut [Prepared<'_>], error: &EditError) -> bool {
     let Reason::NotLiteral = error.reason else {
         return false;
@@ -201,8 +201,8 @@ fn force(list: &mut [Prepared<'_>], error: &EditError) -> bool {
     }
 }
 
-/// Makes prepared edits, and returns the new text. If `is_forced`, values may replace tables. Fails with a message if
-/// an edit is refused.
+/// Makes prepared edits, and returns the new text. If `is_forced`, an edit that sets a value may replace a table or
+/// array that headers or dotted keys define. Fails with a message if an edit is refused.
 fn forced(
     alloc: Global,
     text: &str,
@@ -229,8 +229,8 @@ fn forced(
     }
 }
 
-/// Returns the message that a file is not valid UTF-8. The message has the line and column, counted from 1, of the byte
-/// offset `at`, where the first invalid byte is.
+/// Returns the message that a file is not valid UTF-8. The first invalid byte is at the byte offset `at`. The message
+/// has the line and column of this offset, counted from 1.
 fn not_text(alloc: Global, bytes: &[u8], at: usize) -> Result<String, AllocError>
     requires { IsValidUpTo bytes.now at }
 {
@@ -241,8 +241,8 @@ fn not_text(alloc: Global, bytes: &[u8], at: usize) -> Result<String, AllocError
 }
 
 /// Makes edits in the bytes of a file, and returns the new text. If `is_string`, values are the content of strings
-/// rather than TOML. If `is_forced`, values may replace tables. Fails with a message if the file is not valid UTF-8 or
-/// an edit is refused.
+/// rather than TOML. If `is_forced`, an edit that sets a value may replace a table or array that headers or dotted keys
+/// define. Fails with a message if the file is not valid UTF-8 or an edit is refused.
 pub(crate) fn new_text(
     alloc: Global,
     bytes: &[u8],

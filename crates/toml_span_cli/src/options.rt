@@ -1,4 +1,4 @@
-//! The options of `check` and `get`.
+//! The arguments of `check` and `get`.
 ghost use Rattle.std.specs.Prelude.{◌≡◌, IfOk, false, map, string_bytes, codes};
 ghost use Rattle.clap.specs.Kinds.{FailsBy};
 ghost use Rattle.clap.specs.Words.{app_of, found_of, rows_of, rule_of};
@@ -17,7 +17,7 @@ use toml_span_check::schemas::Chooser;
 use toml_span_check::words::is_bytes;
 use toml_span_report::Style;
 
-/// One of the two commands with these options.
+/// A command whose arguments this module parses.
 #[derive(Clone, Copy, PartialEq, Eq)]
 pub(crate) enum Query {
     /// `check`
@@ -31,7 +31,7 @@ pub(crate) enum Query {
 pub(crate) struct Options<'w> {
     pub(crate) format: Format,
     pub(crate) task: Task,
-    /// The path of the value to print. An empty path is that of the whole document.
+    /// For `get`, the path of the value to print, which is empty for the whole document. Empty for `check`.
     pub(crate) pointer: &'w str,
     /// The patterns of files and directories to leave out of a search.
     pub(crate) excludes: Vec<&'w str>,
@@ -43,7 +43,7 @@ pub(crate) struct Options<'w> {
     pub(crate) schemas: SchemaOptions<'w>,
 }
 
-/// A mistake in arguments that clap does not find.
+/// A mistake that clap does not find in the arguments.
 #[derive(Clone, Copy, PartialEq, Eq)]
 enum Mistake {
     /// The value of `--format` is unknown.
@@ -52,7 +52,7 @@ enum Mistake {
     Color,
     /// The value of `--toml` is unknown.
     Version,
-    /// Several options say how to print the value.
+    /// Several flags choose a form in which to print the value.
     Forms,
     /// The path is not valid UTF-8.
     Path,
@@ -123,7 +123,7 @@ fn common<'w>(alloc: Global, name: &'w str, help: &'w str) -> Result<Command<'w>
         .arg(with_default(alloc, "color", "auto"))
 }
 
-/// Returns the command `check` with the options that `get` shares, and the options about schemas.
+/// Returns the command `check` with the options of `common` and the options about schemas.
 fn schema_command<'w>(alloc: Global) -> Result<Command<'w>, AllocError>
     ensures { IfOk result (λ c. app_of c ≡ spec.schemas) }
 {
@@ -167,7 +167,7 @@ fn get_command<'w>(alloc: Global) -> Result<Command<'w>, AllocError>
         .arg(required(alloc, "PATH"))
 }
 
-/// Returns the command with all its arguments.
+/// Returns the command that `query` names, with all its arguments.
 fn command<'w>(alloc: Global, query: Query) -> Result<Command<'w>, AllocError>
     ensures { IfOk result (λ c. app_of c ≡ spec.program query) }
 {
@@ -205,7 +205,7 @@ fn style_named(name: &str, auto_is_coloured: bool) -> Option<Style>
     }
 }
 
-/// Returns the value of an option, or an empty text if the option has no value.
+/// Returns the value of the option or argument `name`, or an empty text if it has no value.
 fn value_of<'w>(matches: &ArgMatches<'w>, name: &str) -> &'w str
     ensures { result.now ≡ spec.value_of (rows_of (found_of matches.now)) name.now }
 {
@@ -239,9 +239,9 @@ fn is_given(matches: &ArgMatches<'_>, name: &str) -> bool
     value_of(matches, name) == "true"
 }
 
-/// Returns the form that the flags choose, after one more flag, which chooses `form` if it `is_given`. `chosen` is the
-/// choice of the flags before. Fails with `Mistake::Forms` if two flags choose a form, and with the mistake in `chosen`
-/// if there is one.
+/// Adds one flag to the flags that made the choice `chosen`, and returns the choice of all of them. If `is_given`, the
+/// added flag chooses `form`. Fails with `Mistake::Forms` if `chosen` already has a form and the added flag chooses
+/// one. If `chosen` is a mistake, fails with this mistake.
 fn with_form(
     chosen: Result<Option<Form>, Mistake>,
     is_given: bool,
@@ -280,8 +280,7 @@ fn version_named(name: &str) -> Option<Version>
     }
 }
 
-/// Returns who chooses the schemas of files: the arguments, if `--schema` or `--catalog` has a value that is not empty,
-/// otherwise the files.
+/// Returns `Chooser::Arguments` if `--schema` or `--catalog` has a value that is not empty, otherwise `Chooser::Files`.
 fn chooser_of(matches: &ArgMatches<'_>) -> Chooser
     ensures { result ≡ spec.chooser_of (rows_of (found_of matches.now)) }
 {
@@ -366,8 +365,8 @@ fn message_of(mistake: Mistake) -> &'static str {
 }
 
 /// Parses the arguments of a command. `words` are the name of the command, or of the program, and the arguments.
-/// `auto_is_coloured` says whether `--color auto` means colors. Fails with clap's error, which may also be a request for the
-/// help or the version. If an allocation fails, the error has the kind `OutOfMemory`.
+/// `auto_is_coloured` says whether `--color auto` means colors. Fails with clap's error, which may also be a request
+/// for the help or the version. If an allocation fails, the error has the kind `OutOfMemory`.
 pub(crate) fn options_of<'w>(
     alloc: Global,
     query: Query,

@@ -1,4 +1,4 @@
-//! Prints help, and messages about wrong arguments.
+//! Prints texts, quotes arguments, and reports wrong arguments.
 ghost use Rattle.std.specs.Prelude.{◌≡◌, ℕ, List, IfOk, false, string_bytes};
 ghost use Rattle.toml_span_report.specs.Visible.{visible_lines as shown_lines};
 ghost use Rattle.toml_span_cli.specs.Say.{Prints, Warns};
@@ -31,7 +31,8 @@ pub(crate) fn quoted_word(alloc: Global, word: &str) -> Result<String, AllocErro
     Ok(out)
 }
 
-/// Returns the message about wrong arguments and the usage of the command, escaped for a terminal.
+/// Returns a text about wrong arguments, escaped for a terminal. The text has `message`, which says what is wrong, and
+/// the usage of the command.
 pub(crate) fn misuse_text(
     alloc: Global,
     command: Command,
@@ -46,8 +47,7 @@ pub(crate) fn misuse_text(
     visible_lines(alloc, text.as_str())
 }
 
-/// Prints the message about wrong arguments, and the usage of the command, to `errors`. Returns status 2, or 3 if the
-/// write fails.
+/// Prints to `errors` the text that `misuse_text` makes. Returns status 2, or 3 if the write fails.
 pub(crate) fn say_misuse<E: Sink>(
     alloc: Global,
     command: Command,

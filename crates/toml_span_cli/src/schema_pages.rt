@@ -38,7 +38,7 @@ pub(crate) const SCHEMA_CODES: [&str; 31] = [
     "schema-not-fetched",
 ];
 
-/// The explanation of each code.
+/// Each code of `SCHEMA_CODES` with its explanation.
 const SCHEMA_PAGES: [(&str, &str); 31] = [
     (
         "schema",

@@ -1,4 +1,4 @@
-//! The schemas that arguments and files name.
+//! Looks up the schemas of files, as the options about schemas say.
 ghost use Rattle.toml_span_lookup.specs.Findings.{file_says};
 
 use std::alloc::{AllocError, Global};
@@ -40,7 +40,7 @@ impl SchemaOptions<'_> {
     }
 }
 
-/// Finds the schemas that files, arguments and a catalog name, and reads them from files.
+/// A source of the schemas that are named by files, by arguments or by a catalog. It reads them from local files.
 #[derive(Drop)]
 pub(crate) struct FileSchemas {
     host: Host,
@@ -48,7 +48,8 @@ pub(crate) struct FileSchemas {
 }
 
 impl FileSchemas {
-    /// Returns a source of the schemas that files and these arguments name. Nothing is read yet.
+    /// Returns a source of the schemas that are named by files, by `options` or by the catalog in `options`. Reads
+    /// nothing yet.
     pub(crate) fn new(
         alloc: Global,
         rt: HostRuntime,
@@ -58,12 +59,12 @@ impl FileSchemas {
         Ok(FileSchemas::with(alloc, rt, options))
     }
 
-    /// Returns a source of the schemas that files name. Nothing is read yet.
+    /// Returns a source of the schemas that are named by files. Reads nothing yet.
     pub(crate) fn without_options(alloc: Global, rt: HostRuntime) -> FileSchemas {
         FileSchemas::with(alloc, rt, Options::new(alloc, Place::Arguments))
     }
 
-    /// Returns a source of the schemas that files and these options name. Nothing is read yet.
+    /// Does the same as `new` with options for `Lookup`.
     fn with(alloc: Global, rt: HostRuntime, options: Options) -> FileSchemas {
         FileSchemas {
             host: Host { rt },

@@ -32,7 +32,8 @@ pub(crate) fn say_unread<E: Sink>(
     Ok(say(errors, line.as_str(), 2))
 }
 
-/// Prints the lines of a file's tree or of its error, or that the file can't be read. Returns the exit status.
+/// Prints the lines of a file's tree, or the line of its error. If the file can't be read, prints why to `errors`.
+/// Returns the exit status.
 fn show_file<O: Sink, E: Sink>(
     alloc: Global,
     name: &str,
@@ -55,8 +56,8 @@ fn show_file<O: Sink, E: Sink>(
     }
 }
 
-/// Carries out `show`: prints a file, the help, or that the arguments are wrong. `words` are the name of the command
-/// and its arguments. Returns the exit status.
+/// Carries out `show`: shows a file (see `show_file`), or prints the help, or that the arguments are wrong. `words` are
+/// the name of the command and its arguments. Returns the exit status.
 pub(crate) fn show<O: Sink, E: Sink>(
     alloc: Global,
     words: &[String],

@@ -1,4 +1,4 @@
-//! The commands `check` and `get`.
+//! Carries out the commands `check` and `get`.
 ghost use Rattle.std.specs.Prelude.{◌≡◌, IfOk, List, ℕ, false, map, string_bytes};
 ghost use Rattle.clap.specs.Values.{kind_of};
 ghost use Rattle.toml_span_report.specs.Visible.{visible_lines};
@@ -30,8 +30,8 @@ fn help_of(query: Query) -> &'static str
     }
 }
 
-/// Returns the message about wrong arguments. `words` are the arguments as they are displayed. If they are right in
-/// this form, the message is that the path is not valid UTF-8.
+/// Returns the message about wrong arguments. `words` are the arguments, escaped for a terminal. If the escaped
+/// arguments are right, the mistake is that the path is not valid UTF-8.
 fn message_of(alloc: Global, query: Query, words: &[String]) -> Result<String, AllocError> {
     match options_of(alloc, query, words, false) {
         Ok(options) => {
@@ -71,9 +71,9 @@ fn path_mistake(alloc: Global, path: &str) -> Result<Option<String>, AllocError>
     }
 }
 
-/// Prints the help or the version if the arguments ask for it, otherwise the message about wrong arguments. `error` is
-/// clap's error for `words`. Returns the exit status: 0 for the help or version, 2 for wrong arguments, 3 if a write
-/// fails, 4 if an allocation fails.
+/// Prints the help or the version if the arguments ask for one of them, otherwise the message about wrong arguments.
+/// `error` is clap's error for `words`. Returns the exit status: 0 for the help or version, 2 for wrong arguments, 3 if
+/// a write fails, 4 if an allocation fails.
 fn refuse<O: Sink, E: Sink>(
     alloc: Global,
     query: Query,
@@ -98,12 +98,12 @@ fn refuse<O: Sink, E: Sink>(
     }
 }
 
-/// Carries out `check` or `get`. If the arguments are right, returns the exit status of `toml_span_check::run::run`.
-/// Otherwise prints the help or version with status 0, or the message about wrong arguments with status 2. The status
-/// is 3 if a write fails, and 4 if an allocation fails.
+/// Carries out `check` or `get`. If the arguments are right, calls `toml_span_check::run::run`, and returns its exit
+/// status. Otherwise prints the help or version with status 0, or the message about wrong arguments with status 2. The
+/// status is 3 if a write fails, and 4 if an allocation fails.
 ///
-/// `words` are the name of the command, or of the program, and the arguments. `auto_is_coloured` says whether `--color auto`
-/// means colors, and `is_watched` whether standard error is a terminal.
+/// `words` are the name of the command, or of the program, and the arguments. `auto_is_coloured` says whether
+/// `--color auto` means colors, and `is_watched` whether standard error is a terminal.
 pub(crate) fn start<I: Inputs, S: Schemas, O: Sink, E: Sink>(
     alloc: Global,
     query: Query,

@@ -1,4 +1,4 @@
-//! The arguments of the command line.
+//! Reads the arguments of the command line, and tests single arguments.
 ghost use Rattle.std.specs.Prelude.{◌≡◌};
 ghost use Rattle.toml_span_cli.specs.Words as spec;
 
@@ -7,7 +7,7 @@ use std::env::FillError;
 use std::rt::Env;
 use toml_span_check::words::word_text;
 
-/// Returns the argument at the position `at`, or `None` after the last argument.
+/// Returns the bytes of the argument at the position `at`, or `None` after the last argument.
 fn word(rt: &HostRuntime, at: usize) -> Result<Option<Vec<u8>>, AllocError> {
     let mut size = 256usize;
     for _ in 0..usize::BITS {
@@ -67,8 +67,8 @@ pub(crate) fn has(word: &str, byte: u8) -> bool
     word.as_bytes().contains(&byte)
 }
 
-/// Returns whether an argument is an option, or the name of a file rather than a misspelled command. Such a name
-/// contains `.` or `/`, or is `-`, or is not valid UTF-8.
+/// Returns whether an argument can't be a misspelled command: it begins with `-`, contains `.` or `/`, or was not valid
+/// UTF-8 before `word_text` converted it.
 pub(crate) fn is_file(word: &str) -> bool
     ensures { result ≡ spec.is_file word.now }
 {

@@ -5,7 +5,7 @@ use Rattle.toml_span_format.specs.Document.{PermutedComments}
 use Rattle.toml_span_convert.specs.Forms.{IsArrayConverted, IsTableConverted}
 use Rattle.toml_span_convert.specs.declared.conversions.Conversion.{Conversion}
 
--- In the second text, a table or an array has another form. The trees of the texts are the same except for spans. Their
+-- In the second text, a table or an array has another form. The trees of the texts are the same except for spans. The
 -- comments are the same, perhaps in another order.
 abbrev pub IsConverted : Conversion → List ℕ → List ℕ → Type 0
 IsConverted conversion text new = (IsTableConverted conversion text new ⊎ IsArrayConverted conversion text new)

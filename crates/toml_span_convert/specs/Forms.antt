@@ -34,8 +34,8 @@ abbrev pub is_inline : TableForm → Bool
 is_inline forms.Inline = true
 is_inline _ = false
 
--- A form for which `from` holds is among the old forms, but not among the new ones. A form for which `to` holds is
--- among the new ones.
+-- `from` holds for at least one of the old forms, and for none of the new ones. `to` holds for at least one of the new
+-- ones.
 abbrev pub IsReplaced : (TableForm → Bool) → (TableForm → Bool) → List TableForm → List TableForm → Type 0
 IsReplaced from to old new = (list_any from old ≡ true) × (list_any from new ≡ false) × (list_any to new ≡ true)
 
@@ -62,8 +62,8 @@ IsLaidOut kinds.ArrayToLines old new = (has_line_end old ≡ false) × (has_line
 IsLaidOut kinds.ArrayToLine old new = (has_line_end old ≡ true) × (has_line_end new ≡ false)
 IsLaidOut _ old new = ⊥
 
--- A part of the text that begins with a bracket is replaced by a literal that begins with a bracket. All other bytes
--- are the same.
+-- A part of the text is replaced by `array`. Both begin with an opening bracket, and their line ends are as `IsLaidOut`
+-- requires. All other bytes are the same.
 abbrev pub IsArrayConverted : Conversion → List ℕ → List ℕ → Type 0
 IsArrayConverted conversion text new =
     (span : Span) × (array : List ℕ) × (replaced text ((span, array) ∷ []) ≡ Some new)

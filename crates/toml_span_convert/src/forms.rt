@@ -1,4 +1,4 @@
-//! Checks in which form two texts write a table or an array.
+//! Checks whether a new text writes a table or an array in the form that a conversion requires.
 ghost use Rattle.std.specs.Prelude.{◌≡◌, IfOk, IfSome, IsTrue, Ok, map, slice_range, string_bytes};
 ghost use Rattle.std.specs.List.{list_any};
 ghost use Rattle.toml_span_tree.specs.Nodes.{step_of};

@@ -1,4 +1,4 @@
-//! Finds the ends, indentation and comments of lines.
+//! Finds parts of a text: the ends, indentation and comments of lines.
 use toml_span_lex::span::Span;
 use toml_span_places::assignment_lines;
 use toml_span_read::Assignment;
@@ -59,7 +59,7 @@ pub(crate) fn note<'t>(text: &'t str, assignment: &Assignment<'_>) -> &'t str {
 }
 
 /// Returns the start of the comment lines directly before the offset `to`. Without such lines, returns `to`. Ignores
-/// lines before the offset `from`. Both offsets must be starts of lines.
+/// lines before the offset `from`. Both offsets must be starts of lines; `from` may be after a byte order mark.
 pub(crate) fn comments_start(text: &str, from: usize, to: usize) -> usize {
     let mut start = from;
     let mut at = from;

@@ -21,9 +21,9 @@ pub(crate) fn header_of(
     format!(in alloc; "[{table}{dot}{key}]")
 }
 
-/// Ends the last line of `out`, and appends the comments in `gap`, the text between two pairs of an inline table. A
-/// comment in the first line of `gap` goes to the end of the last line of `out`. Each other comment gets a line of its
-/// own, which begins with `indent`. `end` is the line end to write.
+/// Ends the last line of `out`, and appends the comments in `gap`, the text of an inline table before, between or after
+/// its pairs. A comment in the first line of `gap` goes to the end of the last line of `out`. Each other comment gets a
+/// line of its own, which begins with `indent`. `end` is the line end to write.
 fn push_gap(out: &mut String, gap: &str, indent: &str, end: &str) -> Result<(), AllocError> {
     for (index, line) in gap.split('\n').enumerate() {
         let comment = comment_in(line);
@@ -80,7 +80,7 @@ fn has_open_comment(text: &str, braces: Span, pairs: &[Assignment<'_>]) -> bool 
 
 /// Returns the section for the inline table in `found`, whose pairs are `pairs`. `above` has the comment lines above
 /// `found`, and `end` is the line end to write. The comment after the table is written after the header or, if a
-/// comment follows the opening brace on its line, above the header.
+/// comment follows the opening brace on the same line, above the header.
 fn section_of(
     alloc: Global,
     text: &str,

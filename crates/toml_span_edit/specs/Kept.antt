@@ -70,7 +70,8 @@ hull a b = record {
   end = if nat_le a.end b.end then b.end else a.end;
 }
 
--- the smallest span that contains the literals of a value and of all values inside it, and the keys inside it
+-- the smallest span that contains the `literal_span` of a value and of each value inside it, and the spans of the keys
+-- inside it
 abbrev mutual
   pub reach : List ℕ → Node → Span
   reach text (node i span) = inner_reach text (literal_span text (node i span)) i
@@ -143,7 +144,7 @@ abbrev pub room : List ℕ → Path → Option Span → Node → Option Span
 room text [] outer n = None
 room text (segment ∷ path) outer n = room_at text path (room text path) n outer (named segment (inner_of n))
 
--- the smallest span that contains this span and the lines of all sections of the table at the path and of tables in it
+-- the smallest span that contains `s` and the lines of each section whose path begins with `path`
 abbrev pub with_sections : List ℕ → Path → Span → List SectionMention → Span
 with_sections text path s [] = s
 with_sections text path s (m ∷ ms) =
@@ -202,7 +203,7 @@ is_header_part text e =
     list_all is_opening before && (list_any (λ c. c == left_bracket) before
     && not (list_any (λ c. c == line_feed) (slice_range text e.0.start e.0.end)))
 
--- Each replacement is inside a header: see `is_header_part`. All other bytes are the same.
+-- Each replacement is as `is_header_part` requires. All other bytes are the same.
 abbrev pub AreHeadersReplaced : List ℕ → List ℕ → Type 0
 AreHeadersReplaced text new =
     (es : List Replacement) × (list_all (is_header_part text) es ≡ true) × (replaced text es ≡ Some new)

@@ -1,4 +1,4 @@
--- The list of edits.
+-- What appending an edit to the list of edits does.
 use Rattle.std.specs.Prelude.{◌≡◌, List, [], ◌∷◌, ◌++◌, Result, Ok, Err}
 use Rattle.std.specs.declared.alloc.AllocError.{AllocError}
 use Rattle.toml_span_edit.specs.declared.edits.Edit.{Edit}

@@ -55,7 +55,7 @@ same_but segment _ _ = false
 
 -- ---- one value removed
 
--- whether the second elements are the first elements without the element at this position
+-- whether the second list of elements is the first without the element at this position
 abbrev pub item_gone : ℕ → Items → Items → Bool
 item_gone zero (item n ns) ks = same_items ns ks
 item_gone (suc i) (item n ns) (item k ks) = same n k && item_gone i ns ks
@@ -84,7 +84,7 @@ lacks segment n k = gone segment (inner_of n) (inner_of k)
 abbrev pub put : List ℕ → Node → Node → Node → Bool
 put segment w n k = lacks segment k n && both same (Some w) (child segment (inner_of k))
 
--- whether the second elements are the first elements with this element added at the end
+-- whether the second list of elements is the first with this element added at the end
 abbrev pub item_last : Node → Items → Items → Bool
 item_last w no_items (item k no_items) = same w k
 item_last w (item n ns) (item k ks) = same n k && item_last w ns ks
@@ -117,7 +117,7 @@ at (segment ∷ path) related n k =
 abbrev pub nowhere : Span
 nowhere = record { start = 0; end = 0 }
 
--- a value inside nested tables, one table for each of the names, each with only one entry
+-- the value `w` inside nested tables: for each name, a table whose only entry has this name
 abbrev pub nested : List (List ℕ) → Node → Node
 nested [] w = w
 nested (name ∷ names) w =

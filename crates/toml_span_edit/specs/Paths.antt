@@ -25,7 +25,7 @@ abbrev pub is_step : List ℕ → Step → Bool
 is_step segment (key name) = bytes_eq segment name
 is_step segment (position i) = at_position (λ j. j == i) (position_of segment)
 
--- whether there are as many segments as steps, and each names its step
+-- whether there are as many segments as steps, and each segment names the step at the same index
 abbrev pub names_steps : Path → List Step → Bool
 names_steps [] [] = true
 names_steps (segment ∷ path) (s ∷ steps) = is_step segment s && names_steps path steps

@@ -1,4 +1,4 @@
--- One edit at a path.
+-- Tasks: the edit that a task makes at a path.
 use Rattle.std.specs.Prelude.{◌≡◌, List, [], ◌∷◌, ◌++◌, ℕ, map, Ok}
 use Rattle.toml_span_places.specs.Dotted.{IsPath}
 use Rattle.toml_span_edit.specs.Edited.{EditMade}

@@ -20,7 +20,7 @@ use toml_span_read::{Assignment, Section, Val, ValKind};
 enum EntrySite<'s, 'de> {
     /// At the offset that `top_of` returns, in a document that has no assignment before its first header.
     Top,
-    /// On a new line, after the lines of this section, which is the section of the table.
+    /// On a new line at the end of this section, the section of the table.
     Body(&'s Section<'de>),
     /// After this assignment, on the next line or in the same braces. The part of its dotted key with this index names
     /// the table.
@@ -42,7 +42,7 @@ pub(crate) fn names_array(mentions: &[PathMention<'_, '_>]) -> bool {
 }
 
 /// Returns where an entry can be written in the table that `mentions` name. Returns `None` if `mentions` is empty, or
-/// if they name anything but a table.
+/// if they name anything but a table. `mentions` must not be those of the root.
 fn entry_site<'s, 'de>(mentions: &[PathMention<'s, 'de>]) -> Option<EntrySite<'s, 'de>> {
     let mut target = None;
     if names_array(mentions) {
@@ -161,7 +161,7 @@ fn put_entry(
     }
 }
 
-/// Adds to `plan` the insertion of `entry`, such as `a = 1`, after `assignment`, as `{table}.{entry}`. `table` is the
+/// Adds to `plan` the insertion of `table`, a dot and `entry`, such as `t.a = 1`, after `assignment`. `table` is the
 /// dotted key of the entry's table, and `home` says where `assignment` is written.
 fn put_sibling(
     document: Document<'_, '_>,
@@ -319,8 +319,8 @@ pub(crate) fn put_section(
     put_lines(document, at, lines.as_str(), plan)
 }
 
-/// Returns an entry with the key `key` and the value `moved`, without a line end. The comment lines come first, then
-/// the indent `front`, the key, the value, and the comment after the value.
+/// Returns an entry with the key `key` and the value `moved`, without a final line end. The comment lines come first,
+/// then the indent `front`, the key, the value, and the comment after the value.
 fn entry_text(
     document: Document<'_, '_>,
     key: &str,
@@ -332,7 +332,7 @@ fn entry_text(
     format!(in document.alloc; "{above}{front}{key} = {value}{note}")
 }
 
-/// Returns the indent of a new line at `target`: that of the section's lines for `Body`, otherwise an empty string.
+/// Returns the indent of a new line at `target`: for `Body`, what `body_indent` returns, otherwise an empty string.
 fn indent_there<'s>(text: &'s str, target: EntrySite<'_, '_>) -> &'s str {
     match target {
         EntrySite::Body(section) => body_indent(text, section),

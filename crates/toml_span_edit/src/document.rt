@@ -1,4 +1,4 @@
-//! A document that has been read, and the text of its headers and keys.
+//! A document with its sections, and functions that find values, keys and headers in it.
 ghost use Rattle.std.specs.Prelude.{IfOk, Ok, map};
 ghost use Rattle.toml_span_read.specs.Data.{depth_limit, parsed_section};
 ghost use Rattle.toml_span_read.specs.Read.{document};

@@ -1,4 +1,4 @@
-//! Edits documents.
+//! Collects edits of a document, and makes them one after the other.
 ghost use Rattle.std.specs.Prelude.{◌≡◌, IfOk, [], string_bytes};
 ghost use Rattle.toml_span_edit.specs.Edited as spec;
 ghost use Rattle.toml_span_edit.specs.Listed.{Pushed};
@@ -67,7 +67,7 @@ pub struct Edits<'e> {
 }
 
 impl<'e> Edits<'e> {
-    /// Returns an empty list of edits of `text`. Does not read `text`; `finish` does.
+    /// Returns an empty list of edits of `text`. Does not read `text`.
     pub fn new(alloc: Global, text: &'e str) -> Self
         ensures { (result.text ≡ text.entry) × (result.list.items ≡ []) }
     {

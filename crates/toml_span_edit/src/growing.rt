@@ -126,9 +126,9 @@ pub(crate) fn append(
     }
 }
 
-/// Adds to `plan` the insertion of the element `value` into an array of tables, before `next`, the section of another
-/// element, and the comment lines above it. Fails with `NoValue` if `value` is not a TOML value, and with
-/// `NoInlineTable` if it is not an inline table.
+/// Adds to `plan` the insertion of the element `value` into an array of tables. `next` is the section of another
+/// element. The new section is written before `next` and the comment lines above `next`. Fails with `NoValue` if
+/// `value` is not a TOML value, and with `NoInlineTable` if it is not an inline table.
 fn put_element(
     document: Document<'_, '_>,
     next: &Section<'_>,
@@ -145,8 +145,8 @@ fn put_element(
 }
 
 /// Adds to `plan` the insertion of the element `item` into an array. The last segment of `path` is the position of the
-/// new element: at most the number of elements in the array. Fails with `NoArray` if the array or the position does not
-/// exist, and with another reason if the element can't be written there.
+/// new element: at most the number of elements in the array. Fails with `NoArray` if the array does not exist, or if the
+/// last segment is not such a position. Fails with another reason if the element can't be written there.
 pub(crate) fn insert(
     document: Document<'_, '_>,
     path: &[&str],

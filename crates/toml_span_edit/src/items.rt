@@ -99,9 +99,9 @@ fn cut_to_line_end(
     }
 }
 
-/// Adds to `plan` the removal of the last items of a list, whose span is `items`, and of at most one comma. `before` is
-/// the span of the item before them, if any. The closing bracket or brace at the offset `close` must be on the line
-/// where the items end.
+/// Adds to `plan` the removal of the items in the span `items`, the last ones of a list, and of at most one comma.
+/// `before` is the span of the item before them, if any. The closing bracket or brace at the offset `close` must be on
+/// the line where the items end.
 ///
 /// Removes the comma before the items if `before` is on the same line and no comment is between. Otherwise removes the
 /// comma after the items, if there is one.
@@ -131,9 +131,10 @@ fn cut_last(
     })
 }
 
-/// Adds to `plan` the removal of the items of `list` from index `first` to `last`, both included, with the commas
-/// between them, at most one other comma, and the comment at the end of their last line. A comment on its own line
-/// before or after the items stays. Adds nothing if one of these indices is out of range.
+/// Adds to `plan` the removal of the items of `list` from index `first` to `last`, both included, with everything
+/// between them, at most one other comma, and the comment at the end of their last line unless another item is before
+/// that comment. A comment on its own line before or after the items stays. Adds nothing if one of these indices is out
+/// of range.
 pub(crate) fn cut_items(
     text: &str,
     list: &Val<'_>,
@@ -300,7 +301,7 @@ fn put_before(
 }
 
 /// Adds to `plan` the insertion of `item` into `list` before the item at `index` or, if `index` is too large, after the
-/// last item.
+/// last item. If `list` has no items, the comments of `item` are left out.
 pub(crate) fn put_item(
     alloc: Global,
     text: &str,

@@ -38,15 +38,15 @@ fn bytes_of(text: &str, start: usize, end: usize) -> &[u8]
     if start < end { &bytes[start..end] } else { &[] }
 }
 
-/// Returns whether a replacement only inserts text, or replaces only spaces, tabs, line feeds and carriage returns.
+/// Returns whether the span of a replacement is empty, or contains only spaces, tabs, line feeds and carriage returns.
 fn replaces_space(text: &str, replacement: Replacement<'_>) -> bool
     ensures { result ≡ spec.replaces_space text.now (edit_of replacement.entry) }
 {
     is_all_space(bytes_of(text, replacement.span.start, replacement.span.end))
 }
 
-/// Returns whether each replacement in `list` only inserts text, or replaces only spaces, tabs, line feeds and carriage
-/// returns.
+/// Returns whether the span of each replacement in `list` is empty, or contains only spaces, tabs, line feeds and
+/// carriage returns.
 pub(crate) fn replace_space(text: &str, list: &[Replacement<'_>]) -> bool
     ensures { result ≡ list_all (spec.replaces_space text.now) (map edit_of list.now) }
 {

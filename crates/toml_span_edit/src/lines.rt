@@ -1,4 +1,4 @@
-//! Finds the starts and ends of lines, their indents, and the comments above them.
+//! Finds parts of a text: lines, their starts, ends and indents, and the comments above them.
 use toml_span::Span;
 
 /// Returns `text[start..end]`. Returns an empty string if these byte offsets are out of bounds, out of order, or inside
@@ -75,7 +75,8 @@ pub(crate) fn indent(text: &str, offset: usize) -> &str {
 }
 
 /// Returns the start of the comment lines directly above the byte offset `offset`, the start of a line. Without such
-/// lines, returns `offset`. A comment on the same line as a byte order mark does not count.
+/// lines, returns `offset`. Every line that begins with `#` after white space counts, even one that ends a multi-line
+/// string. A comment on the same line as a byte order mark does not count.
 pub(crate) fn comments_above(text: &str, offset: usize) -> usize {
     let mut start: usize = 0;
     let mut at: usize = 0;

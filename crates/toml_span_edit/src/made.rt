@@ -163,8 +163,8 @@ fn gone(value: &Value<'_>, segment: &str, other: &Value<'_>) -> bool
     }
 }
 
-/// Returns whether `other` is `value` with `new` added: as the entry of a table with the name `segment`, or as the
-/// element of an array at the position that `segment` spells.
+/// Returns whether `other` is `value` with `new` added: in a table as the entry `segment`, in an array as the element
+/// at the position that `segment` spells.
 fn put(value: &Value<'_>, segment: &str, new: &Value<'_>, other: &Value<'_>) -> bool
     ensures { result ≡ spec.put segment.now (view new.now) (view value.now) (view other.now) }
 {

@@ -26,13 +26,13 @@ pub(crate) enum PathMention<'s, 'de> {
     Dotted(&'s Assignment<'de>, usize, Home<'s, 'de>),
     /// The assignment of the value.
     Assigned(&'s Assignment<'de>, Home<'s, 'de>),
-    /// The element with this index of this array in brackets.
+    /// In this array, written in brackets, the element at this index.
     Element(&'s Val<'de>, usize),
 }
 
 /// Where the table of a section is, relative to the value at a path.
 enum Placement {
-    /// Neither on the way to the value, nor inside it.
+    /// Neither at the path, nor on the way to it, nor inside the value.
     Apart,
     /// At the path or on the way to it: this many of the path's first segments name the table.
     Above(usize),
@@ -100,8 +100,8 @@ fn placement_of(section: &Section<'_>, path: &[&str], counts: &mut Vec<usize>) -
     Placement::Above(depth)
 }
 
-/// Compares the parts of a key with the first segments of `path`, as far as both go. Returns how many were compared, or
-/// `None` if a part differs from its segment.
+/// Compares the parts of a key with the segments of `path`, up to the end of the shorter of the two. Returns how many
+/// were compared, or `None` if a part differs from its segment.
 fn common(parts: &DottedKey<'_>, path: &[&str]) -> Option<usize> {
     let count = parts.inner.len().saturating_add(1).min(path.len());
     for index in 0..count {

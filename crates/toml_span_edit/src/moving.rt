@@ -29,8 +29,8 @@ fn comments_start(text: &str, extent: Span) -> usize {
     comments_above(text, line_start(text, extent.start))
 }
 
-/// Returns the value at `path` with its comments. Returns `None` if `path` names nothing, or if the value is not
-/// written as a literal.
+/// Returns the value at `path` with its comments, which are empty for a pair in braces and for an element that does not
+/// begin a line. Returns `None` if `path` names nothing, or if the value is not written as a literal.
 pub(crate) fn moved_value<'s>(
     document: Document<'s, '_>,
     path: &[&str],

@@ -1,4 +1,4 @@
-//! Paths: the segments from the root of a tree to a value.
+//! Reads and compares paths: the segments from the root of a tree to a value.
 ghost use Rattle.std.specs.Cow.{cow_str_bytes};
 ghost use Rattle.std.specs.Prelude.{◌≡◌, IfOk, Ok, map};
 ghost use Rattle.toml_span_places.specs.Dotted.{IsPath};

@@ -76,8 +76,8 @@ impl Plan {
         with_replaced(self.alloc, text, list.as_slice())
     }
 
-    /// Returns `text` with the replacements made. Fails with `WouldDiffer` if a replacement replaces anything but a
-    /// part of a header, or if a span is invalid, or overlaps or precedes an earlier one.
+    /// Returns `text` with the replacements made. Fails with `WouldDiffer` if `are_header_parts` returns false for the
+    /// replacements, or if a span is invalid, or overlaps or precedes an earlier one.
     pub(crate) fn in_headers(&self, text: &str) -> Result<String, Stop<Reason>>
         ensures { IfOk result (λ new. spec.AreHeadersReplaced text.now (string_bytes new)) }
     {

@@ -35,8 +35,8 @@ fn hull(one: Span, other: Span) -> Span
     }
 }
 
-/// Returns the smallest span that contains the literals of `value` and of all values inside it, and the spans of the
-/// keys inside it.
+/// Returns the smallest span that contains the `literal_span` of `value` and of each value inside it, and the spans of
+/// the keys inside it.
 #[cycle(reach)]
 fn reach(text: &str, value: &Value<'_>) -> Span
     ensures { result ≡ spec.reach text.now (view value.now) }

@@ -70,8 +70,8 @@ impl Reason {
         }
     }
 
-    /// Returns the string in the reason, which continues `text`: the place and message of an error, or the string that
-    /// was probably meant. Returns an empty string for other reasons.
+    /// Returns the string in the reason, to write after what `text` returns: the place and message of an error, or the
+    /// string that was probably meant. Returns an empty string for other reasons.
     pub fn detail(&self) -> &str {
         match self {
             Reason::InvalidDocument(fault) => fault.as_str(),

@@ -18,8 +18,8 @@ struct Run<'s, 'de> {
     last: usize,
 }
 
-/// Returns the item that a mention in brackets or braces names, as a run of one item. Returns `None` for a mention on
-/// lines.
+/// Returns the item to remove for a mention in brackets or braces, as a run of one item. Returns `None` for a mention
+/// on lines.
 fn run_of<'s, 'de>(mention: &PathMention<'s, 'de>) -> Option<Run<'s, 'de>> {
     let (list, index) = match *mention {
         PathMention::Dotted(_, _, Home::Braces(list, index)) => (list, index),
@@ -67,7 +67,7 @@ fn cut_run(text: &str, run: Option<Run<'_, '_>>, plan: &mut Plan) -> Result<(), 
     }
 }
 
-/// Adds to `plan` the removal of the lines and items that `mentions` name.
+/// Adds to `plan` the removal of the lines and items that `lines_of` and `run_of` return for `mentions`.
 fn cut_all(
     text: &str,
     mentions: &[PathMention<'_, '_>],
@@ -108,8 +108,8 @@ fn is_implied(table: &[PathMention<'_, '_>], values: usize) -> bool {
     table.len() == values && table.iter().all(|mention| passes(mention))
 }
 
-/// Adds to `plan` the change that writes an empty table in place of the mention `table`: a header without entries, or a
-/// dotted key with `{}`. Does nothing for a mention other than `Below` and `Dotted`.
+/// Adds to `plan` the change that writes an empty table in place of the section or assignment of the mention `table`: a
+/// header without entries, or a dotted key with `{}`. Does nothing for a mention other than `Below` and `Dotted`.
 fn keep_table(
     document: Document<'_, '_>,
     table: &PathMention<'_, '_>,

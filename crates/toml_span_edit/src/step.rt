@@ -74,8 +74,8 @@ fn local_of<'l, 'v, 'de>(destination: Destination<'l>, given: &'v Value<'de>) ->
     }
 }
 
-/// Returns whether the tree `new` is the tree `old` with the TOML value `value` at `destination`, relative to the value
-/// at `path`. Fails with `NoValue` if `value` can't be read.
+/// Returns whether the tree `new` is the tree `old` with the TOML value `value` put at `destination`, which is relative
+/// to the value at `path`. Fails with `NoValue` if `value` can't be read.
 fn is_placed(
     alloc: Global,
     destination: Destination<'_>,
@@ -239,7 +239,7 @@ fn is_put(path: &[&str], value: &Value<'_>, old: &Value<'_>, new: &Value<'_>) ->
     }
 }
 
-/// Returns the tree of `text`, the text to edit. Fails with `InvalidDocument` if `text` is not valid TOML.
+/// Returns the tree of the old text `text`. Fails with `InvalidDocument` if `text` is not valid TOML.
 pub(crate) fn old_tree<'t>(alloc: Global, text: &'t str) -> Result<Value<'t>, Stop<Reason>>
     ensures { IfOk result (λ root. IsTree text.now depth_limit root) }
 {
@@ -249,7 +249,7 @@ pub(crate) fn old_tree<'t>(alloc: Global, text: &'t str) -> Result<Value<'t>, St
     }
 }
 
-/// Returns the tree of `text`, the result of an edit. Fails with `ResultInvalid` if `text` is not valid TOML.
+/// Returns the tree of the new text `text`. Fails with `ResultInvalid` if `text` is not valid TOML.
 pub(crate) fn new_tree<'t>(alloc: Global, text: &'t str) -> Result<Value<'t>, Stop<Reason>>
     ensures { IfOk result (λ root. IsTree text.now depth_limit root) }
 {
@@ -294,7 +294,7 @@ fn check_put_back(
 }
 
 /// Checks that `new` is a document whose tree is `old` with the value at `path` moved to `target`, and fails with a
-/// reason if not. `without` is the text before the move, without the value.
+/// reason if not. `without` is the old text without the value.
 fn check_moved(
     alloc: Global,
     without: &str,

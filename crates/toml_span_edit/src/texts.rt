@@ -87,8 +87,8 @@ fn set_or_added_text(
 
 // ---- what is removed
 
-/// Returns the text of `document` without the value at `path` and, if `cuts_comments`, without the comment lines
-/// directly above the value. Fails with a reason if the value can't be removed.
+/// Returns the text of `document` without the value at `path` and, if `cuts_comments`, without the comment lines that
+/// `cut_comments` removes. Fails with a reason if the value can't be removed.
 fn removed(
     document: Document<'_, '_>,
     path: &[&str],
@@ -147,9 +147,9 @@ fn comments_from(text: &str, at: usize) -> usize
     at
 }
 
-/// Returns `text` without the value at `path` and the comment lines directly above it. `old` is the tree of `text`.
-/// Fails with a reason if the value can't be removed, or if bytes outside these lines and the span that `around`
-/// returns would change.
+/// Returns `text` without the value at `path` and the comment lines that `cut_comments` removes. `old` is the tree of
+/// `text`. Fails with a reason if the value can't be removed, or if bytes outside the span that `around` returns, and
+/// outside the comment lines directly above this span, would change.
 pub(crate) fn text_without(
     alloc: Global,
     text: &str,
@@ -281,8 +281,8 @@ fn headers_text(
     pieces.in_headers(document.text)
 }
 
-/// Returns `text` with the value at `path` moved to `target`. `without` is `text` without the value and the comment
-/// lines above it. Fails with a reason if the value can't be moved.
+/// Returns `text` with the value at `path` moved to `target`. `without` is what `text_without` returned for `text` and
+/// `path`. Fails with a reason if the value can't be moved.
 pub(crate) fn moved_text(
     alloc: Global,
     text: &str,

@@ -11,13 +11,13 @@ use Rattle.toml_span_edit.specs.Edited.{Makes, Spells}
 use Rattle.toml_span_edit.specs.Paths.{Path}
 use Rattle.toml_span_edit.specs.declared.edits.Change.{Change}
 
--- If the text follows `v = `, it is a literal of this scalar and nothing else.
+-- Written after `v = `, the text is a literal of this scalar and nothing else.
 abbrev pub IsLiteral : List ℕ → Scalar → Type 0
 IsLiteral text x =
     (w : Node) × Spells text w × (inner_of w ≡ scalar x)
     × (literal_span (codes "v = " ++ text) w ≡ record { start = 4; end = length (codes "v = " ++ text) })
 
--- The new text is a document, and its tree is this tree with the change made.
+-- The text `new` is a document, and its tree is the tree `n` with the change made at the path.
 abbrev pub MustBeMade : Change → Path → Node → List ℕ → Type 0
 MustBeMade change path n new =
     (sections : List ParsedSection) × HasOutcome new depth_limit (resolved sections)

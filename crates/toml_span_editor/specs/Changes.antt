@@ -4,11 +4,11 @@ use Rattle.toml_span_editor.specs.declared.positions.Encoding.{Encoding}
 use Rattle.toml_span_editor.specs.declared.positions.Range.{Range}
 use Rattle.toml_span_editor.specs.Positions.{offset_of}
 
--- the text with `new` in place of the bytes between two offsets, which may be in either order
+-- `text` with `new` in place of the bytes between the offsets `from` and `to`, which may be in either order
 abbrev pub spliced : List ℕ → ℕ → ℕ → List ℕ → List ℕ
 spliced text from to new = take (min from to) text ++ new ++ drop (max from to) text
 
--- the text after a change, which replaces a range or, without a range, the whole text
+-- the text after a change: `new` replaces the range or, without a range, the whole text
 abbrev pub changed : Encoding → List ℕ → Option Range → List ℕ → List ℕ
 changed encoding text None new = new
 changed encoding text (Some range) new =

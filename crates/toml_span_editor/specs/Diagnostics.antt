@@ -54,13 +54,14 @@ with_line front out line =
     if length line == 0 then out
     else (if length out == 0 then out else out ++ codes "\n") ++ front ++ line
 
--- the text `out` followed by a line with the message of the label; `out` alone if the label is not primary, or if its
--- message is empty or `message`, the message of the report
+-- the text `out` followed by a line with the label's message; `out` alone if the label is not primary, if its message
+-- is empty, or if its message equals `message`, the report's message
 abbrev pub with_label : List ℕ → List ℕ → ReportLabel → List ℕ
 with_label message out label =
     if label.primary && not (bytes_eq label.message message) then with_line [] out label.message else out
 
--- the message of a report, followed by its primary labels, its notes and its help, each on a line
+-- the message of a report, followed by the messages of its primary labels (if different), its notes, and its help, each
+-- on a line
 abbrev pub message_of : ReportContent → List ℕ
 message_of report =
     fold (with_line (codes "help: "))
@@ -84,16 +85,17 @@ diagnostic_of encoding text report = record {
   related = related_of encoding text report.labels;
 }
 
--- `reports` are the reports on the document `text` of the file `name`: first those on syntax that `version` lacks, then
--- those of its schema. `complaint` has the lines that say why the schema can't be used, and is empty if it can.
+-- `reports` are the reports on the document `text`, with the tree `root`, of the file `name`. First come those on
+-- syntax that `version` lacks, then those of the schema. `complaint` says why the document can't be checked against the
+-- schema, or is empty. `says` relates the reports of the schema and `complaint`.
 abbrev pub AreDocumentReports : Says → Version → Chooser → List ℕ → List ℕ → Node → List ReportContent → List ℕ
     → Type 0
 AreDocumentReports says version chooser name text root reports complaint =
     (lacks found : List ReportContent) × Lacks version name text lacks × says chooser name text root found complaint
     × (reports ≡ lacks ++ found)
 
--- `reports` are the reports on the text of the file `name`. If the text is valid TOML, they are those on the document.
--- Otherwise they are those on its errors, and `complaint` is empty.
+-- `reports` are the reports on `text`, the content of the file `name`. If `text` is valid TOML, they and `complaint`
+-- are as in `AreDocumentReports`. Otherwise, they are the reports that `Checks` allows, and `complaint` is empty.
 abbrev pub AreReports : Says → Version → Chooser → List ℕ → List ℕ → List ReportContent → List ℕ → Type 0
 AreReports says version chooser name text reports complaint =
     ((root : Value) × IsTree text depth_limit root

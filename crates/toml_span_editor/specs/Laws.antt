@@ -6,7 +6,7 @@ use Rattle.toml_span_editor.specs.declared.positions.Encoding.{Encoding}
 use Rattle.toml_span_editor.specs.declared.positions.Encoding.TheVariants.{Utf8, Utf16}
 use Rattle.toml_span_editor.specs.Positions.{offset_of, position_of, units}
 
--- The offset is between CR and LF.
+-- The offset `at` is between CR and LF.
 abbrev pub IsInsideLineEnd : List ℕ → ℕ → Type 0
 IsInsideLineEnd text at = (k : ℕ) × (at ≡ suc k) × (slice_index text k ≡ 13) × (slice_index text at ≡ 10)
 

@@ -28,15 +28,16 @@ units encoding byte = if nat_lt byte 128 then 1 else if nat_lt byte 192 then 0 e
 abbrev pub ends_line : ℕ → ℕ → Bool
 ends_line byte next = byte == 10 || (byte == 13 && not (next == 10))
 
--- The position after a byte that is at the position `p` and followed by the byte `next`: the start of the next line
--- after a line end, otherwise a position on the same line. There is no position between CR and LF.
+-- The position after `byte`, which is at the position `p` and before the byte `next`. After a line end, it is the start
+-- of the next line. After a CR before LF, it is still `p`. Otherwise, it is `units encoding byte` code units after `p`.
 abbrev pub after : Encoding → Position → ℕ → ℕ → Position
 after encoding p byte next =
     if ends_line byte next then record { line = plus p.line 1; character = 0 }
     else if byte == 13 then p
     else record { line = p.line; character = plus p.character (units encoding byte) }
 
--- the position after the first n bytes of a text that begins at the position `p`
+-- the position after the first n bytes of `text`, or after all of them if there are fewer; `text` begins at the
+-- position `p`
 unfoldable pub position_from : Encoding → Position → ℕ → List ℕ → Position
 position_from encoding p zero text = p
 position_from encoding p (suc n) [] = p
@@ -57,8 +58,9 @@ line_start (suc line) [] = 0
 line_start (suc line) (byte ∷ text) =
     suc (line_start (if ends_line byte (slice_index text 0) then line else suc line) text)
 
--- The number of bytes of the first `left` code units of a line. If the line is shorter, the number of its bytes without
--- the line end. If the code units end inside a character, the number of bytes before that character.
+-- The number of bytes of the first `left` code units of the line at the start of the text `line`. If this line is
+-- shorter, the number of its bytes without the line end. If the code units end inside a character, the number of bytes
+-- before that character.
 unfoldable pub column : Encoding → ℕ → List ℕ → ℕ
 column encoding left [] = 0
 column encoding left (byte ∷ line) =

@@ -17,7 +17,7 @@ const MOST: usize = 200;
 pub struct Proposal {
     /// The text to write.
     pub text: String,
-    /// For a key, the kind of its value in another table, otherwise `boolean`.
+    /// For a key, the kind of the value that the key has in another table. For a value, `boolean`.
     pub kind: &'static str,
     pub is_key: bool,
 }
@@ -31,8 +31,7 @@ pub enum StatementPart {
     Other,
 }
 
-/// Returns the text from the start of its line to the offset `at`, or an empty text if `at` is not a character
-/// boundary.
+/// Returns the text before the offset `at` on the same line, or an empty text if `at` is not a character boundary.
 fn line_front(text: &str, at: usize) -> &str {
     let front = text.get(..at).unwrap_or("");
     front.rsplit('\n').next().unwrap_or("")
@@ -97,8 +96,8 @@ pub(crate) fn has_key(value: Option<&Value<'_>>, name: &str) -> bool {
     table.iter().any(|(key, _)| key.name.as_ref() == name)
 }
 
-/// Appends proposals for the keys of `table` that `own` lacks, each once. Stops at `MOST` proposals. Appends nothing if
-/// `table` is not a table.
+/// Appends a proposal for each key of `table` that `own` lacks and that is not proposed yet. Stops at `MOST` proposals.
+/// Appends nothing if `table` is not a table.
 fn push_keys(
     alloc: Global,
     table: &Value<'_>,
@@ -124,9 +123,9 @@ fn push_keys(
     Ok(())
 }
 
-/// Returns proposals for keys of the table at the offset `at`. The table must be an element of an array, or inside one:
-/// the proposals are the keys that it lacks and that the tables in the same place in the other elements have.
-/// Otherwise, the list is empty.
+/// Returns proposals for keys of the table to which an assignment at the offset `at` belongs (see `table_path`). If the
+/// table is an element of an array or inside one, they are keys that the table lacks and that tables at the same place
+/// in the array's other elements have. Otherwise, there are no proposals.
 fn sibling_keys(
     alloc: Global,
     document: &Document<'_>,
@@ -176,9 +175,9 @@ fn booleans(alloc: Global) -> Result<Vec<Proposal>, AllocError> {
     Ok(proposals)
 }
 
-/// Returns what can be written at the byte offset `at`. For a value, the proposals are booleans. For a key in a table
-/// inside an array, they are keys that the table lacks and other tables of the array have. Elsewhere, the list is
-/// empty.
+/// Returns what can be written at the byte offset `at`. For a value, the proposals are `true` and `false`. For a key in
+/// a section whose table is an element of an array or inside one, they are keys that this table lacks and that tables
+/// at the same place in the array's other elements have. Elsewhere, the list is empty.
 ///
 /// `document` is as much of `text` as can be read (see `readable`). Fails if an allocation fails.
 pub fn proposals(

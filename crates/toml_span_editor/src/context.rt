@@ -32,10 +32,10 @@ pub(crate) enum ExpectedText {
 #[derive(Debug, Drop)]
 pub(crate) struct Context {
     pub(crate) expected: ExpectedText,
-    /// For a value, its path. For a key or a part of a header, the path of the table that contains it. In a header, the
-    /// path begins at the root, otherwise at the table of the section.
+    /// For a value, its path. For a part of a key, the path of the table that contains it. Both paths begin at the
+    /// table of the section. For a part of a header, the parts before it.
     pub(crate) path: Vec<Segment>,
-    /// The first parts of the earlier keys in the same inline table.
+    /// Directly in an inline table, the first parts of the table's keys so far. Otherwise empty.
     pub(crate) names: Vec<String>,
     /// The span of the word or string that a suggestion replaces. Empty if nothing is replaced.
     pub(crate) typed: Span,
@@ -66,13 +66,13 @@ enum Opened {
     Array { length: usize, position: usize },
 }
 
-/// The state after the statements up to an offset have been read.
+/// The state after the tokens before an offset have been read.
 #[derive(Drop)]
 struct Scanner {
     next: Next,
     /// Whether the statement is a header in double brackets.
     is_in_array: bool,
-    /// The path of the key, header or value that is being read.
+    /// The path, so far, of the key, header or value that is being read.
     path: Vec<Segment>,
     /// The open inline tables and arrays, the outermost first.
     opened: Vec<Opened>,
@@ -135,8 +135,8 @@ impl Scanner {
         Ok(())
     }
 
-    /// Updates the state for `[`: begins a header, makes it a header in double brackets, or opens an array. Elsewhere,
-    /// changes nothing.
+    /// Updates the state for `[`: the first or second bracket of a header, or the bracket that opens an array.
+    /// Elsewhere, changes nothing.
     fn take_bracket(&mut self) -> Result<(), AllocError> {
         match self.next {
             Next::Key if self.path.is_empty() && self.opened.is_empty() => {
@@ -262,8 +262,8 @@ impl Scanner {
     }
 }
 
-/// Returns the span that a suggestion at the offset `at` replaces: the span of a word, or of a single-line string that
-/// ends after `at`. Returns `None` for any other token.
+/// Returns `span`, the span of `token`, if a suggestion at the offset `at` replaces the token: a word, or a single-line
+/// string that ends after `at`. Returns `None` for any other token.
 fn typed_in(token: &Token<'_>, span: Span, at: usize) -> Option<Span> {
     match token {
         Token::Keylike(_) => Some(span),

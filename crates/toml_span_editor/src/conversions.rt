@@ -39,9 +39,9 @@ pub const OFFERS: [Offer; 5] = [
     },
 ];
 
-/// Returns the edits that convert the table or array at the byte offset `at`. The edits keep all keys, values and
-/// comments. Returns `None` if there is nothing at `at` to which `conversion` applies, or if the conversion is not
-/// possible (see `converted`). Fails if an allocation fails.
+/// Returns the edits that convert the table or array at the byte offset `at`, with the new text. The edits keep all
+/// keys, values and comments. Returns `None` if there is nothing at `at` to which `conversion` applies, or if the
+/// conversion is not possible (see `converted`). Fails if an allocation fails.
 pub fn converting(
     alloc: Global,
     document: &Document<'_>,

@@ -1,4 +1,4 @@
-//! Converts the errors of a text to diagnostics, and repairs errors.
+//! Finds the diagnostics of a text, and repairs for them.
 ghost use Rattle.std.specs.Prelude.{◌≡◌, IfOk, OnOk, fold, map, string_bytes};
 ghost use Rattle.toml_span_tree.specs.Diagnostic.{label_content};
 ghost use Rattle.toml_span_report.specs.Report.{report_content};
@@ -36,7 +36,8 @@ pub struct Diagnostic {
     pub range: Range,
     pub severity: Severity,
     pub code: String,
-    /// The message of the report, its primary labels, its notes and its help, each on a line.
+    /// The message of the report, followed by the messages of its primary labels (if different), its notes, and its
+    /// help, each on a line.
     pub message: String,
     /// The labels that are not primary.
     pub related: Vec<Related>,
@@ -45,10 +46,10 @@ pub struct Diagnostic {
 /// A repair of an error.
 #[derive(Debug, Drop)]
 pub struct Repair {
-    /// What the repair does: the first help of the report or, without help, its message. "Did you mean `a`?" becomes
-    /// "write `a`". For a duplicate key, it is "remove this duplicate key".
+    /// What the repair does: the first help of the report or, without help, the report's message. "did you mean `a`?"
+    /// becomes "write `a`". For a duplicate key, the title is "remove this duplicate key".
     pub title: String,
-    /// The index of the diagnostic in the list that `diagnostics` returns.
+    /// The index of the repaired diagnostic in the list that `diagnostics` returns.
     pub diagnostic_index: usize,
     pub edits: Vec<Edit>,
     pub is_safe: bool,
@@ -114,7 +115,8 @@ fn push_labels(out: &mut String, message: &str, labels: &[Label<()>]) -> Result<
     Ok(())
 }
 
-/// Returns the message of a report, its primary labels, its notes and its help, each on a line.
+/// Returns the message of a report, followed by the messages of its primary labels (if different), its notes, and its
+/// help, each on a line.
 fn message_of(alloc: Global, report: &Report) -> Result<String, AllocError>
     ensures { IfOk result (λ out. string_bytes out ≡ spec.message_of (report_content report.now)) }
 {
@@ -125,7 +127,7 @@ fn message_of(alloc: Global, report: &Report) -> Result<String, AllocError>
     Ok(out)
 }
 
-/// Returns the labels that are not primary.
+/// Returns the ranges and messages of the labels that are not primary.
 fn related_of(
     alloc: Global,
     table: &PositionTable<'_>,
@@ -181,11 +183,12 @@ fn diagnostics_of(
     Ok(found)
 }
 
-/// The diagnostics of a text, and the reason why its schema can't be used, if there is one.
+/// The diagnostics of a text, and any reason why the text can't be checked against its schema.
 #[derive(Debug, Drop)]
 pub struct Diagnosed {
     pub diagnostics: Vec<Diagnostic>,
-    /// Error lines that say why the schema can't be used. Empty if nothing is wrong with the schema.
+    /// Error lines that say why the text can't be checked against its schema. Empty if it can, if it has no schema, or
+    /// if it is not valid TOML.
     pub complaint: String,
 }
 
@@ -213,8 +216,8 @@ fn document_reports<S: Schemas>(
     })
 }
 
-/// Returns the reports on all errors of a text. For a text without errors, returns those of `document_reports`. `name`
-/// is the name of the file.
+/// Returns the reports of `check` on a text with errors. For a text without errors, returns the result of
+/// `document_reports`. `name` is the name of the file.
 fn text_reports<S: Schemas>(
     alloc: Global,
     version: Version,
@@ -236,9 +239,9 @@ fn text_reports<S: Schemas>(
     }
 }
 
-/// Returns the diagnostics of the text of `table`, in the order in which `toml-span check` prints reports. They report
-/// all errors of the text. If it is valid TOML, they report syntax that `version` lacks, and then what `schemas` finds.
-/// `name` is the name of the file. Fails if an allocation fails.
+/// Returns the diagnostics of the text of `table`, in the order in which `toml-span check` prints reports. For a text
+/// with errors, they are the reports of `check`. For valid TOML, they report syntax that `version` lacks, and then what
+/// `schemas` finds. `name` is the name of the file. Fails if an allocation fails.
 pub fn diagnostics<S: Schemas>(
     alloc: Global,
     table: &PositionTable<'_>,
@@ -280,9 +283,9 @@ fn title_of(alloc: Global, help: &str) -> Result<String, AllocError> {
     }
 }
 
-/// Returns the repair of a report: its replacements or, for a duplicate key, the result of `without_duplicate`. Returns
-/// `None` if there are no replacements, or if they don't fit the text. `index` is the position of `report` among the
-/// `count` reports on the text.
+/// Returns the repair for a report. For a duplicate key, returns the result of `without_duplicate`. For another report,
+/// the repair makes the replacements of the report. It is `None` if there are no replacements, or if they don't fit the
+/// text. `index` is the position of `report` among the `count` reports on the text.
 fn repair_of(
     alloc: Global,
     text: &str,
@@ -310,9 +313,9 @@ fn repair_of(
     }))
 }
 
-/// Returns the repairs of the diagnostics that touch `span`, in the order of `diagnostics`. `document` is the result of
-/// `read` for `text`: `None` if the text is not valid TOML. Leaves out repairs whose edits don't fit the text. Fails if
-/// an allocation fails.
+/// Returns the repairs of the diagnostics whose ranges touch `span`, in the order of `diagnostics`. `document` is the
+/// result of `read` for `text`: `None` if the text is not valid TOML. Leaves out repairs whose edits don't fit the
+/// text. Fails if an allocation fails.
 pub fn repairs<S: Schemas>(
     alloc: Global,
     text: &str,
@@ -342,9 +345,9 @@ pub fn repairs<S: Schemas>(
     Ok(found)
 }
 
-/// Returns edits that make all safe repairs of a text, as `toml-span check --fix` does: first of errors, then of syntax
-/// that `version` lacks. `document` is as for `repairs`, and `name` is the name of the file. The list is empty if
-/// nothing can be repaired. Fails if an allocation fails.
+/// Returns edits that repair a text as `toml-span check --fix` does: they fix errors (see `with_fixes`), and then
+/// replace syntax that `version` lacks (see `with_older_forms`). `document` is as for `repairs`, and `name` is the name
+/// of the file. The list is empty if there is nothing to change. Fails if an allocation fails.
 pub fn all_repairs(
     alloc: Global,
     text: &str,

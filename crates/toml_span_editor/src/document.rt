@@ -20,7 +20,7 @@ pub struct Document<'t> {
     pub sections: Vec<Section<'t>>,
 }
 
-/// Returns the offset at which the error that `parse` returns starts, or `None` if the text is valid TOML.
+/// Parses a text. Returns the start of the error's span, or `None` if the text is valid TOML.
 fn error_place(alloc: Global, text: &str) -> Result<Option<usize>, AllocError> {
     match parse(alloc, text) {
         Ok(_) => Ok(None),

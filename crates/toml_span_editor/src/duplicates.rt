@@ -5,9 +5,9 @@ use std::alloc::{AllocError, Global};
 use toml_span_check::every::check;
 use toml_span_check::statements::assignment_lines;
 
-/// Returns the repair for the duplicate key at the offset `at`, which removes the lines of its assignment. `count` is
-/// the number of reports on the text, and `diagnostic_index` is the index of this error's report among them. Returns
-/// `None` if `assignment_lines` does, or if the number of reports would not be smaller without the lines.
+/// Returns the repair for the duplicate key at the offset `at`: an edit that removes the lines of the key's assignment.
+/// `count` is the number of reports on the text, and `diagnostic_index` is the index of the report on this key. Returns
+/// `None` if `assignment_lines` does, or if the text without the lines would not have fewer reports.
 pub(crate) fn without_duplicate(
     alloc: Global,
     text: &str,

@@ -129,8 +129,8 @@ fn whole(alloc: Global, old: &str, new: &str) -> Result<Vec<Edit>, AllocError>
     Ok(edits)
 }
 
-/// Returns the edits that change `old` into `new`: one for each group of lines that differ. Fails if an allocation
-/// fails.
+/// Returns edits that change `old` into `new`: one for each group of lines that differ or, if these edits don't make
+/// `new`, one that replaces the whole text. Fails if an allocation fails.
 pub fn differences(alloc: Global, old: &str, new: &str) -> Result<Vec<Edit>, AllocError>
     ensures { IfOk result (λ edits. ChangesInto old.now (map edit_content edits.items) new.now) }
 {

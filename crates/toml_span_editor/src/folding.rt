@@ -61,8 +61,8 @@ fn push_comments(alloc: Global, text: &str, folds: &mut Vec<Fold>) -> Result<(),
     push_fold(text, group, true, folds)
 }
 
-/// Returns the parts of a document that can be folded: sections with a header and values, if they have several lines,
-/// and groups of comments. Fails if an allocation fails.
+/// Returns the parts of a document that can be folded: sections that begin with a header, values that have a literal
+/// (see `has_literal`), and groups of comments. Leaves out parts on one line. Fails if an allocation fails.
 pub fn folds(alloc: Global, document: &Document<'_>) -> Result<Vec<Fold>, AllocError> {
     let text = document.text;
     let mut folds = Vec::new(alloc);

@@ -41,8 +41,8 @@ fn within(alloc: Global, edits: Vec<Edit>, span: Span) -> Result<Vec<Edit>, Allo
 }
 
 /// Returns those edits of `formatting` that touch `span`, with the new text. They keep all keys and values. Returns
-/// `None` if the text is not valid TOML or can't be formatted, or if these edits without the others would change a
-/// value. Fails if an allocation fails.
+/// `None` if the text is not valid TOML or can't be formatted. Also returns `None` if these edits without the others
+/// would change a key or a value, or make the text invalid. Fails if an allocation fails.
 #[tactic(auto, unfolding(crate::specs::Edits::ChangesInto))]
 pub fn formatting_of(
     alloc: Global,

@@ -1,4 +1,4 @@
-//! Describes the key or value at an offset in Markdown.
+//! Describes, in Markdown, the key or value at an offset.
 use crate::document::Document;
 use crate::keys::{key_at, value_of};
 use crate::paths::{dotted, pointer};
@@ -30,7 +30,7 @@ const MONTHS: [&str; 12] = [
     "December",
 ];
 
-/// The description of a key or value in Markdown, with the span of the key or value.
+/// The span of a key or value, and its description in Markdown.
 #[derive(Debug, Drop)]
 pub struct Hover {
     pub span: Span,
@@ -119,8 +119,8 @@ fn push_names(value: &Value<'_>, out: &mut String) -> Result<(), AllocError> {
     Ok(())
 }
 
-/// Appends the decimal value of an integer, a date in words, the size of a string or array, or the keys of a table.
-/// Appends nothing for any other value, or if `literal`, the text of the value, is the decimal integer already.
+/// Appends the decimal value of an integer, a date (in words) or time, the size of a string or array, or the keys of a
+/// table. Appends nothing for a float or boolean, or for an integer whose `literal` is its decimal value already.
 fn push_details(value: &Value<'_>, literal: &str, out: &mut String) -> Result<(), AllocError> {
     if let Some(number) = value.as_integer() {
         let number = format!(in *out.allocator(); "{number}")?;
@@ -140,8 +140,8 @@ fn push_details(value: &Value<'_>, literal: &str, out: &mut String) -> Result<()
     push_names(value, out)
 }
 
-/// Appends a blank line and the documentation of the value at `path` in the schema `guide`, or nothing if the schema
-/// has none.
+/// Appends a blank line and the documentation in the schema `guide` for the value at `path`. Appends nothing if the
+/// schema has no documentation for it.
 fn push_said(
     alloc: Global,
     guide: &Guide,
@@ -205,9 +205,9 @@ fn key_hover(
     }))
 }
 
-/// Describes the key or value at the byte offset `at`: its path and kind, the decimal value of an integer, a date in
-/// words, the size of a string, array or table, and the documentation in the schema `guide`. Returns `None` if neither
-/// a key nor a value other than a table is at `at`. Fails if an allocation fails.
+/// Describes the key or value at the byte offset `at`: its path and kind, the decimal value of an integer, a date (in
+/// words) or time, the size of a string or array, the keys of a table, and the documentation in the schema `guide`.
+/// Returns `None` if neither a key nor a value other than a table is at `at`. Fails if an allocation fails.
 pub fn hover_at(
     alloc: Global,
     document: &Document<'_>,

@@ -1,4 +1,4 @@
-//! Finds the key at an offset, the places where the key is written, and its value.
+//! Finds keys, the places where they are written, and the values at paths.
 use crate::document::Document;
 use crate::spans::touches;
 use std::alloc::{AllocError, Global};
@@ -72,7 +72,8 @@ pub fn definition(
 }
 
 /// Returns whether a value is written as a literal, rather than defined by headers or dotted keys. Also returns `true`
-/// for a table made by dotted keys alone if the first value assigned through it is an inline table.
+/// for a table that only dotted keys define, if the first value that they assign is an inline table or a string whose
+/// content begins with `{`.
 pub(crate) fn has_literal(text: &str, value: &Value<'_>) -> bool {
     if value.as_table().is_some() {
         return text.as_bytes().get(value.span.start) == Some(&b'{');
@@ -83,7 +84,8 @@ pub(crate) fn has_literal(text: &str, value: &Value<'_>) -> bool {
     }
 }
 
-/// Returns the entry of a table, or the element of an array, that a step names. Returns `None` if it does not exist.
+/// Returns the value that `step` names in the table or array `value`: the value of an entry, or an element. Returns
+/// `None` if there is no such entry or element.
 pub(crate) fn child<'v, 'de>(value: &'v Value<'de>, step: Step<'_>) -> Option<&'v Value<'de>> {
     match step {
         Step::Position(at) => value.as_array()?.get(at),

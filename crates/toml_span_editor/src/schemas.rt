@@ -46,7 +46,7 @@ pub(crate) fn listed_values(
     Ok(values)
 }
 
-/// Returns the default value of the first subschema that has one, as TOML, or `None` if none has one.
+/// Returns the default value of the first subschema that has one, as TOML, or `None` if no subschema has one.
 pub(crate) fn default_of(
     alloc: Global,
     guide: &Guide,
@@ -86,7 +86,7 @@ fn push_paragraph(paragraphs: &mut Vec<String>, text: String) -> Result<(), Allo
     Ok(())
 }
 
-/// Appends the title of a schema in bold, and the description, each as a paragraph, if the schema has them.
+/// Appends the title (in bold) and the description of a schema, each as a paragraph, if the schema has them.
 fn push_text(alloc: Global, note: &Notes, paragraphs: &mut Vec<String>) -> Result<(), AllocError> {
     if let Some(title) = &note.title {
         push_paragraph(paragraphs, format!(in alloc; "**{title}**")?)?;
@@ -113,7 +113,7 @@ fn values_line(alloc: Global, values: &[String]) -> Result<String, AllocError> {
     Ok(line)
 }
 
-/// Returns the paragraphs with a blank line between each two.
+/// Returns the paragraphs, separated by blank lines.
 fn joined(alloc: Global, paragraphs: &[String]) -> Result<String, AllocError> {
     let mut out = String::new(alloc);
     for paragraph in paragraphs {
@@ -127,7 +127,7 @@ fn joined(alloc: Global, paragraphs: &[String]) -> Result<String, AllocError> {
 
 /// Returns the documentation of a value in Markdown, from the subschemas `found` for the value: `Deprecated.` if one of
 /// them is deprecated, their titles and descriptions, the default, and the values of `enum` and `const`. The text is
-/// empty if they have nothing of the kind.
+/// empty if the subschemas have none of these.
 pub(crate) fn documentation(
     alloc: Global,
     guide: &Guide,

@@ -36,8 +36,8 @@ fn push_choice(out: &mut String, words: &[&str]) -> Result<(), AllocError> {
     out.push_str("|}")
 }
 
-/// Appends an empty placeholder for a value of one of `kinds`: in quotes if strings are allowed, otherwise in braces
-/// for a table or in brackets for an array, otherwise alone.
+/// Appends an empty placeholder for a value of one of `kinds`: in quotes if `kinds` has strings, otherwise in braces if
+/// it has tables, otherwise in brackets if it has arrays, otherwise alone.
 fn push_kind(out: &mut String, kinds: Kinds) -> Result<(), AllocError> {
     out.push_str(if kinds.string {
         "\"$1\""

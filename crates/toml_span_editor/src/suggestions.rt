@@ -110,9 +110,8 @@ fn detail_of(alloc: Global, kinds: Kinds, is_required: bool) -> Result<String, A
     Ok(out)
 }
 
-/// Appends what follows a key in the header at `site`: the brackets that close the header if `ends` is set, otherwise a
-/// period. Leaves out brackets that already follow the key there. Appends nothing outside a header, or if a period
-/// follows the key.
+/// Appends what follows a key in a header: the brackets that close the header if `ends` is set, otherwise a period.
+/// Leaves out brackets that already follow the key, and appends nothing if a period does. `site` must be in a header.
 fn push_header_rest(out: &mut String, site: Site<'_>, ends: bool) -> Result<(), AllocError> {
     let needed = match site.expected {
         ExpectedText::Table => 1,
@@ -156,8 +155,7 @@ fn can_end(
     }
 }
 
-/// Returns whether a schema names a key of a table whose value can be a table or an array of tables. `table` are the
-/// subschemas for the table.
+/// Returns whether `table`, the subschemas for a table, name a key whose value can be a table or an array of tables.
 fn has_tables(alloc: Global, guide: &Guide, table: &Subschemas) -> Result<bool, AllocError> {
     for name in guide.keys_of(alloc, table)? {
         let inner = guide.subschemas_inside(alloc, table, Step::Key(name), None)?;
@@ -169,9 +167,10 @@ fn has_tables(alloc: Global, guide: &Guide, table: &Subschemas) -> Result<bool, 
     Ok(false)
 }
 
-/// Returns whether a longer header can lead through a value at whose key a header can't end. `inner` are the subschemas
-/// for the value, and `value` is the value if it exists. A header in double brackets can lead through a table, and one
-/// in single brackets through the last element of an array in the document.
+/// Returns whether a header that can't end after the key of a value can go on after it. In double brackets, it can if
+/// `has_tables` is true for `inner`, the subschemas for the value. In single brackets, it can if `value` is an array,
+/// and `has_tables` is true for the subschemas for its last element (or for position 0, if the array is empty). `value`
+/// is `None` if the document lacks the value.
 fn can_go_on(
     alloc: Global,
     guide: &Guide,
@@ -194,7 +193,7 @@ fn can_go_on(
     }
 }
 
-/// Returns the kind of the suggestion of a key.
+/// Returns the kind of a suggestion of a key: `Key` in an assignment, `Table` in a header.
 fn key_kind(expected: ExpectedText) -> SuggestionKind {
     if expected == ExpectedText::Key {
         SuggestionKind::Key
@@ -204,7 +203,8 @@ fn key_kind(expected: ExpectedText) -> SuggestionKind {
 }
 
 /// Returns the suggestion of the key `name`. `inner` are the subschemas for the value of the key. `ends` says whether a
-/// header can end after the key. If it can't, the text of the suggestion ends with a period.
+/// header can end after the key. If it can't, the text of the suggestion ends with a period, unless one follows the key
+/// already.
 fn key_suggestion(
     alloc: Global,
     guide: &Guide,
@@ -390,10 +390,11 @@ fn steps_of<'p>(
 }
 
 /// Returns what can be written at the byte offset `at`, according to the schema `guide`: keys that the table at `at`
-/// lacks, names of tables in a header, or values. `document` is as much of `text` as can be read (see `readable`).
+/// lacks, values or, in a header, names of tables. `document` is as much of `text` as can be read (see `readable`).
 ///
-/// The list is empty in a comment, and where neither a key nor a value is expected. Returns `None` if there is no key
-/// to suggest, or no value and the schema does not restrict the value's kind. Fails if an allocation fails.
+/// The list is empty in a comment, and where neither a key nor a value is expected. Returns `None` where a key or a
+/// part of a header is expected, if there is no key to suggest. Also returns `None` where a value is expected, if there
+/// is no value to suggest and the schema does not restrict the value's kind. Fails if an allocation fails.
 pub fn suggestions(
     alloc: Global,
     guide: &Guide,

@@ -7,7 +7,7 @@ use crate::positions::{Encoding, FIRST, Position, Range, advanced};
 use std::alloc::{AllocError, Global};
 use toml_span_lex::span::Span;
 
-/// The number of bytes between two offsets whose positions the table stores.
+/// The distance in bytes between the offsets whose positions the table stores.
 const STEP: usize = 256;
 
 /// A text, and the positions of the byte offsets 0, 256, 512 and so on.

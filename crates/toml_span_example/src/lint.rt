@@ -57,7 +57,8 @@ fn unknown_table(alloc: Global, key: &Key) -> Result<Option<Finding>, AllocError
     Ok(Some(Finding { meant, ..found }))
 }
 
-/// Returns the findings for `package`, the value of `key`: one slot for each rule, `None` if the rule is not violated.
+/// Returns the findings for `package`, the value of `key`: for each rule a finding, or `None` if the rule is not
+/// violated.
 fn package(key: &Key, package: &Value) -> [Option<Finding>; 5] {
     let mut found = [None; 5];
     if !package.has_key("version") {
@@ -119,7 +120,7 @@ fn is_edition(edition: &Value) -> bool {
     matches!(edition.as_str(), Some("2015" | "2018" | "2021" | "2024"))
 }
 
-/// Returns the findings for the dependency `value`: one slot for each rule, `None` if the rule is not violated.
+/// Returns the findings for the dependency `value`: for each rule a finding, or `None` if the rule is not violated.
 fn dependency(value: &Value) -> [Option<Finding>; 2] {
     let mut found = [None; 2];
     let version = value.pointer("/version").unwrap_or(value);
@@ -143,7 +144,7 @@ fn dependency(value: &Value) -> [Option<Finding>; 2] {
     found
 }
 
-/// Appends to `list` the findings that are not `None`. If an allocation fails, `list` has some of them.
+/// Appends to `list` the findings that are not `None`. If an allocation fails, `list` may have some of them.
 fn push_all(found: &[Option<Finding>], list: &mut Vec<Finding>) -> Result<(), AllocError> {
     for one in found {
         if let Some(finding) = one {
@@ -154,7 +155,7 @@ fn push_all(found: &[Option<Finding>], list: &mut Vec<Finding>) -> Result<(), Al
 }
 
 /// Checks the keywords of a package, if they are an array, and appends the findings to `list`. If an allocation fails,
-/// `list` has some of them.
+/// `list` may have some of them.
 fn keywords(alloc: Global, package: &Value, list: &mut Vec<Finding>) -> Result<(), AllocError> {
     let Some(found) = package.pointer("/keywords") else {
         return Ok(());
@@ -183,7 +184,7 @@ fn keywords(alloc: Global, package: &Value, list: &mut Vec<Finding>) -> Result<(
     Ok(())
 }
 
-/// Checks a manifest, and appends the findings to `list`. If an allocation fails, `list` has some of them.
+/// Checks a manifest, and appends the findings to `list`. If an allocation fails, `list` may have some of them.
 fn lint(alloc: Global, root: &Table, list: &mut Vec<Finding>) -> Result<(), AllocError> {
     for (key, value) in root.iter() {
         push_all(&[unknown_table(alloc, key)?], list)?;

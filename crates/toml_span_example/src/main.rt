@@ -37,8 +37,8 @@ fn opened(
     }
 }
 
-/// Prints the result for the file that the first argument names, or for standard input. Ends with status 1 if something
-/// is wrong.
+/// Prints the result for the file that the first argument names or, without arguments, for standard input. Ends with
+/// status 1 if something is wrong.
 fn main(rt: HostRuntime) -> io::Result<ExitCode> {
     let words: Vec<String> = env::args(&rt)?.skip(1).collect(rt.alloc())?;
     let file = match words.as_slice() {

@@ -1,4 +1,4 @@
-//! The settings of a server, and what can be wrong with them.
+//! Reads the settings of a server, and reports what is wrong with them.
 use std::alloc::{AllocError, Global};
 use toml_span::{
     DeserError, Deserialize, DeserializeWithWarnings, Error, Spanned, Stop, Value, read_name,
@@ -81,8 +81,8 @@ impl<'de> Deserialize<'de> for Mirror {
     }
 }
 
-/// Returns the errors and warnings of a file as text, with its settings if they can be read. Also returns whether they
-/// can be read.
+/// Returns the text to print for a file: the warnings and the settings or, if the settings can't be read, the errors.
+/// Also returns whether they can be read.
 pub fn shown(alloc: Global, file: &TextFile) -> Result<(String, bool), AllocError> {
     match file.read_with_warnings::<Settings>(alloc) {
         Ok(Loaded { value, warnings }) => {

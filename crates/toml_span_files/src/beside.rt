@@ -2,8 +2,8 @@
 //!
 //! A run creates the new file with mode 0600, under a name that is made from the name of the edited file. The run then
 //! locks it with an advisory lock, which the system releases when the run ends. Only the run that has the lock writes,
-//! renames and removes the file. So if a file of mode 0600 is not locked, it was left by a run that was killed, and the
-//! next run removes it. The new file gets its final mode last, just before it is renamed.
+//! renames and removes the file. So if a file of this name and mode 0600 is not locked, it was left by a run that was
+//! killed, and the next run removes it. The new file gets its final mode last, just before it is renamed.
 use crate::failure::{Failure, unwritten};
 use std::fs::{File, Metadata, OpenOptions, TryLockError};
 use std::io::ErrorKind;
@@ -29,7 +29,7 @@ pub(crate) struct Beside {
 enum Try {
     /// The new file was created and locked.
     Locked(File),
-    /// Another run has locked the new file, or a file that a killed run had left was removed. Try again.
+    /// Another run has locked or removed the new file, or a file that a killed run had left was removed. Try again.
     Busy,
     /// There is a file with this name, and it is not clear whether a run has left it.
     Left,
@@ -76,8 +76,8 @@ fn is_own(found: &Metadata) -> bool {
 
 /// Removes the file with the path `name` if a killed run has left it: if it looks like the file of a run (`is_own`),
 /// and is not locked. Returns `Left` if the file does not look like that, can't be opened, or can't be tested for a
-/// lock. Returns `Busy` if the file was removed, is locked, or can't be examined any more. Fails if it can't be
-/// removed.
+/// lock. Returns `Busy` if the file was removed, is locked, has been replaced in the meantime, or can't be examined.
+/// Fails if it can't be removed.
 fn clear(rt: &HostRuntime, name: &str) -> io::Result<Try> {
     let Ok(found) = fs::symlink_metadata(rt, name) else {
         return Ok(Try::Busy);

@@ -9,7 +9,7 @@ use std::alloc::{AllocError, Global};
 /// The maximum number of lines to skip, in both texts together, before a line that both texts have.
 const WINDOW: usize = 256;
 
-/// Zero or more consecutive lines, and which text has them.
+/// Zero or more consecutive lines of the old text, of the new text, or of both.
 #[derive(Clone, Copy)]
 pub enum Part<'t> {
     /// Lines of both texts.

@@ -21,12 +21,12 @@ pub struct Options {
     pub is_forced: bool,
     /// Whether to write into the file itself. The file then keeps its owner, its hard links, its access control list
     /// and its extended attributes, and its directory need not be writable. But a run that is killed while it writes
-    /// leaves a part of the old text and a part of the new text.
+    /// may leave a part of the old text and a part of the new text.
     pub is_in_place: bool,
 }
 
 impl Options {
-    /// Waits for 5 seconds. Neither `is_forced` nor `is_in_place` is set.
+    /// Waits up to 5 seconds. Neither `is_forced` nor `is_in_place` is set.
     pub const USUAL: Options = Options {
         wait: 5,
         is_forced: false,
@@ -36,9 +36,9 @@ impl Options {
 
 /// A file of the file system, for an edit.
 ///
-/// The new text is written to a new file in the same directory, which then replaces the file. The new file has no
-/// access control list and no extended attributes, since this program can't read those of the old file. A file that is
-/// written in place keeps its own.
+/// Unless `is_in_place` is set, the new text is written to a new file in the same directory, which then replaces the
+/// file. The new file has no access control list and no extended attributes, since this program can't read those of the
+/// old file. A file that is written in place keeps its own.
 #[derive(Drop)]
 pub struct Disk<'r> {
     rt: &'r HostRuntime,
@@ -109,7 +109,7 @@ fn beside_or_none(
 }
 
 /// Gives the new file `file` the owner and group of the old file, whose metadata is `found`. Returns the mode for the
-/// new file. If the owner or group can't be kept, fails with `Owner`, unless `is_forced` is set. Then returns only the
+/// new file. If the owner or group can't be kept, fails with `Owner` or, if `is_forced` is set, returns only the
 /// permission bits of the mode, without set-id bits. Fails with `Unwritten` if the metadata of `file` can't be read.
 fn keep_owner(file: &File, found: &Metadata, is_forced: bool) -> Result<u32, Failure> {
     let new = file.metadata().map_err(unwritten)?;
@@ -155,7 +155,7 @@ fn front_of(alloc: Global, file: &mut File) -> Result<Vec<u8>, Failure> {
 
 /// Appends the bytes of `text` beyond the file's length to the file. A full disk is then noticed while the old bytes
 /// are still there. Fails with `Unwritten` if the file can't be examined or extended; the file then has its old length.
-/// Fails with `Damaged` if the file can't be cut to this length.
+/// Fails with `Damaged` if the file can neither be extended nor be cut back to its old length.
 fn extend(file: &mut File, text: &[u8]) -> Result<(), Failure> {
     let length = file.metadata().map_err(unwritten)?.len();
     let tail = text
@@ -196,8 +196,9 @@ impl<'r> Disk<'r> {
         })
     }
 
-    /// Opens the file to write it in place, and locks it, in case the new file could not be created and locked. Fails
-    /// with `Unwritten` if the file can't be opened, and with `Busy` if another run keeps it locked.
+    /// Opens the file to write it in place, and locks it, since the new file, which is otherwise the lock, may not have
+    /// been created. Fails with `Unwritten` if the file can't be opened, and with `Busy` if another run keeps it
+    /// locked.
     fn open_in_place(&mut self) -> Result<(), Failure> {
         let mut options = OpenOptions::new();
         let open = options

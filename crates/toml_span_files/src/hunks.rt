@@ -73,7 +73,7 @@ impl<'t> Hunks<'t> {
         Ok(())
     }
 
-    /// Moves the first of the waiting lines to the hunk, at most `most` of them.
+    /// Moves the first `most` waiting lines to the hunk, or all if there are fewer.
     fn push_waiting(&mut self, most: usize) -> Result<(), AllocError> {
         for _ in 0..most {
             if self.waiting.is_empty() {

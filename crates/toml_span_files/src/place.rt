@@ -1,4 +1,4 @@
-//! Paths of files.
+//! The path of the file to edit, after its links have been followed, and the path of the new file.
 use crate::failure::{Failure, unread};
 use std::alloc::{AllocError, Global};
 use std::io::ErrorKind;
@@ -60,7 +60,8 @@ pub(crate) fn place_of(rt: &HostRuntime, name: &str) -> Result<String, Failure> 
 }
 
 /// Returns the path of the new file, which is in the directory of the file `place`. Its name is the name of that file,
-/// or the beginning if it is long, with `.toml-span` at the end. If the result would be `place` itself, `~` is added.
+/// cut to `KEPT` bytes if it is longer, with `.toml-span` at the end. If the result would be `place` itself, `~` is
+/// added.
 pub(crate) fn beside(alloc: Global, place: &str) -> Result<String, AllocError> {
     let (folder, name) = split(place);
     let mut new = String::from_str(alloc, folder)?;

@@ -9,7 +9,7 @@ abbrev pub IsNoComment : Lexeme → Type 0
 IsNoComment (comment s) = ⊥
 IsNoComment l = Unit {0}
 
--- The tokens from i on have these comments, each without trailing white space.
+-- From the byte offset i on, the text has these comments, each without trailing white space.
 pub data CommentsFrom (text : List ℕ) : ℕ → List (List ℕ) → Type 0 where
   ends : (i : ℕ) → i ≡ length text → CommentsFrom text i []
   skips : (i j : ℕ) (span : Span) (l : Lexeme) (ts : List (List ℕ)) → IsLexeme text i j span l → IsNoComment l

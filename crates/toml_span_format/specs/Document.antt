@@ -1,4 +1,4 @@
--- The sections and comments that a formatted document keeps.
+-- The results of `format` and `format_sorted`, and which sections and comments they keep.
 use Rattle.std.specs.Prelude.{◌≡◌, ℕ, List, map, Vec, Result, Ok, Err, String, string_bytes}
 use Rattle.std.specs.Global.{Global}
 use Rattle.toml_span_lex.specs.declared.stop.Stop.{Stop}
@@ -16,7 +16,7 @@ use Rattle.toml_span_format.specs.Same.{bare_section}
 use Rattle.toml_span_format.specs.declared.errors.FormatError.{FormatError}
 use Rattle.toml_span_format.specs.declared.errors.FormatError.TheVariants as errors
 
--- The result has the sections of a text, or its first fault.
+-- The result has the sections of a text, or its first fault. An allocation may fail.
 abbrev pub ReadsSections : List ℕ → Result (Vec Section Global) (Stop FormatError) → Type 0
 ReadsSections text (Ok found) = document text depth_limit (Ok (map parsed_section found.items))
 ReadsSections text (Err (stops.Memory e)) = Unit {0}
@@ -60,7 +60,7 @@ Keeps P text (Err (stops.Fault (errors.Invalid error))) =
     (fault : Fault) × document text depth_limit (Err fault) × (content_of error ≡ fault_content text fault)
 Keeps P text (Err (stops.Fault errors.WouldDiffer)) = (bs : List ParsedSection) × document text depth_limit (Ok bs)
 
--- the result of `format`: a text with the same sections and comments, or the first fault
+-- the result of `format`; a new text has the same sections and comments as `text` (see `Keeps`)
 abbrev pub Formats : List ℕ → Result (String Global) (Stop FormatError) → Type 0
 Formats text result = Keeps SameDocument text result
 

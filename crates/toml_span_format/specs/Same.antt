@@ -1,4 +1,4 @@
--- When two texts have the same sections and the same comments.
+-- Sections, keys and values without their spans, for comparisons.
 use Rattle.std.specs.Prelude.{map}
 use Rattle.toml_span_lex.specs.declared.span.Span.{Span}
 use Rattle.toml_span_read.specs.Data.{SimpleKey, ParsedValue, parsed, ParsedInner, scalar, array, inline, ParsedItems}

@@ -8,7 +8,7 @@ use toml_span_lex::stop::Stop;
 use toml_span_lex::tokenizer::Tokenizer;
 use toml_span_lex::tokens::{Error, Token};
 
-/// Appends `token` to `found`, without trailing white space, if it is a comment.
+/// If `token` is a comment, appends it to `found`, without trailing white space.
 fn push_comment<'t>(token: &Token<'t>, found: &mut Vec<&'t str>) -> Result<(), AllocError>
     ensures { OnOk result (Adds (lexeme token.now) (map (λ t. t.now) found.old.items)
         (map (λ t. t.now) found.new.items)) }

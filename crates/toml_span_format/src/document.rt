@@ -86,7 +86,7 @@ fn same_comments(alloc: Global, old: &str, new: &str) -> Result<bool, AllocError
     Ok(same_texts(before.as_slice(), after.as_slice()))
 }
 
-/// Returns whether `new` has the sections of `text`, except for their spans, and the comments of `text`. `sections` are
+/// Returns whether `new` has the sections and comments of `text`, in the same order. Spans may differ. `sections` are
 /// the sections of `text`. Returns `false` if `new` can't be read.
 fn is_same(
     alloc: Global,

@@ -36,7 +36,7 @@ struct Sorter<'p, 't, 's> {
     /// The entries since the last blank line or header, not sorted yet.
     run: Vec<Entry<'s>>,
     /// `start`: the position of the first piece that is neither in `sorted` nor in an entry of `run`. `key`: the names
-    /// of the key of the assignment that begins there, after its comments, or `None` if no assignment has begun.
+    /// of the key of the assignment in the lines from `start` on, or `None` if these lines have no assignment yet.
     start: usize,
     key: Option<Vec<&'s str>>,
     /// Whether there are lines from `start` on, and all of them are comment lines.
@@ -106,7 +106,8 @@ impl Sorter<'_, '_, '_> {
     }
 
     /// Begins a line with the piece at the position `at`, and ends the entry above the line. Comments right above the
-    /// line belong to it, and are not ended. But a blank line or a header ends both the comments above and the run.
+    /// line belong to it, and are not ended. But if the line is a header or follows a blank line, both the comments
+    /// above it and the run are ended.
     fn begin_line(&mut self, alloc: Global, at: usize) -> Result<(), AllocError> {
         let Some(piece) = self.pieces.get(at) else {
             return Ok(());

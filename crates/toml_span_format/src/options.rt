@@ -1,7 +1,7 @@
 //! The options of the formatter.
 ghost use Rattle.std.specs.Prelude.{◌≡◌};
 
-/// How `format` lays a document out. `Options::new()` returns the defaults.
+/// How `format` and `format_sorted` lay out a document. `Options::new()` returns the defaults.
 #[derive(Clone, Copy, PartialEq, Eq, Debug)]
 pub struct Options {
     /// The width of a line in characters. An array is written on one line only if it ends within this width.

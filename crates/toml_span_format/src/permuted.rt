@@ -67,8 +67,8 @@ fn permuted_pairs(
     Ok(same_named(before.as_slice(), after.as_slice()))
 }
 
-/// Returns whether two sections are equal, without regard to spans and the order of assignments. May return `false`
-/// like `permuted_pairs`.
+/// Returns whether two sections are equal, without regard to spans and the order of assignments. Like `permuted_pairs`,
+/// may return `false` if assignments with the same key are in different orders.
 fn permuted_section(alloc: Global, a: &Section<'_>, b: &Section<'_>) -> Result<bool, AllocError>
     ensures { IfOk result (λ same. IsTrue same → spec.PermutedSection (parsed_section a.now) (parsed_section b.now)) }
 {
@@ -79,7 +79,7 @@ fn permuted_section(alloc: Global, a: &Section<'_>, b: &Section<'_>) -> Result<b
 }
 
 /// Returns whether two lists of sections are equal, without regard to spans and the order of the assignments in each
-/// section. May return `false` like `permuted_pairs`.
+/// section. Like `permuted_pairs`, may return `false` if assignments with the same key are in different orders.
 pub(crate) fn permuted_sections(
     alloc: Global,
     a: &[Section<'_>],

@@ -1,11 +1,11 @@
 //! The pieces of a document: everything except white space, line ends and commas.
 
-/// The line ends between a piece and the previous piece in the source. Commas do not count.
+/// The line ends between a piece and the previous piece. A line with only a comma does not count as blank.
 #[derive(Clone, Copy, PartialEq, Eq)]
 pub(crate) enum Gap {
     /// No line end.
     SameLine,
-    /// One line end.
+    /// A line end, but no blank line.
     NextLine,
     /// At least one blank line.
     BlankLine,
@@ -47,7 +47,7 @@ pub(crate) enum Kind {
     Header,
     /// The first part of a key.
     Key,
-    /// A dot, a later part of a key, or the rest of a header.
+    /// A dot or a later part of a key, or any later token of a header.
     Part,
     Equals,
     /// A string, number, date or boolean.

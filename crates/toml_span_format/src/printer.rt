@@ -31,12 +31,12 @@ struct Printer {
     options: Options,
     line_end: &'static str,
     open: Vec<Frame>,
-    /// The number of spaces to begin a line with.
+    /// The indentation of a new line in spaces. `begin_line` writes at most `options.width` of them.
     spaces: usize,
     /// The offset in `out` up to which `column` counts the columns of the current line.
     counted: usize,
     column: usize,
-    /// Whether a line has begun.
+    /// Whether the first line has begun.
     is_begun: bool,
     /// `is_after_open`: whether an array or inline table has been opened with one element per line, and no line has
     /// begun since then. `is_after_equals`: whether the last piece is an equals sign.
@@ -54,7 +54,8 @@ impl Printer {
     }
 
     /// Ends the current line, and begins a new one with its indentation. For `BlankLine`, writes a blank line between
-    /// the two, except after an opening bracket. At the start of the output, no line is ended.
+    /// the two, unless the new line is the first inside an array or inline table. At the start of the output, no line
+    /// is ended.
     fn begin_line(&mut self, gap: Gap) -> Result<(), AllocError> {
         if self.is_begun {
             self.end_line()?;
@@ -233,7 +234,7 @@ impl Printer {
 }
 
 /// Returns the text of all pieces in their new layout. The text begins with `mark`, a byte order mark or an empty
-/// string, and its lines end with `line_end`.
+/// string. Its lines end with `line_end`, except inside strings.
 pub(crate) fn print(
     alloc: Global,
     mark: &str,

@@ -9,7 +9,7 @@ use toml_span_lex::tokens::{Error, Token};
 /// The part of the document to which the next tokens belong.
 #[derive(Clone, Copy, PartialEq, Eq)]
 enum Place {
-    /// A header, or the key of a line.
+    /// A new line, on which a header or a key may begin.
     Line,
     Header,
     Key,
@@ -28,9 +28,9 @@ struct Frame {
     /// Whether a comma follows the last element.
     ends_in_comma: bool,
     has_comment: bool,
-    /// Whether the array or inline table directly contains a line end, or an inline table without the form `OneLine`.
+    /// Whether the array or inline table directly contains a line end, or an inline table whose form is not `OneLine`.
     has_line_end: bool,
-    /// Whether an element takes more than one line.
+    /// Whether an element, such as a string with a line end, takes more than one line in any layout.
     has_lines: bool,
 }
 
@@ -46,8 +46,9 @@ impl Frame {
         self.width.saturating_add(commas).saturating_add(brackets)
     }
 
-    /// Returns the form in which to write the array or inline table. An inline table without line ends, comments or a
-    /// trailing comma stays on one line, because TOML 1.0 allows no line ends in inline tables.
+    /// Returns the form in which to write the array or inline table. An inline table without a line end
+    /// (`has_line_end`), a comment or a trailing comma stays on one line, because TOML 1.0 allows no line ends in
+    /// inline tables.
     fn form(&self) -> Form {
         if self.has_comment || self.ends_in_comma {
             Form::Lines
@@ -78,7 +79,7 @@ struct Reader<'t> {
     /// Whether there is a comma on the current line, after the last piece. A line with only a comma does not count as
     /// blank.
     has_comma: bool,
-    /// The first line end of the text, outside strings.
+    /// The first line end outside strings, or `None` before it has been read.
     line_end: Option<&'static str>,
 }
 
@@ -156,8 +157,8 @@ impl<'t> Reader<'t> {
         }
     }
 
-    /// Appends a comment to `pieces`. This moves a comment between a key and its value before the key, onto a line of
-    /// its own.
+    /// Appends a comment to `pieces`. A comment between a key and its value thus moves to a line of its own, before the
+    /// key.
     fn comment(&mut self, text: &'t str, start: usize) -> Result<(), AllocError> {
         let mut piece = self.piece(Kind::Comment, text, start);
         if let Some(key) = self.key.first_mut() {

@@ -1,4 +1,4 @@
--- What the program writes for its input.
+-- What the program reads and writes, and its exit status.
 use Rattle.std.specs.Prelude.{◌≡◌, ◌↔◌, ◌<◌, ℕ, ◌+◌, ◌≤◌, Bool, true, false, not, ◌||◌, nat_eq, nat_lt, IsTrue, IsUtf8}
 use Rattle.std.specs.Prelude.{List, length, take, Option, codes, ◌⊎◌}
 use Rattle.toml_span_lines.specs.declared.run.Cut.{Cut}
@@ -53,7 +53,7 @@ pub record Runs (limit : ℕ) (left left' : Option (List ℕ)) (unread : Bool) (
       × IsAnswer bytes limit status text × Appends written written' text
   pub known : status ≤ 4
 
--- The first bytes of a text were written, or all of it if no write failed.
+-- A prefix of a text was written, and the whole text if no write failed.
 pub record WritesOut (old new : Option (List ℕ)) (text : List ℕ) (failed : Bool) (all : Bool) : Type 0 where
   pub written : HasWritten old new text
   pub whole : all ≡ true → Appends old new text

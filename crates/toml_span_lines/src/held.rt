@@ -7,7 +7,7 @@ use crate::run::write_bytes;
 use crate::sink::Sink;
 use std::alloc::AllocError;
 
-/// A buffer with at least this many bytes is written.
+/// `write_held` writes a buffer that has at least this many bytes.
 const MANY: usize = 65_536;
 
 /// Why the output was not written completely.

@@ -1,5 +1,5 @@
-//! Prints the tree of a TOML document as lines, one for each value with its span. `run::run` is the whole program
-//! `toml_span_show`.
+//! Reads TOML, and prints a line for each value, with its span, or a line for the error. `run::run` is the whole
+//! program `toml_span_show`.
 #![tactic(auto)]
 
 pub mod held;

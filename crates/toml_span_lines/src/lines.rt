@@ -1,4 +1,4 @@
-//! Formats trees and errors as lines.
+//! Formats trees and errors as lines. Writes the lines of a tree through a buffer.
 ghost use Rattle.std.specs.Prelude.{◌≡◌, ◌<◌, ◌++◌, OnOk, IfOk, false};
 ghost use Rattle.std.specs.Fmt.{decimal};
 ghost use Rattle.toml_span_tree.specs.Value.{view, items_view, members_view};
@@ -110,8 +110,8 @@ fn push_line(out: &mut Vec<u8>, path: &[u8], kind: &str, span: Span) -> Result<(
     Ok(())
 }
 
-/// Appends the line of a value to the buffer `held`. If the buffer then has at least 64 KiB, writes and empties it. If
-/// an allocation fails, `held` may have a part of the line.
+/// Appends the line of a value to the buffer `held`. If the buffer then has at least 64 KiB, writes and empties it.
+/// Fails if a write fails. If an allocation fails, `held` may have a part of the line.
 fn write_line<W: Sink>(
     writer: &mut W,
     held: &mut Vec<u8>,
@@ -127,8 +127,8 @@ fn write_line<W: Sink>(
     write_held(writer, held)
 }
 
-/// Writes, through the buffer `held`, the line of the value at `path`, and the lines of the values inside it. A taken
-/// value has no line. Fails if a write fails. After a failure, `path` is unspecified.
+/// Writes, through the buffer `held`, the line of `value`, which is at `path`, and the lines of the values inside it. A
+/// taken value has no lines. Fails if a write fails. After a failure, `path` is unspecified.
 #[cycle(write_value)]
 fn write_value<W: Sink>(
     writer: &mut W,
@@ -199,10 +199,10 @@ fn write_entries<W: Sink>(
     Ok(())
 }
 
-/// Writes the buffer `held`, and then a line for each value of a tree, except for taken values. The line of a value
-/// comes before the lines of the values inside it. The entries of a table are in the order of their names. The end of
-/// the output stays in the buffer. Fails if a write or an allocation fails; a prefix of the output has then been
-/// written. No earlier write may have failed.
+/// Appends a line for each value of the tree `root`, except for taken values, to the buffer `held`. Writes and empties
+/// the buffer whenever it has at least 64 KiB; the last lines may stay in the buffer. The line of a value comes before
+/// the lines of the values inside it. The entries of a table are in the order of their names. Fails if a write or an
+/// allocation fails; a prefix of the output has then been written. No earlier write may have failed.
 pub fn write_lines<W: Sink>(
     alloc: Global,
     writer: &mut W,
@@ -216,8 +216,8 @@ pub fn write_lines<W: Sink>(
     write_value(writer, held, &mut Vec::new(alloc), root)
 }
 
-/// Returns a line for each value of a tree, except for taken values. The line of a value comes before the lines of the
-/// values inside it. The entries of a table are in the order of their names. Fails if an allocation fails.
+/// Returns a line for each value of the tree `root`, except for taken values. The line of a value comes before the
+/// lines of the values inside it. The entries of a table are in the order of their names. Fails if an allocation fails.
 pub fn tree_lines(alloc: Global, root: &Value<'_>) -> Result<Vec<u8>, AllocError>
     ensures { IfOk result (λ out. out.items ≡ spec.tree_lines (view root.now)) }
 {

@@ -17,7 +17,7 @@ pub const BOUND: usize = 16_777_216;
 /// The limit of `run` on the depth of values and on the number of parts of a key.
 const LIMIT: usize = 128;
 
-/// Why the input was not read completely.
+/// Why `read_bytes` failed.
 #[derive(Clone, Copy, Drop)]
 pub enum Cut {
     /// An allocation failed.

@@ -1,4 +1,4 @@
--- The result of reading a file as a type.
+-- The results of opening a file, and of reading its text as a type.
 use Rattle.std.specs.Prelude.{◌≡◌, ⊤, ℕ, List, [], ◌++◌, Result, Ok, Err, codes, map, string_bytes}
 use Rattle.toml_span_lex.specs.declared.stop.Stop.{Stop}
 use Rattle.toml_span_lex.specs.declared.stop.Stop.TheVariants as stops
@@ -39,7 +39,7 @@ NotLoaded reads name text (Io u) = ⊥
 NotLoaded reads name text (Reported r) = (faults : Errors) × NotRead reads text (stops.Fault faults)
     × AreReported styles.Plain name text (all faults) (map report_content r.reports.items) (string_bytes r.text)
 
--- whether `reports` are the reports of the warnings of a read, and then of its errors, and `out` is their text
+-- whether `reports` are the reports of the warnings of a read, and then those of its errors, and `out` is their text
 abbrev pub AreShown : {T : Type 0} → Result T (Stop Errors) → List ErrorContent → List ℕ → List ℕ → List ReportContent
     → List ℕ → Type 0
 AreShown read warnings name text reports out =

@@ -27,8 +27,8 @@ pub enum LoadError {
     Memory(AllocError),
     /// The file can't be read, or is not valid UTF-8.
     Io(Unreadable),
-    /// The text is not valid TOML, or does not fit the type. Contains the reports of all errors and, for a type that
-    /// warns, of all warnings.
+    /// The text is not valid TOML, or does not fit the type. Contains the reports of the errors of the read and, for a
+    /// type that warns, of its warnings.
     Reported(Reported),
 }
 
@@ -54,7 +54,7 @@ impl From<AllocError> for LoadError {
     }
 }
 
-/// Writes the text of the error, or `memory allocation failed`.
+/// Writes the field `text` of `Unreadable` or `Reported`, or `memory allocation failed`.
 impl Display for LoadError {
     ghost output = { λ error. Some (shown error) };
 
@@ -108,11 +108,11 @@ impl TextFile {
         }
     }
 
-    /// Reads the text as a type, like `toml_span::from_str`. If the text is not valid TOML or does not fit the type,
-    /// fails with `LoadError::Reported`, which has the reports of all errors, without colors. Fails with
+    /// Reads the text as a `T`, like `toml_span::from_str`. If the text is not valid TOML or does not fit the type,
+    /// fails with `LoadError::Reported`, which has the reports of the errors of `from_str`, without colors. Fails with
     /// `LoadError::Memory` if an allocation fails.
     ///
-    /// For a type that warns, which does not implement `Deserialize`, use `read_with_warnings`.
+    /// For a type that warns (`DeserializeWithWarnings`), use `read_with_warnings`.
     pub fn read<'de, T: Deserialize<'de>>(&'de self, alloc: Global) -> Result<T, LoadError>
         ensures read { IfOk result (λ x. IsReadAs T.reads (string_bytes self.now.text) (Ok x)) }
         ensures refused { IfErr result (NotLoaded T.reads (string_bytes self.now.name) (string_bytes self.now.text)) }
@@ -127,9 +127,9 @@ impl TextFile {
         }
     }
 
-    /// Reads the text as a type that warns, like `toml_span::from_str_with_warnings`. Returns the value with the
+    /// Reads the text as a `T`, a type that warns, like `toml_span::from_str_with_warnings`. Returns the value with the
     /// reports of all warnings. If the text is not valid TOML or does not fit the type, fails with
-    /// `LoadError::Reported`, which has the reports of all warnings and errors, without colors. Fails with
+    /// `LoadError::Reported`, which has the reports of the warnings and errors of the read, without colors. Fails with
     /// `LoadError::Memory` if an allocation fails.
     pub fn read_with_warnings<'de, T: DeserializeWithWarnings<'de>>(
         &'de self,
@@ -155,8 +155,8 @@ impl TextFile {
     }
 }
 
-/// Returns the reports of all warnings of a read and, if the read failed, of its errors, with their text. Fails if the
-/// read failed with `Stop::Memory`.
+/// Returns the reports of all warnings of a read and, if the read failed, of its errors, with the text of all these
+/// reports. Fails if the read failed with `Stop::Memory`.
 fn shown_read<T>(
     alloc: Global,
     read: &Result<T, Stop<DeserError<'_>>>,

@@ -10,11 +10,11 @@ use Rattle.toml_span_schema.specs.Valid.{valid}
 use Rattle.toml_span_schema.specs.declared.schema.Schema.{Schema}
 use Rattle.toml_span_tree.specs.Node.{Node}
 
--- an argument chooses a schema, or `#:schema` occurs in the text
+-- options may choose a schema, or `#:schema` occurs in the text
 abbrev pub MayHaveSchema : Chooser → List ℕ → Type 0
 MayHaveSchema chooser text = (chooser ≡ Arguments) ⊎ HasMatch (FindsText (codes "#:schema")) text
 
--- no argument chooses a schema, and `#:schema` does not occur in the text
+-- only directives choose a schema, and `#:schema` does not occur in the text
 abbrev pub HasNoSchema : Chooser → List ℕ → Type 0
 HasNoSchema chooser text = (chooser ≡ Files) × FindsText (codes "#:schema") text None
 

@@ -2,7 +2,8 @@
 use percent_encoding::{DecodeError, percent_decode};
 use std::alloc::{AllocError, Global};
 
-/// The address that replaces a schema's folder when a schema is compiled. Each `../` in a reference removes one `_/`.
+/// The address that replaces the folder of a schema when the schema is compiled. Each `../` in a reference removes one
+/// `_/`.
 const HERE: &str = "file:///_/_/_/_/_/_/_/_/";
 
 /// `HERE`, and the folders above it except the root, from the inside out.

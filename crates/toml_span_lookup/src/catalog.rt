@@ -33,8 +33,8 @@ fn elements_of<'v, 'a>(value: &'v Json<'a>, name: &str) -> Option<&'v [Json<'a>]
     }
 }
 
-/// Parses a pattern of `fileMatch`, which applies in all folders. Returns `None` if `pattern_of` does not support the
-/// pattern.
+/// Parses a pattern of `fileMatch`. The result matches in all folders. Returns `None` if `pattern_of` does not support
+/// the pattern.
 fn glob_of(alloc: Global, text: &str) -> Result<Option<Pattern>, AllocError> {
     let (mark, rest) = match text.strip_prefix('!') {
         Some(rest) => ("!", rest),
@@ -67,7 +67,8 @@ fn entry_of(alloc: Global, entry: &Json<'_>) -> Result<Option<Listed>, AllocErro
     }))
 }
 
-/// Parses a catalog. Returns `None` if the text is not JSON, nests too deep, or has no array `schemas`.
+/// Parses a catalog, and leaves out the entries that `entry_of` can't parse. Returns `None` if the text is not valid
+/// JSON, is nested too deeply, or has no array `schemas`.
 pub(crate) fn catalog_of(alloc: Global, text: &str) -> Result<Option<Catalog>, AllocError> {
     let mut scratch = Scratch::new(alloc);
     let value = match Json::parse(alloc, text, &mut scratch) {

@@ -34,8 +34,8 @@ struct Loaded {
     text: String,
 }
 
-/// Compiles the schema in the first of `documents`, which may refer to the other documents. Fails as `Guide::from_json`
-/// does.
+/// Compiles the schema in the first of `documents`. The schema may refer to the other documents. Fails as
+/// `Guide::from_json` does.
 fn compile(alloc: Global, documents: &[Loaded]) -> Result<Guide, SchemaError> {
     let mut others = Vec::new(alloc);
     for document in documents {
@@ -76,8 +76,8 @@ pub(crate) fn text_of<D: Disk>(
     }
 }
 
-/// Returns the path of the document at `address`, to which a schema in `folder` refers, or `None` if the document is
-/// not a local file.
+/// Returns the path of the document at `address`, to which a schema in `folder` refers, or of its local copy. Returns
+/// `None` if the document has no local copy and is not a local file.
 fn path_for(
     alloc: Global,
     options: &Options,
@@ -105,8 +105,8 @@ fn missing_address<'e>(documents: &[Loaded], error: &'e SchemaError) -> Option<&
     Some(address)
 }
 
-/// Adds an error to `complaint`: the document at `address` is not valid JSON. Does nothing if `documents` has no
-/// document at `address`.
+/// Adds an error to `complaint` that says why the document at `address` can't be parsed (see `json_reason`). Does
+/// nothing if `documents` has no document at `address`.
 fn refuse_text(
     alloc: Global,
     complaint: &mut String,
@@ -127,8 +127,8 @@ fn refuse_text(
     Ok(())
 }
 
-/// Adds an error to `complaint` that says why the schema at `path` can't be compiled. If `error` is `Json`, the error
-/// names the path of the document that is not valid JSON instead.
+/// Adds an error to `complaint` that says why the schema at `path` can't be compiled. If `error` is `Json`, the added
+/// error is about the document that can't be parsed instead.
 fn refuse(
     alloc: Global,
     options: &Options,
@@ -150,7 +150,7 @@ fn refuse(
 }
 
 /// Reads the document that `error` reports as missing, and appends it to `documents` and its file to `used.files`.
-/// Returns false if `error` is another error, or if the document is among `documents`, is not a local file or can't be
+/// Returns `false` if `error` is another error, or if the document is among `documents`, has no local file or can't be
 /// read. If the document can't be read, adds an error to `complaint`.
 fn push_missing<D: Disk>(
     alloc: Global,

@@ -1,5 +1,5 @@
-//! Finds, reads and compiles the schemas of TOML files, which a directive `#:schema`, a catalog or an option names.
-//! Nothing is fetched from servers.
+//! Finds, reads and compiles the schemas of TOML files, and checks documents against them. A directive `#:schema`, a
+//! catalog or an option names the schema of a file. Nothing is fetched from servers.
 #![tactic(auto)]
 
 mod addresses;

@@ -71,8 +71,9 @@ impl Lookup {
         }
     }
 
-    /// Returns the path of the schema that the file `name` names by `address`, or of its local copy. Returns `None` if
-    /// the schema is on a server and has no local copy. Fails if an allocation fails.
+    /// Returns the path of the schema that the file `name` names by `address` or, if the schema has a local copy, the
+    /// path of the copy. Returns `None` if the schema is on a server and has no local copy. Fails if an allocation
+    /// fails.
     pub fn path_for(
         &self,
         alloc: Global,
@@ -172,7 +173,7 @@ impl Lookup {
         Ok(())
     }
 
-    /// Reads the catalog as `read_catalog` does, unless it has been read.
+    /// Calls `read_catalog` and sets `is_ready`, unless `is_ready` is set already.
     fn prepare<D: Disk>(&mut self, alloc: Global, disk: &mut D) -> Result<(), AllocError> {
         if !self.is_ready {
             self.read_catalog(alloc, disk)?;
@@ -295,7 +296,7 @@ impl Lookup {
     }
 
     /// Checks the document `root` of the file `name` against the schema at a path. Returns no reports if the schema has
-    /// not been read or can't be used. If the check can't be completed, returns no reports and adds an error to
+    /// not been read or can't be used. If the check can't be completed, returns no reports, and adds an error to
     /// `complaint`.
     fn reports_of(
         &mut self,
@@ -348,7 +349,8 @@ impl Lookup {
     }
 
     /// Checks a document against its schema, as `Schemas::check` does. Before that, reads the catalog and the schema if
-    /// they have not been read. Fails if an allocation fails.
+    /// they have not been read, unless `chooser` is `Files` and `text` does not contain `#:schema`. Fails if an
+    /// allocation fails.
     pub fn check_reading<D: Disk>(
         &mut self,
         alloc: Global,

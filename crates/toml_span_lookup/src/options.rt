@@ -36,7 +36,7 @@ pub struct Options {
 }
 
 impl Options {
-    /// Returns options that name no schema, and check the keyword `format`.
+    /// Returns options that name neither a schema nor a catalog nor local copies, and check the keyword `format`.
     pub fn new(alloc: Global, place: Place) -> Options {
         Options {
             schema: String::new(alloc),

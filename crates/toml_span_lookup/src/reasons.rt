@@ -46,7 +46,8 @@ pub(crate) fn remote_reason(alloc: Global, place: Place, url: &str) -> Result<St
     }
 }
 
-/// Returns the message that a text is not valid JSON, with the line and column of the error if `json_fault` finds it.
+/// Returns the message that a text is not valid JSON, with the line and column of the error. If `json_fault` finds no
+/// error, the message says instead that the text may be nested too deeply.
 pub(crate) fn json_reason(alloc: Global, text: &str) -> Result<String, AllocError> {
     match json_fault(alloc, text)? {
         Some((line, column)) => {
@@ -59,7 +60,8 @@ pub(crate) fn json_reason(alloc: Global, text: &str) -> Result<String, AllocErro
     }
 }
 
-/// Returns the message that says why a catalog can't be used: `text` is not JSON, or has no array `schemas`.
+/// Returns the message that says why a catalog can't be used: `text` is not valid JSON, is nested too deeply, or has no
+/// array `schemas`.
 pub(crate) fn catalog_reason(alloc: Global, text: &str) -> Result<String, AllocError> {
     match json_fault(alloc, text)? {
         Some(_) => json_reason(alloc, text),

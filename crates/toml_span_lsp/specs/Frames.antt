@@ -12,14 +12,14 @@ frame_of content = codes "Content-Length: " ++ decimal (length content) ++ codes
 abbrev pub AreFrames : List ℕ → Type 0
 AreFrames bytes = (contents : List (List ℕ)) × (bytes ≡ flat_map frame_of contents)
 
--- Between the contents `old` and `new` of the output, only whole frames were written.
+-- The contents `new` of the output are its earlier contents `old`, followed by whole frames.
 abbrev pub WritesFrames : Option (List ℕ) → Option (List ℕ) → Type 0
 WritesFrames old new = (bytes : List ℕ) × AreFrames bytes × Appends old new bytes
 
--- Frames were written or, if a write failed, only a prefix of them.
+-- The contents `new` of the output are its earlier contents `old`, followed by a prefix of a sequence of frames.
 abbrev pub WritesFront : Option (List ℕ) → Option (List ℕ) → Type 0
 WritesFront old new = (bytes : List ℕ) × AreFrames bytes × HasWritten old new bytes
 
--- Frames were written. If `result` is not `None`, that is, if the server ends, a prefix of them is enough.
+-- If `result` is `None`, the server continues, and whole frames were written. Otherwise, a prefix of frames is enough.
 abbrev pub Writes : {A : Type 0} → Option A → Option (List ℕ) → Option (List ℕ) → Type 0
 Writes result old new = MatchOption result (WritesFrames old new) (λ _. WritesFront old new)

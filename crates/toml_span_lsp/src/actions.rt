@@ -1,4 +1,4 @@
-//! Code actions: the repairs of errors, and conversions of tables and arrays.
+//! Code actions: repairs of diagnostics, and conversions of tables and arrays.
 use crate::incoming::{member, range_of};
 use crate::outgoing::{flag, text, write_workspace_edit};
 use json::{Value, Writer};
@@ -13,10 +13,10 @@ use toml_span_editor::table::PositionTable;
 use toml_span_lex::span::Span;
 use toml_span_lookup::lookup::Lookup;
 
-/// The kind of an action that repairs one error.
+/// The kind of an action that repairs one diagnostic.
 const QUICK_FIX: &str = "quickfix";
 
-/// The kind of an action that makes all safe repairs.
+/// The kind of an action that makes the edits of `all_repairs`.
 const FIX_ALL: &str = "source.fixAll";
 
 /// The kind of an action that converts a table or an array to another form.
@@ -109,7 +109,7 @@ fn write_repairs(
     Ok(())
 }
 
-/// Writes an action that makes all safe repairs of a text, if there are any. `document` is the result of `read` for the
+/// Writes an action that makes the edits of `all_repairs`, if there are any. `document` is the result of `read` for the
 /// text.
 fn write_fix_all(
     alloc: Global,
@@ -128,9 +128,9 @@ fn write_fix_all(
     write_action(out, uri, table, title, FIX_ALL, false, edits.as_slice())
 }
 
-/// Writes an action for each repair of a diagnostic that touches `span`, an action with all safe repairs of the
-/// document, and an action for each conversion of the table or array at the start of `span`. Leaves out kinds that the
-/// client does not want. `name` is the path of the file. Reads no files.
+/// Writes a list of actions: one for each repair of a diagnostic that touches `span`, one with the edits of
+/// `all_repairs`, and one for each possible conversion of the table or array at the start of `span`. Leaves out kinds
+/// that the client does not want. `name` is the path of the file. Reads no files.
 pub(crate) fn write_actions(
     alloc: Global,
     out: &mut Writer,

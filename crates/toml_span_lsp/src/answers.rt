@@ -1,4 +1,4 @@
-//! Answers about what is at a position: definitions, hovers and completion.
+//! Writes answers about a position in a document: definitions, hovers and completion items.
 use crate::outgoing::{flag, number, range, text, write_location};
 use crate::suggested::write_suggestions;
 use json::Writer;

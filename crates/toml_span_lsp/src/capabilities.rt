@@ -77,7 +77,7 @@ fn root_uri<'v>(params: &'v Value<'_>) -> Option<&'v str> {
 }
 
 /// Returns the path of the folder that is open in the editor, with a slash at the end. Returns an empty text if no
-/// folder is open, or if the folder's URI is not that of a file.
+/// folder is open, or if `path_of_uri` returns `None` for the folder's URI.
 fn root_of(alloc: Global, params: &Value<'_>) -> Result<String, AllocError> {
     let found = match root_uri(params) {
         Some(uri) => path_of_uri(alloc, uri)?,
@@ -126,7 +126,8 @@ fn list(out: &mut Writer, name: &str, items: &[&str]) -> Result<(), AllocError> 
     out.end_array()
 }
 
-/// Writes which notifications the client must send: when a document is opened, saved or closed, and changes as ranges.
+/// Writes `textDocumentSync`: the client must report each document that is opened, changed, saved or closed, and the
+/// changes as ranges with new text.
 fn write_sync(out: &mut Writer) -> Result<(), AllocError> {
     out.key("textDocumentSync")?;
     out.begin_object()?;
@@ -164,7 +165,7 @@ fn write_options(out: &mut Writer) -> Result<(), AllocError> {
     out.end_object()
 }
 
-/// Writes the types of semantic tokens.
+/// Writes the capability for semantic tokens, with their types.
 fn write_tokens(out: &mut Writer) -> Result<(), AllocError> {
     out.key("semanticTokensProvider")?;
     out.begin_object()?;

@@ -70,7 +70,7 @@ pub(crate) fn settings_in(
     Ok(read.all)
 }
 
-/// Replaces the settings in `state`, and `state.lookup` with a `Lookup` that has read no schemas.
+/// Stores `settings` in `state`. Replaces `state.lookup` with a `Lookup` that has read no schemas.
 pub(crate) fn use_settings(alloc: Global, state: &mut State, settings: AllSettings) {
     state.settings = settings.settings;
     state.lookup = Lookup::new(alloc, settings.options);
@@ -86,7 +86,7 @@ fn not_empty<'v, 'j>(value: Option<&'v Value<'j>>) -> Option<&'v Value<'j>> {
 }
 
 /// Uses the settings in `value`, or those of `initializationOptions` if `value` has none. Then reads the schemas of the
-/// open documents, and appends a notification with the diagnostics of each document, as `publish` does. If the client
+/// open documents, and appends for each document a notification with its diagnostics, as `publish` does. If the client
 /// requests diagnostics itself and supports `refresh_request`, appends that request. Does nothing if `value` has no
 /// settings and those of `initializationOptions` are in use.
 fn change_settings<D: Disk>(
@@ -160,7 +160,7 @@ pub(crate) fn settings_changed<D: Disk>(
 }
 
 /// Uses the settings in a response to the request for the settings, as `change_settings` does. Ignores other responses,
-/// and responses without a list of settings.
+/// and a result that is not a list or is empty.
 pub(crate) fn settings_came<D: Disk>(
     alloc: Global,
     state: &mut State,

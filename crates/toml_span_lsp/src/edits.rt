@@ -1,4 +1,4 @@
-//! Writes answers that are edits: renames and formatting.
+//! Writes answers about renames and formatting.
 use crate::actions::span_of;
 use crate::incoming::text_in;
 use crate::outgoing::{range, text, write_edits, write_workspace_edit};
@@ -58,8 +58,8 @@ pub(crate) fn write_renamable(
     out.end_object()
 }
 
-/// Returns the options of the formatter: `width`, and the `tabSize` of the request as the indentation, unless `tabSize`
-/// exceeds 64. An option that is missing has its default.
+/// Returns the options of the formatter: `width`, and the `tabSize` of the request as the indentation. If `width` is
+/// missing, or if `tabSize` is missing, not valid or above 64, that option has its default.
 fn options_of(width: Option<usize>, params: &Value<'_>) -> Options {
     let mut options = Options::new();
     if let Some(width) = width {
@@ -73,7 +73,7 @@ fn options_of(width: Option<usize>, params: &Value<'_>) -> Options {
 }
 
 /// Writes the edits that format a document or, if the request has a valid range, the lines of the range. Writes null if
-/// the document can't be formatted.
+/// the document, or the range alone, can't be formatted.
 pub(crate) fn write_formatting(
     alloc: Global,
     out: &mut Writer,

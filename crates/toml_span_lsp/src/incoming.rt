@@ -76,7 +76,7 @@ pub(crate) fn member<'v, 'j>(value: &'v Value<'j>, names: &[&str]) -> Option<&'v
 }
 
 /// Returns the string at the path `names` in the nested objects of `value`. Returns `None` if a member of the path is
-/// missing, or if the last is not a string.
+/// missing, or if the last member is not a string.
 pub(crate) fn text_in<'v>(value: &'v Value<'_>, names: &[&str]) -> Option<&'v str> {
     member(value, names)?.as_str()
 }

@@ -1,5 +1,4 @@
-//! Writes answers that are lists of ranges in a document: symbols, folds, selections, highlights, references and
-//! tokens.
+//! Writes answers that list parts of a document: symbols, folds, selections, highlights, references and tokens.
 use crate::outgoing::{number, range, text, write_location};
 use json::Writer;
 use std::alloc::{AllocError, Global};

@@ -1,4 +1,4 @@
-//! The requests that the server answers.
+//! The requests about documents that the server answers.
 
 /// A request about a document.
 #[derive(Clone, Copy, Debug, PartialEq, Eq)]
@@ -21,7 +21,7 @@ pub(crate) enum Method {
     Diagnose,
 }
 
-/// Returns the request with this name, or `None` if the name is unknown.
+/// Returns the request about a document that has this name, or `None` if there is no such request.
 pub(crate) fn method_named(name: &str) -> Option<Method> {
     match name {
         "textDocument/documentSymbol" => Some(Method::Symbols),

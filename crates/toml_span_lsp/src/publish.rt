@@ -91,8 +91,8 @@ fn write_list(out: &mut Writer, uri: &str, diagnostics: &[Diagnostic]) -> Result
     out.end_array()
 }
 
-/// Returns the diagnostics of an open document, and the error lines that say why its schema can't be used. Reads no
-/// files.
+/// Returns the diagnostics of an open document and, if it can't be checked against its schema, error lines that say
+/// why. Reads no files.
 fn diagnosed(
     alloc: Global,
     encoding: Encoding,
@@ -116,8 +116,8 @@ fn diagnosed(
     Ok(made)
 }
 
-/// Adds `complaint`, error lines about the schema of `document`, to `notices`. Does nothing if `complaint` is empty, or
-/// if it was the last to be shown for this document.
+/// Adds `complaint`, error lines about `document` and its schema, to `notices`. Does nothing if `complaint` is empty,
+/// or if it equals the last complaint that was shown for this document.
 fn show_complaint(
     document: &mut Open,
     notices: &mut String,
@@ -131,8 +131,8 @@ fn show_complaint(
     Ok(())
 }
 
-/// Returns the diagnostics and the version of the open document `uri`, or `None` if the document is not open. If its
-/// schema can't be used, adds error lines to `state.notices`, as `show_complaint` does. Reads no files.
+/// Returns the diagnostics and the version of the open document `uri`, or `None` if the document is not open. If it
+/// can't be checked against its schema, adds error lines to `state.notices`, as `show_complaint` does. Reads no files.
 fn diagnosed_at(
     alloc: Global,
     state: &mut State,

@@ -2,10 +2,10 @@
 use std::alloc::{AllocError, Global};
 use toml_span_lex::stop::Stop;
 
-/// The content of a message is not JSON.
+/// The content of a frame is not JSON.
 pub(crate) const PARSE_ERROR: i64 = -32700;
 
-/// A message is JSON, but not a valid message, or a request comes in the wrong phase of the server.
+/// The content of a frame is JSON but not a valid message, or a request came in the wrong phase of the server.
 pub(crate) const INVALID_REQUEST: i64 = -32600;
 
 /// The method of a request is not known.

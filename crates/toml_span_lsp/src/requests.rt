@@ -26,7 +26,7 @@ use toml_span_schema::Guide;
 struct AnswerOptions {
     /// Whether the client supports snippets.
     has_snippets: bool,
-    /// The maximum number of columns of an array on one line, or `None` if the client has not set one.
+    /// The width of a line for the formatter, in characters, or `None` if the client has not set one.
     width: Option<usize>,
 }
 

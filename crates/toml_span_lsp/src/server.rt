@@ -50,7 +50,7 @@ fn frames_of(alloc: Global, contents: &[Vec<u8>]) -> Result<Vec<u8>, AllocError>
     Ok(out)
 }
 
-/// Answers the message with this content. Returns the frames to write.
+/// Carries out the message with this content. Returns the frames to write.
 fn answer<D: Disk>(
     alloc: Global,
     state: &mut State,

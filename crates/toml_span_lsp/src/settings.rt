@@ -8,7 +8,7 @@ use toml_span_lookup::options::{LocalCopy, Options, Place};
 /// The settings of a client, except for those about schemas.
 #[derive(Clone, Copy)]
 pub(crate) struct Settings {
-    /// The maximum number of columns of an array on one line, or `None` if the client has not set one.
+    /// The width of a line for the formatter, in characters, or `None` if the client has not set one.
     pub width: Option<usize>,
     /// The version of TOML against which documents are checked.
     pub version: Version,

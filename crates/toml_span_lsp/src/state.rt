@@ -53,7 +53,7 @@ pub(crate) struct Open {
     pub version: Option<i64>,
     /// The path of the file, as `name_of` returns it.
     pub name: String,
-    /// The error lines that were last shown because the schema of the document can't be used, or an empty text.
+    /// The error lines that `show_complaint` showed last for the document, or an empty text.
     pub complaint: String,
 }
 

@@ -140,7 +140,8 @@ fn take<D: Disk>(
     }
 }
 
-/// Moves the lines of `state.notices` to `out`, each as a notification that shows the line to the user.
+/// Moves the lines of `state.notices` to `out`, each as a notification that shows the line to the user. The prefix
+/// `error: ` is left out.
 fn push_notices(
     alloc: Global,
     state: &mut State,
@@ -159,9 +160,9 @@ fn push_notices(
     Ok(())
 }
 
-/// Answers the message in `content`, the content of a frame. Returns the contents of the frames to send, in order.
-/// Reads schemas from `disk` when a document is opened or saved, or when settings change. Fails if an allocation fails.
-/// The message may then be carried out in part.
+/// Carries out the message in `content`, the content of a frame. Returns the contents of the frames to send, in order.
+/// Reads schemas from `disk` when a document is opened or saved, or when settings change. Fails if an allocation fails;
+/// the message may have been carried out in part by then.
 pub fn step<D: Disk>(
     alloc: Global,
     state: &mut State,

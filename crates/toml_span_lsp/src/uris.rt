@@ -42,8 +42,8 @@ fn last_part(uri: &str) -> &str {
     uri.rsplit('/').next().unwrap_or(uri)
 }
 
-/// Returns `path`, without `./` at its start, after the folder `root`, or after `./` if `root` is empty. Returns an
-/// absolute path unchanged. `root` must end with a slash or be empty.
+/// Returns `path` as a path in the folder `root`: without `./` at its start, after `root` or, if `root` is empty, after
+/// `./`. Returns an absolute path unchanged. `root` must end with a slash or be empty.
 pub(crate) fn rooted(alloc: Global, root: &str, path: &str) -> Result<String, AllocError> {
     let mut out = String::new(alloc);
     if !path.starts_with('/') {
@@ -53,8 +53,8 @@ pub(crate) fn rooted(alloc: Global, root: &str, path: &str) -> Result<String, Al
     Ok(out)
 }
 
-/// Returns the path of the document at `uri`. If `uri` does not name a file, returns its last part in the folder
-/// `root`.
+/// Returns the path of the document at `uri`. If `path_of_uri` returns `None`, it is the last part of `uri`, as a path
+/// in the folder `root` (see `rooted`).
 pub(crate) fn name_of(alloc: Global, root: &str, uri: &str) -> Result<String, AllocError> {
     match path_of_uri(alloc, uri)? {
         Some(path) => Ok(path),

@@ -13,8 +13,8 @@ use Rattle.toml_span_places.specs.declared.keys.Role.{Role}
 abbrev pub is_quote : ℕ → Bool
 is_quote c = c == quotation_mark || c == apostrophe
 
--- The span, with its quotes, of a key or single-line string that is read with the span `span`: that of the content or,
--- if the content is empty, of the opening quote.
+-- The span of a key or single-line string with its quotes, if it has quotes. `span` is the span that reading gives the
+-- key or string: that of its content or, if the content is empty, of its opening quote.
 abbrev pub with_quotes : List ℕ → Span → Span
 with_quotes text span =
     if nat_lt span.end (length text) && (nat_lt 0 span.start && is_quote (slice_index text (span.start - 1)))

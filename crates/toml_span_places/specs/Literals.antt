@@ -26,8 +26,8 @@ quotes_before text at =
     let quote = byte_before text at 1 in
     if is_quote quote && (byte_before text at 2 == quote && byte_before text at 3 == quote) then 3 else 1
 
--- The span, with its quotes, of a string that is read with the span `span`: that of the content or, for an empty
--- single-line string, of the opening quote.
+-- The span of a string with its quotes. `span` is the span that reading gives the string: that of its content or, for
+-- an empty single-line string, of its opening quote.
 abbrev pub string_literal : List ℕ → Span → Bool → Span
 string_literal text span empty =
     if not (nat_lt span.end (length text)) then span

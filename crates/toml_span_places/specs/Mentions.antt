@@ -45,8 +45,8 @@ abbrev pub by_header : ParsedSection → Option ℕ → Option Role → Option T
 by_header b e role form key =
     record { element = e; role = role; form = form; key = key; span = b.header_span; extent = b.extent }
 
--- The mention by `k`, the last part of the header of the section `b`, which names the path `p`. In single brackets it
--- names a table, in double brackets a new element of the array at `p`.
+-- The mention by `k`, the last part of the header of the section `b`. The header names the path `p`. In single
+-- brackets, the mention names a table; in double brackets, a new element of the array at `p`.
 abbrev pub last_mention : (Path → ℕ) → ParsedSection → Path → SimpleKey → Mentioned
 last_mention counts b p k =
     let role = Some roles.HeaderLast in (

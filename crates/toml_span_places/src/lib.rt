@@ -1,5 +1,5 @@
-//! Finds the keys, tables, values and lines of a TOML text, for editors and lints. Replaces parts of a text, and writes
-//! keys and values as TOML.
+//! Finds the keys, tables, values and lines of a TOML text, for editors and lints. Reads paths, replaces parts of a
+//! text, and writes keys and values as TOML.
 #![tactic(auto)]
 
 mod dotted;

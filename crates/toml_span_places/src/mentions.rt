@@ -96,7 +96,7 @@ fn by_value(role: Option<Role>, form: Option<TableForm>, key: Span, span: Span) 
     }
 }
 
-/// Appends to `out` the mention by `key`, the last part of a section's header. `path` is the path that the header
+/// Appends to `out` the mention by `key`, the last part of the header of `section`. `path` is the path that the header
 /// names, and `opened` counts the elements that earlier headers added to arrays of tables.
 fn push_last<'t, 'de>(
     alloc: Global,

@@ -16,7 +16,7 @@ use toml_span_read::gaps::byte_at;
 use toml_span_read::{Assignment, DottedKey, Section, Val, ValKind};
 use toml_span_tree::DateText;
 
-/// A form of syntax that TOML 1.0 lacks. The last three are not in any version of TOML, but this parser accepts them.
+/// A kind of syntax that TOML 1.0 lacks. The last three are not in any version of TOML, but this parser accepts them.
 #[derive(Clone, Copy, Debug, PartialEq, Eq)]
 pub enum NewerKind {
     /// A line end in an inline table, outside its pairs.

@@ -17,7 +17,7 @@ enum SortedStep<'t> {
     Position(usize),
 }
 
-/// The number of elements that the headers so far have added to each array of tables, by the path of the array.
+/// The number of elements that the headers so far have added to each array of tables, keyed by the array's path.
 #[derive(Drop)]
 pub(crate) struct ElementCounts<'t> {
     elements: BTreeMap<Vec<SortedStep<'t>>, usize>,

@@ -59,7 +59,7 @@ fn after_body(text: &str, body: Span) -> InsertionPoint
 }
 
 /// Returns the insertion point after the last section in `places` that fills the table at `path`, or `point` if no
-/// section there does.
+/// section does.
 fn last_point(
     text: &str,
     path: &[Step<'_>],

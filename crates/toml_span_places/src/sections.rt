@@ -67,7 +67,7 @@ fn body_of(text: &str, form: SectionForm, details: Details) -> Span
 }
 
 /// Returns the section of `mention`, which must be a mention by a part of a header, or the mention of the root. Returns
-/// `None` if it is by a part of a header before the last.
+/// `None` if that part is not the last part of its header.
 fn section_of<'t>(text: &str, mention: Mention<'t>) -> Result<Option<SectionPlace<'t>>, AllocError>
     ensures { IfOk result (λ place. option_map section_mention place
         ≡ spec.section_of text.now (mentioned mention.entry)) }

@@ -10,7 +10,7 @@ float_help name =
     then Some (codes "an f64 is finite, from -1.7976931348623157e308 to 1.7976931348623157e308")
     else None
 
--- a line of help with the range of a number type, or None for any other name
+-- a line of help with the range of a number type, or None for i64, isize and any other name
 unfoldable pub range_help : List ℕ → Option (List ℕ)
 range_help name =
     if bytes_eq name (codes "u8") then Some (codes "a u8 is from 0 to 255")

@@ -22,8 +22,8 @@ unfoldable pub bom_end : List ℕ → ℕ
 bom_end text =
     if slice_index text 0 == 0xEF && (slice_index text 1 == 0xBB && slice_index text 2 == 0xBF) then 3 else 0
 
--- the start of the line that contains an offset: after the last line feed before the offset or, on the first line,
--- after a byte order mark
+-- the start of the line that contains an offset: after the last line feed before the offset or, on the first line, at
+-- the start of the text, after a byte order mark unless the offset is 0
 unfoldable pub line_start : List ℕ → ℕ → ℕ
 line_start text zero = 0
 line_start text (suc i) = if suc i == bom_end text || slice_index text i == 10 then suc i else line_start text i

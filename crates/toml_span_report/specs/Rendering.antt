@@ -1,4 +1,4 @@
--- The text of a report.
+-- A report as text, and as one line.
 use Rattle.std.specs.Prelude.{ℕ, ◌-◌, max, Bool, true, false, nat_lt, nat_le, List, [], ◌∷◌, ◌++◌, codes, length}
 use Rattle.std.specs.Prelude.{Option, Some, None, if◌then◌else◌, replicate, take, nat_eq}
 use Rattle.std.specs.Fmt.{decimal}
@@ -165,7 +165,7 @@ abbrev pub before : List ℕ → List ℕ → List ℕ
 before sign [] = []
 before sign (x ∷ xs) = (x ∷ xs) ++ sign
 
--- the word before the code in a one-line report, which is empty for an error
+-- the word before the code in a one-line report, or nothing for an error
 abbrev pub grade : Severity → List ℕ
 grade Error = []
 grade Warning = codes "warning: "
@@ -176,7 +176,7 @@ grade Note = codes "note: "
 abbrev pub path_prefix : List ℕ → List ℕ
 path_prefix name = if starts_with nat_eq (trim_start name) (codes "::") then codes "./" else []
 
--- one line: `name:line:column: code: message`, with `warning: ` or `note: ` before the code
+-- one line, `name:line:column: code: message`; a warning or note has `warning: ` or `note: ` before the code
 abbrev pub brief : ReportContent → List ℕ → List StripContent → List ℕ
 brief r name parts =
     path_prefix name ++ shortened name ++ line_and_column (main_strip parts) ++ codes ": " ++ grade r.severity

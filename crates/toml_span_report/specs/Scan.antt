@@ -56,8 +56,8 @@ scanned text (suc i) = step text (scanned text i) i
 abbrev pub open_before : List ℕ → ℕ → Open
 open_before text at = scanned text (min at (length text))
 
--- `at` if the byte there opens a bracket, with which `depth` of them are open, otherwise `bracket`; the last such
--- offset among this many bytes, or 0; and the innermost bracket that is open before an offset, or 0 if none is open
+-- `at` if the byte there is a bracket that raises the depth to `depth`, otherwise `bracket`; the last such offset in
+-- this many bytes, or 0; and, for an offset, the innermost bracket that is open before it, or 0
 abbrev pub latest_opened : ℕ → Open → Open → ℕ → ℕ → ℕ
 latest_opened depth before after at bracket =
     if nat_lt before.depth depth && after.depth == depth then at else bracket

@@ -1,4 +1,4 @@
--- Strips: the parts of source lines that labels mark.
+-- Strips: the parts of source lines that labels mark. Windows: the parts of source lines that a report prints.
 use Rattle.std.specs.Prelude.{ℕ, ◌+◌, ◌-◌, min, Bool, false, ◌==◌, ◌&&◌, ◌||◌, nat_lt, nat_le, List, [], ◌∷◌, length}
 use Rattle.std.specs.Prelude.{take, drop, slice_range, Option, Some, None, if◌then◌else◌}
 use Rattle.std.specs.List.{fold, insert, position_or_len}
@@ -83,8 +83,8 @@ all_strips text marks = fold (λ parts mark. fold placed parts (strips_of text m
 abbrev pub is_near : Window → StripContent → Bool
 is_near window p = p.number == window.number && nat_le (p.at - window.first) 240
 
--- the start of the last strip in the window, widened to show the strips of the list before the first one that is not
--- near
+-- the start of the last strip in the window, after the window is widened to show the strips of the list before the
+-- first one that is not near
 abbrev pub last_near : Window → List StripContent → ℕ
 last_near window [] = window.last
 last_near window (p ∷ ps) =

@@ -1,4 +1,4 @@
--- The messages for unknown keys and unexpected values.
+-- Messages, notes, labels and help for unknown and deprecated keys, and for unexpected values.
 use Rattle.std.specs.Prelude.{ℕ, List, [], ◌∷◌, ◌++◌, ◌==◌, codes, length, if◌then◌else◌, Option}
 use Rattle.std.specs.List.{flat_map, join_by}
 use Rattle.std.specs.Option.{option_map, option_to_list}

@@ -165,7 +165,7 @@ pub(crate) fn begins(text: &str, at: usize, front: &[u8]) -> bool
     rest.starts_with(front)
 }
 
-/// Returns the number of bytes at the beginning of `bytes` that are of the class.
+/// Returns the position of the first byte in `bytes` that is not of the class, or the length of `bytes` if all are.
 fn run_of(class: Class, bytes: &[u8]) -> usize
     ensures value { result ≡ position_or_len (spec.is_out class) bytes.now }
     ensures within { result ≤ length bytes.now }

@@ -1,4 +1,4 @@
-//! How characters of the source are printed.
+//! How characters are printed, and how many columns they take.
 ghost use Rattle.std.specs.Prelude.{◌≡◌, ◌++◌, ◌<◌, IfOk, OnOk, string_bytes, replicate};
 ghost use Rattle.toml_span_report.specs.Characters as spec;
 
@@ -45,7 +45,7 @@ fn push_char(out: &mut String, c: char) -> Result<(), AllocError>
 }
 
 /// Appends `text` to `out` as a report prints it, with control characters and hidden characters replaced (`push_char`).
-/// If an allocation fails, `out` has a part of the text.
+/// If an allocation fails, `out` may have a part of the text.
 pub(crate) fn push_shown(out: &mut String, text: &str) -> Result<(), AllocError>
     ensures { OnOk result (string_bytes out.new ≡ string_bytes out.old ++ spec.shown text.now) }
 {
@@ -73,8 +73,8 @@ pub(crate) fn columns(text: &str) -> usize
     text.width()
 }
 
-/// Appends `times` copies of the ASCII character `c` to `out`. If an allocation fails, `out` has some of the
-/// characters.
+/// Appends `times` copies of the ASCII character `c` to `out`. If an allocation fails, `out` may have some of the
+/// copies.
 pub(crate) fn push_times(out: &mut String, times: usize, c: char) -> Result<(), AllocError>
     requires { c < 128 }
     ensures { OnOk result (string_bytes out.new ≡ string_bytes out.old ++ replicate times c) }

@@ -210,9 +210,9 @@ impl Report {
     /// - Each unknown key has a primary label. A note lists the expected keys, or says that the table can't have keys.
     ///   For each unknown key, a line of help names the nearest expected key, if one is near enough (`nearest`). Help
     ///   for an unexpected value names the nearest expected value, if one is near enough.
-    /// - The label at an unexpected character is empty, since the message names the character. Most errors of typed
-    ///   reads have other messages or labels, such as "missing key" with the name of the key. For most types of
-    ///   numbers, help for a number that is out of range states the range.
+    /// - The label at an unexpected character has no message, since the message of the report names the character. Most
+    ///   errors of typed reads have other messages or labels, such as "missing key" with the name of the key. For most
+    ///   types of numbers, help for a number that is out of range states the range.
     ///
     /// Fails if an allocation fails.
     pub fn from_error(alloc: Global, error: &Error<'_>, text: &str) -> Result<Report, AllocError>
@@ -248,7 +248,7 @@ pub fn render_error(
 }
 
 /// Appends the report of each error in `errors` to `reports`. `text` is the source. If an allocation fails, `reports`
-/// has the reports of some errors.
+/// may have the reports of some errors.
 pub(crate) fn push_errors(
     alloc: Global,
     errors: &DeserError<'_>,

@@ -40,7 +40,7 @@ pub(crate) struct Finding<'a> {
     pub(crate) other: Code<'a>,
 }
 
-/// What to write instead of a word or character that TOML does not have, such as `True` or a curly quote.
+/// What to write instead of a word or character that TOML does not have, such as `True` or a no-break space.
 #[derive(Clone, Copy)]
 pub(crate) struct Substitute {
     pub(crate) mistake: Mistake,

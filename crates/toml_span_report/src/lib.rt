@@ -1,5 +1,5 @@
 //! Makes reports of errors in TOML input, or of problems that a program finds itself. Formats reports as text, as one
-//! line, or as JSON.
+//! line, or as JSON. Explains error codes.
 #![tactic(auto)]
 
 mod bytes;

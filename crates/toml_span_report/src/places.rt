@@ -106,8 +106,8 @@ pub(crate) fn column(text: &str, at: usize) -> usize
     characters(&text[line_start(text, at)..at]) + 1
 }
 
-/// Returns the start of a span, moved back to the nearest character boundary. A start in the byte order mark of the
-/// text is moved to the end of the mark.
+/// Returns the start of a span, moved back to the nearest character boundary. A start before the end of a byte order
+/// mark at the start of the text is moved to the end of the mark.
 #[tactic(auto, unfolding(crate::specs::Places::span_start))]
 pub(crate) fn span_start(text: &str, span: Span) -> usize
     ensures value { result ≡ spec.span_start text.now span }
@@ -117,8 +117,8 @@ pub(crate) fn span_start(text: &str, span: Span) -> usize
 }
 
 /// Returns the end of a span, moved back to the nearest character boundary. If the span then ends with a line feed,
-/// returns the offset of the line feed. Returns `span_start` for a reversed span, and for an end in the byte order mark
-/// of the text.
+/// returns the offset of the line feed. Returns `span_start` for a reversed span, and for an end before the end of a
+/// byte order mark at the start of the text.
 #[tactic(auto, unfolding(crate::specs::Places::span_start, crate::specs::Places::span_end))]
 pub(crate) fn span_end(text: &str, span: Span) -> usize
     ensures value { result ≡ spec.span_end text.now span }

@@ -13,8 +13,8 @@ use toml_span_lex::stop::Stop;
 use toml_span_tree::Error;
 use toml_span_typed::DeserError;
 
-/// Appends the report of each warning to `reports`. `text` is the source. If an allocation fails, `reports` has the
-/// reports of some warnings.
+/// Appends the report of each warning to `reports`. `text` is the source. If an allocation fails, `reports` may have
+/// the reports of some warnings.
 fn push_warnings(
     alloc: Global,
     warnings: &[Error<'_>],

@@ -410,8 +410,8 @@ pub(crate) fn drawn_report(
 /// - a line with `name:line:column`, the start of the first primary label in the source or, if no label is primary, of
 ///   the first label. Line and column are counted from 1, the column in characters. Without labels, the line has only
 ///   `name`;
-/// - the source lines on which labels begin and end, in the order of the source. Marks are under them: `^` for a
-///   primary label, `-` for a secondary label;
+/// - the source lines on which labels begin and end, in the order of the source. Below each are marks: `^` for a
+///   primary label, `-` for a secondary label. The message of a label follows its last marks;
 /// - the notes and the help.
 ///
 /// Labels may have any spans. An offset inside a character, or beyond the source, is moved back to the nearest
@@ -502,7 +502,8 @@ fn brief(
 ///
 /// A warning or note has `warning: ` or `note: ` before the code. An empty code is left out. Line and column are those
 /// that `render` prints. Without labels, they are left out. A name that begins with `::`, as workflow commands of
-/// GitHub do, or with white space and `::`, gets the prefix `./`. Fails if an allocation fails.
+/// GitHub do, or with white space and `::`, gets the prefix `./`. The name, the code and the message are cut, and their
+/// control characters replaced, as in `render`. Fails if an allocation fails.
 pub fn render_line(
     alloc: Global,
     report: &Report,

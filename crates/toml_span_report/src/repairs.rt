@@ -83,8 +83,8 @@ fn push_label(
     Ok(())
 }
 
-/// Returns the labels of a finding. If `words.also` is not empty, the first is a secondary label at `also`. The last is
-/// the primary label, at `mark`.
+/// Returns the labels of a finding: a secondary label at `finding.also`, unless its message `words.also` is empty, and
+/// then the primary label at `finding.mark`.
 pub(crate) fn finding_labels(
     alloc: Global,
     finding: Finding<'_>,

@@ -117,8 +117,8 @@ pub(crate) fn open_before(text: &str, at: usize) -> Open
     state
 }
 
-/// Returns `at` if the byte there opens a bracket or brace, with which `depth` of them are open, otherwise `bracket`.
-/// `before` and `after` are what is open before and after the byte.
+/// Returns `at` if the byte there is a bracket or brace that raises the depth to `depth`, otherwise `bracket`. `before`
+/// and `after` are what is open before and after the byte.
 fn latest_opened(depth: usize, before: Open, after: Open, at: usize, bracket: usize) -> usize
     ensures { result ≡ spec.latest_opened depth before after at bracket }
 {

@@ -1,4 +1,4 @@
-//! Strips: the parts of source lines that labels mark.
+//! Strips: the parts of source lines that labels mark. Windows: the parts of source lines that a report prints.
 ghost use Rattle.std.specs.Prelude.{◌≡◌, ◌≤◌, ◌<◌, [], IfOk, OnOk, map};
 ghost use Rattle.std.specs.List.{fold};
 ghost use Rattle.std.specs.Str.{IsCharBoundary};
@@ -38,12 +38,12 @@ pub(crate) struct Strip<'a> {
     pub(crate) after: &'a str,
     pub(crate) is_cut_after: bool,
     pub(crate) is_primary: bool,
-    /// The message of the label, which may be empty. If the label ends on another line, only its last strip has it.
+    /// The message of the label, which may be empty. If the label has two strips, the message of the first is empty.
     pub(crate) message: &'a str,
 }
 
 /// Returns the strip from the offset `from` to the offset `to`, or to the end of the line of `from` if that comes
-/// first. `message` is the message of its label.
+/// first. `message` is the message of the strip.
 fn strip_at<'a>(
     text: &'a str,
     from: usize,
@@ -97,7 +97,7 @@ fn insert_strip<'a>(strips: &mut Vec<Strip<'a>>, strip: Strip<'a>) -> Result<(),
 }
 
 /// Inserts the strips of `label` into `strips`, which are sorted by their offsets. A label has a strip on its first
-/// line and, if it ends on another line, a strip there. If an allocation fails, `strips` may lack some of them.
+/// line and, if it ends on another line, a strip there. If an allocation fails, `strips` may lack strips of `label`.
 fn insert_label<'a, F>(
     strips: &mut Vec<Strip<'a>>,
     text: &'a str,
@@ -182,8 +182,9 @@ pub(crate) fn window_of(above: Option<Window>, strip: &Strip<'_>, strips: &[Stri
     window_from(own, strips)
 }
 
-/// Returns `strip` with its line cut to the part that `window` shows. The part begins 80 bytes before the first strip
-/// in the window, and ends 160 bytes after the start of the last one. Both ends are moved back to character boundaries.
+/// Returns `strip` with its line cut to the part that `window` shows. The part begins at most 80 bytes before the first
+/// strip in the window, and ends at most 160 bytes after the start of the last one. Both ends are moved back to
+/// character boundaries.
 #[tactic(auto, unfolding(crate::specs::Strips::seen_in))]
 pub(crate) fn seen_in<'a>(window: Window, strip: &Strip<'a>) -> Strip<'a>
     ensures { strip_content result ≡ spec.seen_in window (strip_content strip.now) }

@@ -1,4 +1,4 @@
-//! Finds the span to mark for an error, such as the token at which the error's span begins.
+//! Finds the span to mark for an error, such as that of the unexpected token.
 ghost use Rattle.std.specs.Prelude.{◌≡◌, IfOk};
 ghost use Rattle.std.specs.Str.{IsCharBoundary};
 ghost use Rattle.toml_span_tree.specs.Error.{kind_of};
@@ -35,8 +35,8 @@ fn token_end(alloc: Global, text: &str, at: usize) -> Result<Option<usize>, Allo
     }
 }
 
-/// Returns the end of the token that begins at the offset `at`, or the end of its line if that comes first. Returns
-/// `at` if no token begins there.
+/// Returns the end of the token that begins at the offset `at`, or the end of the line of `at` if that comes first.
+/// Returns `at` if no token begins there.
 fn token_mark_end(alloc: Global, text: &str, at: usize) -> Result<usize, AllocError>
     requires { IsCharBoundary text.now at }
     ensures { IfOk result (λ end. spec.MarksToken text.now at end) }
@@ -94,7 +94,8 @@ fn table_mark(text: &str, span: Span) -> Span
 }
 
 /// Returns the span to mark for an error of `kind` at `span`. If `is_at_token`, this is the token that begins there, up
-/// to the end of its first line. For `MissingField` it is the `table_mark`, otherwise `span`.
+/// to the end of its first line, or an empty span if no token begins there. For `MissingField` it is the `table_mark`,
+/// otherwise `span`.
 pub(crate) fn marked_span(
     alloc: Global,
     kind: &ErrorKind<'_>,

@@ -1,4 +1,5 @@
-//! The messages for unknown keys and unexpected values. If an allocation fails, the output so far is dropped.
+//! Messages, notes, labels and help for unknown and deprecated keys, and for unexpected values. If an allocation
+//! fails, the output so far is dropped.
 ghost use Rattle.std.specs.Prelude.{◌≡◌, ◌++◌, codes, IfOk, OnOk, map, option_map, string_bytes};
 ghost use Rattle.std.specs.Option.{option_to_list};
 ghost use Rattle.std.specs.List.{flat_map};

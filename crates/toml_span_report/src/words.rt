@@ -55,8 +55,8 @@ macro_rules! flag {
     ($flag:literal) => { $flag };
 }
 
-/// Expands to a `Mistake`. The arguments are the headline and the other fields of `Words` that are not empty, in their
-/// order.
+/// Expands to a `Mistake`. The arguments are the headline and, in their order, the other fields of `Words` that are
+/// neither empty nor `false`.
 macro_rules! words {
     ($headline:literal $(, label: $label:literal)? $(, also: $also:literal)? $(, help: $help:literal)?
         $(, joint: $joint:literal)? $(, is_safe: $safe:literal)?) => {

@@ -42,8 +42,8 @@ fn repeat(alloc: Global, times: usize, start: usize, text: &mut String) -> Resul
 pub fn push_text(alloc: Global, source: &str, text: &mut String) -> Result<bool, AllocError> {
     // The number of copies of the part to repeat, and the offset in `text` at which the part starts.
     let mut part = (1, 0);
-    // Whether the next piece begins with an escape. After an empty piece, it does not: the piece was an escaped
-    // backslash.
+    // Whether the backslash before the next piece begins an escape. It does not if the last piece is an escape and
+    // empty: the two backslashes around that piece are then one escape.
     let mut after = false;
     for piece in source.split('\\') {
         if !after {

@@ -1,8 +1,8 @@
-//! The texts of errors.
+//! Prints errors, their messages, diagnostics and clones.
 //!
-//! - `diagnostic KIND`: an error of a kind that typed reads cause, at 4..6, line 2 and column 3, with the names in the
-//!   text.
-//! - `diagnostics` of a text or of a typed read: the message of the error, and the diagnostic.
+//! - `diagnostic KIND`: an error of this kind, one of those that typed reads cause. The error is at 4..6, line 2 and
+//!   column 3. Its names or its message are in the text.
+//! - `diagnostics` of a text or of a typed read: the error with its message, and the diagnostic.
 //! - `copied` of a text or of a typed read: clones of the error's kind and of the error, and the diagnostic, each made
 //!   twice, and then the error.
 use crate::Row;
@@ -48,8 +48,8 @@ pub fn push_copies(alloc: Global, error: &Error<'_>, out: &mut Out) {
     out.debug(error);
 }
 
-/// Returns the kind of error that `word` names, or `None` for any other word. `text` has the names for the kind,
-/// separated by ` | `.
+/// Returns the kind of error that `word` names, or `None` for any other word. `text` is the message or the name in the
+/// error, or has two names, separated by ` | `.
 fn kind_of<'s>(word: &str, text: &'s str) -> Option<ErrorKind<'s>> {
     let (first, second) = text.split_once(" | ").unwrap_or((text, ""));
     Some(match word {

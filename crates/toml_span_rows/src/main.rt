@@ -1,15 +1,17 @@
 //! Calls public functions as rows say, and prints the answers.
 //!
 //! Each line of standard input is a row, `CALL WORDS: TEXT`, unless it is empty or begins with `#`. The program prints
-//! each line and, after a row, the answer, indented by four spaces. If a row can't be read, the answer is `no such
-//! row`, and the exit status is 1. Calls are described in the modules that answer them, and here:
+//! each line and, after a row, the answer, indented by four spaces. If a row can't be read, or its call is unknown or
+//! can't be made, the answer is `no such row`, and the exit status is 1. Calls are described in the modules that answer
+//! them, and here:
 //!
 //! - `cuts`: see the module `cuts`. `span_at POINTER`, `port_of`, `describe_port`: the results of these functions in
 //!   `uses`.
 //! - `holders`: the document, read as the `Holders` of `typed::structs`. `warned TYPE`: see `typed::warned`.
-//! - `span START END`: whether this span is empty, the span as a pair and as a range, and where it starts in the text.
+//! - `span START END`: whether this span is empty, the span as a pair and as a range and, if the span is in the text,
+//!   where it starts.
 //! - `copies START END`: two clones of a key whose name is the text, and two clones of the text, all with this span.
-//! - `load_file NAME`: see `typed::owned`. This is the only row that needs files.
+//! - `load_file NAME`: see `typed::owned`. This is the only call that needs files.
 #![tactic(auto)]
 
 mod cuts;
@@ -39,7 +41,7 @@ use typed::warned::push_warned;
 use uses::first::describe_port;
 use uses::{port_of, span_at};
 
-/// The answer to a row that can't be read.
+/// The answer to a row that can't be answered.
 const NO_SUCH_ROW: &str = "no such row";
 
 /// A row without its answer: the name of the call, its arguments (`words`), and the text after the colon.
@@ -100,7 +102,7 @@ fn push_answer(alloc: Global, row: Row<'_>, out: &mut Out) -> bool {
         || trees::answer(alloc, row, out)
 }
 
-/// Prints the answer to the row `line`. Returns whether the row could be read.
+/// Prints the answer to the row `line`. Returns whether the row could be answered.
 fn push_answered(
     rt: &HostRuntime,
     alloc: Global,
@@ -124,7 +126,8 @@ fn push_answered(
     Ok(push_answer(alloc, row, out))
 }
 
-/// Prints the answer to the row `line`, indented by four spaces. Returns whether the row could be read.
+/// Prints the answer to the row `line`, indented by four spaces, or `NO_SUCH_ROW`. Returns whether the row could be
+/// answered.
 fn push_row(rt: &HostRuntime, alloc: Global, line: &str, out: &mut Out) -> bool {
     let mut answer = Out::new(alloc);
     let answered = push_answered(rt, alloc, line, &mut answer);
@@ -142,7 +145,7 @@ fn push_row(rt: &HostRuntime, alloc: Global, line: &str, out: &mut Out) -> bool 
     known
 }
 
-/// Prints all lines, each row with its answer. Returns whether all rows could be read.
+/// Prints all lines of `input`, each row with its answer. Returns whether all rows could be answered.
 fn push_lines(rt: &HostRuntime, alloc: Global, input: &str, out: &mut Out) -> bool {
     let mut readable = true;
     for line in input.lines() {
@@ -155,8 +158,8 @@ fn push_lines(rt: &HostRuntime, alloc: Global, input: &str, out: &mut Out) -> bo
     readable
 }
 
-/// Prints the answers to the rows on standard input. Exits with status 1 if a row can't be read. Fails if a read, a
-/// write or an allocation fails.
+/// Prints the lines of standard input, each row with its answer. Exits with status 1 if a row can't be answered. Fails
+/// if a read, a write or an allocation fails.
 fn main(rt: HostRuntime) -> io::Result<ExitCode> {
     let alloc = rt.alloc();
     let input = io::read_to_string(alloc, rt.stdin())?;

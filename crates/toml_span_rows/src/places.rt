@@ -1,11 +1,12 @@
-//! Places in a text, for editors.
+//! Calls that find places in a text, as editors need them.
 //!
 //! - `key_places`: for each key, the path to what it names, its role, and its span without and with quotes.
 //! - `table_forms STEP ..`: how the text names the table at this path.
 //! - `insertion_point STEP ..`: where to insert a line into the table at this path, and the text with `new = 0` there.
-//! - `node_at OFFSET`: the path to the key or value at an offset, which of the two it is, its span, and the text there.
+//! - `node_at OFFSET`: the key or value at this offset: its path, whether it is a key or a value, its span, and its
+//!   text.
 //!
-//! A word that is a number is a position. Any other word is a key.
+//! A STEP that is a number is a position. Any other STEP is a key.
 use crate::Row;
 use crate::output::Out;
 use std::alloc::{AllocError, Global};
@@ -14,7 +15,7 @@ use toml_span::value::{Step, Value};
 use toml_span_places::{insertion_point, key_places, node_at, replaced, table_forms};
 use toml_span_read::Section;
 
-/// Converts words to the steps of a path.
+/// Converts words to the steps of a path: a number to a position, any other word to a key.
 fn steps_of<'r>(alloc: Global, words: &'r [String]) -> Result<Vec<Step<'r>>, AllocError> {
     let mut steps = Vec::new(alloc);
     for word in words {
@@ -84,7 +85,7 @@ pub fn push_point(alloc: Global, row: Row<'_>, sections: &[Section<'_>], out: &m
     }
 }
 
-/// Prints the answer to `node_at`. Returns `false` if the word is not an offset.
+/// Prints the answer to `node_at`. Returns `false` if the row's first word is not a number.
 pub fn push_node_at(alloc: Global, row: Row<'_>, root: &Value<'_>, out: &mut Out) -> bool {
     let Ok(offset) = row.word(0).parse::<usize>() else {
         return false;

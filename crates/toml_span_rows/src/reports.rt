@@ -1,8 +1,8 @@
-//! Reports on a text in the file `a.toml`, and keys and strings to write.
+//! Calls that print reports on a text in the file `a.toml`, find the nearest name, or quote a text.
 //!
-//! - `nearest WORD`: the name in the text that is nearest to the word. Spaces separate the names.
-//! - `without_labels MESSAGE`: a warning with three labels, and a note and an error without labels, with that message:
-//!   all together, one line each, and as JSON.
+//! - `nearest WORD`: what `nearest` returns for the word and the names in the text. Spaces separate the names.
+//! - `without_labels MESSAGE`: three reports with this message: a warning with three labels, and a note and an error
+//!   without labels. They are printed together, then as one line each, then as JSON.
 //! - `quoted`: the text as a JSON string. `quote_key`, `quote_string`: the text as a key and as a string of TOML.
 use crate::Row;
 use crate::output::Out;

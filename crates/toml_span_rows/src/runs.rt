@@ -1,9 +1,9 @@
-//! Runs `toml_span_show` on a reader and a writer in memory.
+//! The call `run`, which runs the program `toml_span_show` on a reader and a writer in memory.
 //!
 //! `run LIMIT WORD ..` calls `run` if the limit is 128, otherwise `run_with_limit`, and prints the status and the
-//! output. If the last word ends in `=each`, it then runs again with 1, 2 and so on in place of `each`, until the
-//! status of a run is not 3. For each of these runs, it prints a line with the status, and the numbers of bytes and
-//! calls for reads and for writes.
+//! output. In this run, `each` is 0. If the last word ends in `=each`, it then runs again with 1, 2 and so on in place
+//! of `each`, until the status of a run is not 3. For each of these runs, it prints a line with the status, and the
+//! numbers of bytes and calls for reads and for writes.
 //!
 //! | Word | Meaning |
 //! |---|---|
@@ -34,8 +34,8 @@ struct Ends {
 }
 
 impl Ends {
-    /// Sets the field that a word names. `each` is the number in a word that ends in `=each`. Returns `None` if the
-    /// word can't be read.
+    /// Sets the field that `word` names. If `word` ends in `=each`, the number is `each`. Returns `None` if `word`
+    /// can't be read.
     fn set(&mut self, word: &str, each: usize) -> Option<()> {
         let (name, number) = word.split_once('=')?;
         let number = match number {
@@ -55,8 +55,8 @@ impl Ends {
     }
 }
 
-/// Returns the behavior that the words describe, or `None` if a word can't be read. `each` is the number in a word that
-/// ends in `=each`.
+/// Returns the behavior that `words` describe, or `None` if a word can't be read. In a word that ends in `=each`, the
+/// number is `each`.
 fn ends_of(words: &[String], each: usize) -> Option<Ends> {
     let mut ends = Ends {
         read: usize::MAX,
@@ -162,8 +162,8 @@ fn run_on(alloc: Global, limit: usize, bytes: &[u8], ends: Ends) -> Ended<'_>
     }
 }
 
-/// Prints the status of a run, and its numbers of bytes and calls. If the output is not a prefix of `whole`, prints
-/// only the output.
+/// Prints the status of a run, and its numbers of bytes and calls. If the output of the run is not a prefix of `whole`,
+/// prints this output instead.
 fn push_front(ended: &Ended<'_>, whole: &[u8], out: &mut Out) {
     let bytes = ended.writer.bytes.as_slice();
     if !whole.starts_with(bytes) {
@@ -183,8 +183,8 @@ fn push_front(ended: &Ended<'_>, whole: &[u8], out: &mut Out) {
     }
 }
 
-/// Runs the program with 1, 2 and so on in place of `each`, and prints a line for each run. Stops after the first run
-/// with a status other than 3.
+/// Runs the program with 1, 2 and so on in place of `each` in `words`, and prints a line for each run. Stops after the
+/// first run with a status other than 3. `whole` is the run with 0 in place of `each`.
 fn push_each(alloc: Global, limit: usize, words: &[String], whole: &Ended<'_>, out: &mut Out)
     requires some { 1 ≤ limit }
     requires small { limit ≤ 128 }

@@ -1,7 +1,8 @@
 //! Calls on the sections of a text. If the text can't be read, they print its error.
 //!
-//! - `read LIMIT`: the sections, one per line. After each key, value and header there is `@` and its span, and after
-//!   each section and assignment `@` and its extent.
+//! - `read LIMIT`: the sections, one per line. Each key, header and value is followed by `@` and its span. The span of
+//!   a header is followed by `@` and the extent of the section, that of a value by `@` and the extent of the
+//!   assignment.
 //! - `key_places`, `insertion_point` and `table_forms`: see `places`.
 use crate::output::Out;
 use crate::trees::limit_of;
@@ -18,7 +19,7 @@ fn push_place(span: Span, out: &mut Out) {
     out.span(span);
 }
 
-/// Prints a key and the text `after`.
+/// Prints a key, its span, and the text `after`.
 fn push_key(key: &Key<'_>, after: &str, out: &mut Out) {
     out.push_str(key.name.as_ref());
     push_place(key.span, out);

@@ -1,12 +1,12 @@
 //! Calls on a `Tokenizer`.
 //!
-//! - `tokens`: the tokens of a text, one per line, up to the end of the text or the first error, and the offset after
-//!   an error.
-//! - `tokenizer OPERATIONS`: the results of these calls, made one after the other.
+//! - `tokens`: the tokens of the text, one per line, up to the end of the text or the first error. After an error, the
+//!   offset at which the tokenizer stopped.
+//! - `tokenizer OPERATION ..`: the results of these operations, one after the other.
 //!
-//! An operation is the name of a method. Some are followed by `=` and the expected token, such as `Equals` or, with its
-//! content, `Keylike(a)`, in which escapes may be used. `describe` prints the name of the next token, `clone` keeps a
-//! copy of the tokenizer, and `swap` continues with the copy.
+//! An operation is the name of a method, `describe` or `swap`. Some methods are followed by `=` and the expected token,
+//! such as `Equals` or, with its content, `Keylike(a)`, in which escapes may be used. `describe` prints the name of the
+//! next token, `clone` keeps a copy of the tokenizer, and `swap` exchanges the tokenizer and the copy.
 use crate::Row;
 use crate::output::Out;
 use std::alloc::{AllocError, Global};
@@ -16,8 +16,8 @@ use toml_span::tokens::{Error, Token, Tokenizer};
 use toml_span::value::Key;
 use toml_span::{Span, Stop};
 
-/// Returns the token that a word names, or `None` for any other word. For a string, the content is the literal with its
-/// quotes, `=`, and the value.
+/// Returns the token that `named` names, or `None` for any other text. For a string, the content is the literal with
+/// its quotes, `=`, and the value.
 fn token_of(named: &str) -> Option<Token<'_>> {
     let (kind, content) = match named.split_once('(') {
         Some((kind, content)) => (kind, content.strip_suffix(')')?),
@@ -64,8 +64,8 @@ fn push_holder(out: &mut Out, text: &CowStr<'_>) {
     });
 }
 
-/// Prints the token in `answer` or, if `in_words`, only its name. Prints `end` for `None`, or the error of a failed
-/// call.
+/// Prints the span and the token in `answer` or, if `in_words`, only the name of the token. Prints `end` for `None`,
+/// and the error of a failed call.
 fn push_step(
     out: &mut Out,
     answer: Result<Option<(Span, Token<'_>)>, Stop<Error>>,
@@ -86,7 +86,7 @@ fn push_step(
     }
 }
 
-/// Prints the key in `answer`, or the error of a failed call.
+/// Prints the span and the name of the key in `answer`, or the error of a failed call.
 fn push_key(out: &mut Out, answer: Result<Key<'_>, Stop<Error>>) {
     match &answer {
         Ok(key) => {
@@ -126,7 +126,8 @@ impl<'t> Tokenizers<'t> {
         true
     }
 
-    /// Calls the method with this name, and prints the result. Returns `false` for an unknown name.
+    /// Carries out the operation with this name, which has no argument, and prints the result. Returns `false` for an
+    /// unknown name.
     fn push_call(&mut self, alloc: Global, name: &str, out: &mut Out) -> bool {
         match name {
             "step" => push_step(out, self.used.step(alloc), false),
@@ -142,7 +143,8 @@ impl<'t> Tokenizers<'t> {
         true
     }
 
-    /// Calls the method with this name, which returns nothing. Returns `false` for an unknown name.
+    /// Carries out the operation with this name, which has no result to print, and prints `done`. Returns `false` for
+    /// an unknown name.
     fn push_quiet_call(&mut self, name: &str, out: &mut Out) -> bool {
         match name {
             "eat_whitespace" => self.used.eat_whitespace(),
@@ -160,8 +162,8 @@ impl<'t> Tokenizers<'t> {
     }
 }
 
-/// Calls methods of one tokenizer, in the order of the words, and prints a line for each. Returns `false` at a word
-/// that names no method.
+/// Carries out the operations that the words describe, in order, and prints a line for each. Returns `false` at an
+/// unknown operation.
 fn push_calls(alloc: Global, row: Row<'_>, out: &mut Out) -> bool {
     let mut tokenizers = Tokenizers {
         used: Tokenizer::new(row.text),
@@ -183,7 +185,8 @@ fn push_calls(alloc: Global, row: Row<'_>, out: &mut Out) -> bool {
     true
 }
 
-/// Prints the tokens of a text, one per line, up to the end of the text or the first error.
+/// Prints the tokens of a text, one per line, up to the end of the text or the first error. After an error, prints the
+/// offset at which the tokenizer stopped.
 fn push_tokens(alloc: Global, text: &str, out: &mut Out) {
     let mut tokenizer = Tokenizer::new(text);
     for _ in 0..=text.len() {

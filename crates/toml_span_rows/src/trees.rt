@@ -1,11 +1,11 @@
-//! Calls on the tree of a document. If the text is not valid TOML, they print its error.
+//! Calls on the tree of a document. If the text is not valid TOML, the answer is its error.
 //!
 //! - `parse LIMIT`: the lines of the tree. `twice` parses the text twice, and prints a word for the first result, then
 //!   the lines of the second.
-//! - `json`: the JSON value.
-//! - `again`: each value that is written in one piece, parsed again.
+//! - `json`: the tree as JSON.
+//! - `again`: whether each value that is written in one piece is the same when it is parsed again. See `pieces`.
 //! - `node_at OFFSET`: see `places`. `write OPERATION ..`: see `writes`. Typed reads: see `typed`.
-//! - `diagnostics`: the message of the error, and its diagnostic. `copied`: copies of the error.
+//! - `diagnostics`: the message of the error, and its diagnostic. `copied`: clones of the error (see `faults`).
 ghost use Rattle.std.specs.Prelude.{◌≤◌, IfSome};
 
 use crate::faults::{push_copies, push_twice};
@@ -39,7 +39,7 @@ pub(crate) fn limit_of(row: Row<'_>) -> Option<usize>
     }
 }
 
-/// Prints the JSON value of a tree, or `not whole`. If an allocation fails, tries once more.
+/// Prints a tree as JSON, or `not whole` if values have been taken. If an allocation fails, tries once more.
 fn push_json(alloc: Global, root: &Value<'_>, out: &mut Out) {
     if !root.is_whole() {
         return out.push_str("not whole");
@@ -54,7 +54,8 @@ fn push_json(alloc: Global, root: &Value<'_>, out: &mut Out) {
     }
 }
 
-/// Prints the answer to a call on a tree. Returns `false` if the call is unknown, or can't be made on this tree.
+/// Prints the answer to a call on a tree. Returns `false` if the call is unknown, if a word of the row is wrong, or if
+/// the call can't be made on this tree.
 fn push_call<'t>(alloc: Global, row: Row<'t>, root: &mut Value<'t>, out: &mut Out) -> bool {
     match row.call {
         "parse" | "twice" => push_lines(alloc, root, out),
@@ -76,8 +77,8 @@ fn push_refused(alloc: Global, call: &str, fault: &Error<'_>, out: &mut Out) {
     }
 }
 
-/// Prints the answer to a row. If the text is not valid TOML, this is its error, for any call. Returns `false` if the
-/// limit is wrong or, for a valid text, if this module has no such call or another word is wrong.
+/// Prints the answer to a row. If the text is not valid TOML, the answer is the error of the text, even for an unknown
+/// call. Returns `false` if the limit is wrong or, for a valid text, if `push_call` does.
 pub fn answer(alloc: Global, row: Row<'_>, out: &mut Out) -> bool {
     let Some(limit) = limit_of(row) else {
         return false;

@@ -1,6 +1,6 @@
-//! Typed reads. After the result of a call, the lines of the tree are printed as the call leaves it.
+//! Typed reads. The answer is the result of the call, and then the lines of the tree that the call leaves.
 //!
-//! - `typed TYPE` reads the value at `/a`, `typed_root TYPE` the root: the value, or the errors.
+//! - `typed TYPE` reads the value at `/a`, and `typed_root TYPE` reads the root. They print the result, or the errors.
 //! - `errors TYPE` reads the value at `/a`, and prints the result of each method of the `DeserError`. `diagnostics
 //!   TYPE` and `copied TYPE` print the last of these errors (see `faults`).
 //! - `merge TYPE TYPE` reads `/a` and `/b`, and appends the errors of the second to those of the first.
@@ -38,8 +38,8 @@ pub fn answer<'de>(alloc: Global, row: Row<'de>, root: &mut Value<'de>, out: &mu
     known
 }
 
-/// Prints the result of the row's call on the value at `/a`. Returns `false` if the value is missing, or if the call is
-/// unknown or can't be made on it.
+/// Prints the result of the row's call on the value at `/a`. Returns `false` if the value is missing, if the call is
+/// unknown, or if the call can't be made on this value.
 fn push_at<'de>(alloc: Global, row: Row<'de>, root: &mut Value<'de>, out: &mut Out) -> bool {
     match root.pointer_mut("/a") {
         Some(value) if row.call == "typed" => push_read(alloc, row.word(0), value, out),
@@ -69,8 +69,8 @@ fn push_call<'de>(alloc: Global, row: Row<'_>, value: &mut Value<'de>, out: &mut
     true
 }
 
-/// Reads the value at `/a`, for `merge` also the value at `/b`, and prints the errors. Returns `false` if a read
-/// returns no errors.
+/// Reads the value at `/a` and, for `merge`, the value at `/b`. Prints the errors, or only the last one for `copied`
+/// and `diagnostics`. Returns `false` if a read returns no errors.
 fn push_errors<'de>(alloc: Global, row: Row<'de>, root: &mut Value<'de>, out: &mut Out) -> bool {
     let Some(mut errors) = errors_at(alloc, row.word(0), root, "/a", out) else {
         return false;

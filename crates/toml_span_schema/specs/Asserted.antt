@@ -1,4 +1,4 @@
--- The keywords without subschemas, in the words of the standard.
+-- Which values the keywords without subschemas allow.
 use Rattle.std.specs.Prelude.{ℕ, nat_le, List, length, Bool, true, false, ◌&&◌, ◌||◌, not, string_bytes, String, Vec}
 use Rattle.std.specs.Prelude.{Option, Some, None, chars, []}
 use Rattle.std.specs.BTreeSet.{contains_text}
@@ -92,8 +92,8 @@ allows_items (keyword.MaxItems most) ns = nat_le (items_count ns) most
 allows_items keyword.UniqueItems ns = all_new [] (forms ns)
 allows_items _ ns = true
 
--- whether a keyword for objects, such as `required`, allows a table with this number of entries; other keywords allow
--- any
+-- whether a keyword for objects, such as `required`, allows the table `n`, which has `count` entries; other keywords
+-- allow any
 unfoldable pub allows_table_of : Keyword → ℕ → Node → Bool
 allows_table_of (keyword.MinProperties least) count n = nat_le least count
 allows_table_of (keyword.MaxProperties most) count n = nat_le count most
@@ -113,8 +113,8 @@ allows_kind s k n (array ns) = allows_items k ns
 allows_kind s k n (table ms) = allows_table_of k (members_count ms) n
 allows_kind s k n i = allows_quantity k (quantity_in i)
 
--- Whether a keyword without subschemas allows a value. For `enum` and `const`, the value is equal to one of the
--- elements in the keyword's array.
+-- Whether a keyword without subschemas allows a value. `enum` allows the values in its array, and `const` allows its
+-- value.
 unfoldable pub allows_simple : Schema → Keyword → Node → Bool
 allows_simple s keyword.Never n = false
 allows_simple s (keyword.Type types) n = has_type types (inner_of n)

@@ -13,8 +13,8 @@ use Rattle.toml_span_schema.specs.declared.numbers.Decimal.{Decimal}
 use Rattle.toml_span_schema.specs.declared.numbers.Number.{Number}
 use Rattle.toml_span_schema.specs.declared.numbers.Number.TheVariants.{Finite, Infinite, NotANumber}
 
--- The number 0.d1d2d3.. times the power of ten `point - 2^65`, or its negative. The first and the last digit are not 0,
--- so that each number has one form; zero has no digits.
+-- The number 0.d1d2d3.. * 10^(point - 2^65), or its negative. The first and the last digit are not 0, so that each
+-- number has one form; zero has no digits.
 pub record Plain : Type 0 where
   pub negative : Bool
   pub point : ℕ
@@ -54,7 +54,7 @@ significant (d ∷ ds) = if nat_lt 0 (significant ds) then significant ds + 1 el
 abbrev pub nothing : Plain
 nothing = record { negative = false; point = 0; digits = [] }
 
--- the number 0.d1d2d3.. times the power of ten `point - 2^65`, in the form of `Plain`
+-- the number 0.d1d2d3.. * 10^(point - 2^65) or, if `negative` is true, its negative, in the form of `Plain`
 abbrev pub normal : Bool → ℕ → List ℕ → Plain
 normal negative point digits =
     if nat_le (significant digits) (leading_zeros digits) then nothing

@@ -52,7 +52,7 @@ abbrev pub count : {A : Type 0} → (A → Verdict) → ℕ → List A → Optio
 count f n [] = Some n
 count f n (x ∷ xs) = counted (f x) (count f (n + 1) xs) (count f n xs)
 
--- the verdict on an element, or the given verdict without an element
+-- the verdict on the element or, if there is no element, the verdict `otherwise`
 abbrev pub optional : {A : Type 0} → (A → Verdict) → Verdict → Option A → Verdict
 optional f otherwise None = otherwise
 optional f otherwise (Some x) = f x
@@ -68,15 +68,16 @@ abbrev pub elements : Items → List Node
 elements no_items = []
 elements (item n ns) = n ∷ elements ns
 
--- `contains` with `minContains` and `maxContains`: whether an array has a number of valid elements in this range. All
--- other values are allowed.
+-- `contains` with `minContains` and `maxContains`: whether `least` to `most` elements of an array are valid. All other
+-- values are allowed.
 abbrev pub contains_enough : Judge → ℕ → ℕ → ℕ → Inner → Verdict
 contains_enough j k least most (array ns) =
     option_map (λ c. nat_le least c && nat_le c most) (count (λ n. j.valid k n) 0 (elements ns))
 contains_enough j k least most _ = Some true
 
--- `unevaluatedItems` and `unevaluatedProperties`: whether an element or entry is evaluated by the first node, or valid
--- against the second; the `Bool` is true for `unevaluatedProperties`; each keyword allows all parts of the other kind
+-- Whether `unevaluatedItems`, or `unevaluatedProperties` if `entries` is true, allows `part`, an element or entry of
+-- `n`. The schema `nodes.0` must evaluate `part`, or the value of `part` must be valid against `nodes.1`. But
+-- `unevaluatedItems` allows all entries, and `unevaluatedProperties` all elements.
 abbrev pub allows_part : Judge → Bool → ℕ × ℕ → Node → Part → Verdict
 allows_part j entries nodes n part =
     if same_bool (is_entry part) entries
@@ -120,7 +121,7 @@ allows s j (keyword.If c consequent alternative) n =
 allows s j (keyword.DependentSchemas es) n = dependents_allow j es.items n
 allows s j k n = allows_other s j k n
 
--- whether a value is valid against a subschema, and the subschema evaluates an entry or element of it
+-- whether a value is valid against a subschema that evaluates the given entry or element of the value
 abbrev pub covers : Judge → ℕ → Node → Part → Verdict
 covers j k n part = both (j.valid k n) (j.evaluates k n part)
 

@@ -1,4 +1,4 @@
-//! The subschemas that a keyword applies to the values inside a value.
+//! The subschemas that a keyword applies to the values inside a value, and the keys of a table.
 ghost use Rattle.std.specs.Prelude.{◌≡◌, ◌++◌, IfOk, OnOk, map};
 ghost use Rattle.toml_span_tree.specs.Value.{inner_of, members_view, view};
 ghost use Rattle.toml_span_schema.specs.Applied.{at_or_rest, matches, matching_for, otherwise, schemas_for};

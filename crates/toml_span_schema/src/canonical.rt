@@ -1,4 +1,4 @@
-//! Canonical texts: two values are equal if and only if their canonical texts are the same.
+//! Canonical texts: two values are equal for JSON Schema if and only if their canonical texts are the same.
 
 ghost use Rattle.std.specs.Prelude.{◌≡◌, ◌++◌, [], ◌∷◌, IfOk, OnOk, map, string_bytes};
 ghost use Rattle.toml_span_tree.specs.Value.{inner_of, items_view, members_view, view};
@@ -14,7 +14,7 @@ use std::collections::BTreeSet;
 use toml_span_tree::{Table, Value, ValueInner};
 
 /// The limit on how deep values nest. No document reaches this limit: a header has at most 128 parts, each of which can
-/// be an array and a table, and brackets and braces nest at most 128 levels deep.
+/// be an array and a table, and an assignment adds at most 128 levels.
 pub(crate) const LEVELS: usize = 1_000;
 
 /// Appends the length of `text` in bytes, a colon and `text`.

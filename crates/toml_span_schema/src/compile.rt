@@ -288,7 +288,7 @@ impl<'v, 'a> Compiler<'v, 'a> {
         }
     }
 
-    /// Returns the notes for people in the schemas of the tasks, in the same order.
+    /// Returns the `Notes` of each task's schema, in the order of `tasks`.
     fn notes(&self) -> Result<Vec<Notes>, AllocError> {
         let mut notes = Vec::new(self.alloc);
         for task in self.tasks.as_slice() {
@@ -299,8 +299,8 @@ impl<'v, 'a> Compiler<'v, 'a> {
     }
 
     /// Returns the index of the compiled form of the schema `value` at a place. Adds a task for the schema, unless it
-    /// already has one. `outer` is the scope in which the place is reached. `without_unevaluated` is as in `Site`. Fails
-    /// with `TooLarge` if `work` exceeds `MOST_WORK`.
+    /// already has one. `outer` is the scope in which the place is reached. `without_unevaluated` is as in `Site`.
+    /// Fails with `TooLarge` if `work` exceeds `MOST_WORK`.
     fn node(
         &mut self,
         value: &'v Json<'a>,
@@ -553,8 +553,8 @@ impl<'v, 'a> Compiler<'v, 'a> {
 
     /// Resolves `text`, the value of a `$dynamicRef` or `$recursiveRef` in the schema `site`, and returns the index of
     /// the compiled schema. If `text` names a dynamic anchor, and the scope of `site` has an anchor with the same name,
-    /// the result is the schema of that anchor. Otherwise, the result is the schema that `text` names. Fails like
-    /// `reference`.
+    /// the result is the schema of the anchor in the scope. Otherwise, the result is the schema that `text` names.
+    /// Fails like `reference`.
     pub(crate) fn dynamic_reference(
         &mut self,
         site: &Site<'v, 'a>,

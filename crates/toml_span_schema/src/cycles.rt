@@ -1,4 +1,4 @@
-//! Finds cycles of references and combinations that apply to the same value.
+//! Finds cycles, and the longest chain, of references and combinations that apply to the same value.
 
 use crate::error::SchemaError;
 use crate::keyword::{Keyword, Node};

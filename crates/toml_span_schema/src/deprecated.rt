@@ -13,8 +13,8 @@ use toml_span_report::Report;
 use toml_span_tree::Value;
 
 impl Schema {
-    /// Returns a warning for each value and each schema with `deprecated: true` that applies to the value, in the order
-    /// of the text. Each warning marks the value's key, or the value if it has no key.
+    /// Returns the warnings about deprecated values, in the order of the text: one each time a schema with
+    /// `deprecated: true` applies to a value. Each warning marks the value's key, or the value if it has no key.
     ///
     /// An alternative of `anyOf` or `oneOf` applies only if the value is valid against it. Schemas in `not`, `if`,
     /// `contains`, `propertyNames`, `unevaluatedItems` and `unevaluatedProperties` cause no warnings. Fails like

@@ -116,8 +116,8 @@ impl From<ParseError> for SchemaError {
 pub enum CheckError {
     /// An allocation failed.
     OutOfMemory,
-    /// The value nests too deep, references and combinations nest too deep, or a value to compare contains a taken
-    /// value.
+    /// The value nests too deep, or references and combinations nest too deep. Or a value that `enum`, `const` or
+    /// `uniqueItems` compares contains a taken value.
     TooDeep,
     /// The check takes too many steps.
     TooLong,

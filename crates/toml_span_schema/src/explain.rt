@@ -121,8 +121,8 @@ impl Schema {
         }
     }
 
-    /// Appends the reports on each entry or element that the schema at index `nodes.0` does not evaluate and that is
-    /// not valid against the schema at index `nodes.1`. Fails like `is_valid`.
+    /// Appends the reports on each entry that `unevaluatedProperties` does not allow, or on each element that
+    /// `unevaluatedItems` does not allow. `nodes` are as for `allows_part`. Fails like `is_valid`.
     #[cycle(explain)]
     fn explain_rest(
         &self,
@@ -193,10 +193,10 @@ impl Schema {
         Ok(())
     }
 
-    /// Appends the reports of the alternative with the least `distance` among the schemas at the indices `nodes`, each
-    /// with a note on the keyword `placed`. Appends one report on the value instead if the value is valid against one
-    /// of the schemas, if `nodes` is empty, or if the chosen alternative has more than `MOST_SHOWN` reports. Fails like
-    /// `is_valid`.
+    /// Appends the reports of the best alternative, which is the schema with the least `distance` among those at the
+    /// indices `nodes`. Adds a note on the keyword `placed` to each of these reports. Appends one report on the value
+    /// instead if the value is valid against one of the schemas, if `nodes` is empty, or if the best alternative has
+    /// more than `MOST_SHOWN` reports. Fails like `is_valid`.
     #[cycle(explain)]
     fn explain_best(
         &self,

@@ -1,4 +1,4 @@
-//! The formats of the keyword `format`, as regular expressions.
+//! The formats of the keyword `format`, as regular expressions, and the rule for leap seconds.
 ghost use Rattle.std.specs.Prelude.{◌≡◌, ◌<◌};
 ghost use Rattle.toml_span_schema.specs.Formats.{ahead, fits_leap, fits_leap_second, two_digits};
 

@@ -52,7 +52,8 @@ pub(crate) enum Keyword {
     Required(Vec<String>),
     /// Pairs of a key and a list of keys. A table with the key must have all keys in the list.
     DependentRequired(Vec<(String, Vec<String>)>),
-    /// `allOf`, or a reference as a list of one subschema.
+    /// `allOf`, or a list of one subschema: that of a reference, or the other keywords in a schema with
+    /// `unevaluatedItems` or `unevaluatedProperties`.
     AllOf(Vec<usize>),
     AnyOf(Vec<usize>),
     OneOf(Vec<usize>),

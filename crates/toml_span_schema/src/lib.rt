@@ -9,11 +9,13 @@
 //! - `schema.warnings(alloc, &value)` returns a warning for each value that the schema marks as deprecated.
 //! - `Guide::from_json` compiles a schema together with its notes for people, such as descriptions. For editors,
 //!   `guide.subschemas(alloc, value)` and `guide.subschemas_inside(alloc, outer, step, value)` return the `Subschemas`
-//!   that apply to a value. `keys_of`, `is_required`, `kinds_of` and `notes_of` return the keys, required keys, kinds
-//!   and notes in these subschemas.
+//!   that apply to a value. `keys_of`, `is_required`, `kinds_of` and `notes_of` return the keys in these subschemas,
+//!   whether they require a key, the kinds of values that they name, and their notes.
 //!
-//! A report's code is `schema-` and the keyword in kebab case, such as `schema-min-length`. The code is `schema-false`
-//! for the schema `false`, and `schema-additional-properties` for each unknown key.
+//! A report's code is `schema-` and the keyword in kebab case, such as `schema-min-length`. For an unknown key, the
+//! code is `schema-unevaluated-properties` if the keyword is `unevaluatedProperties`, otherwise
+//! `schema-additional-properties`. The code is `schema-false` for the schema `false`, except as the subschema for an
+//! entry or element. Warnings have the code `schema-deprecated`.
 #![tactic(auto)]
 
 mod applied;

@@ -1,4 +1,4 @@
-//! The messages of reports.
+//! The codes and messages of reports.
 
 use crate::keyword::{Keyword, Placed};
 use std::alloc::{AllocError, Global};

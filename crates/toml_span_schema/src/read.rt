@@ -614,8 +614,8 @@ fn texts(alloc: Global, value: &Json<'_>) -> Result<Option<Vec<String>>, AllocEr
     Ok(Some(list))
 }
 
-/// Reads `required` and, from draft 2019-09 on, `dependentRequired`. Fails with `Keyword` if one has a wrong value.
-/// Ignores a `dependentRequired` that is not an object.
+/// Reads `required` and, from draft 2019-09 on, `dependentRequired`. Fails with `Keyword` if `required` or a member of
+/// `dependentRequired` is not an array of strings. Ignores a `dependentRequired` that is not an object.
 fn read_names<'v, 'a>(
     compiler: &mut Compiler<'v, 'a>,
     site: &Site<'v, 'a>,

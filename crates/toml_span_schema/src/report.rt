@@ -16,8 +16,8 @@ impl Schema {
     ///
     /// Each report marks a value that a keyword does not allow, or a key that is not allowed. The report's notes name
     /// the keyword's place in the schema and the schema's title, if the schema has one. Fails with `TooDeep` if the
-    /// value nests too deep, with `TooLong` if the check takes too many steps, and with `OutOfMemory` if an allocation
-    /// fails.
+    /// value nests too deep (see `CheckError`), with `TooLong` if the check takes too many steps, and with
+    /// `OutOfMemory` if an allocation fails.
     #[tactic(auto, using(crate::proofs::Monotone::valid_more))]
     pub fn check(&self, alloc: Global, value: &Value<'_>) -> Result<Vec<Report>, CheckError>
         ensures verdict { IfOk result (λ reports.

@@ -128,8 +128,8 @@ fn draft_of(address: &str) -> Option<Draft> {
     }
 }
 
-/// Resolves a reference against the address `base`. Fails with `Reference` at the JSON pointer `place` if the result is
-/// not a URL.
+/// Resolves a reference against the address `base`. Fails with `Reference` at the JSON pointer `place` if `base` or the
+/// result is not a URL.
 pub(crate) fn joined(
     alloc: Global,
     base: &str,
@@ -251,7 +251,7 @@ impl<'v, 'a> Sources<'v, 'a> {
         Err(SchemaError::TooLarge)
     }
 
-    /// Adds the resource and the anchors that a schema defines to `self`, and its subschemas to `visits`. Fails like
+    /// Adds to `self` the resource and the anchors that a schema defines, and to `visits` its subschemas. Fails like
     /// `new`.
     fn visit(
         &mut self,

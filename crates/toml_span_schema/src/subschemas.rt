@@ -17,7 +17,8 @@ use toml_span_tree::{Value, ValueInner};
 /// The maximum number of subschemas that are found for one value. Further subschemas are left out.
 const MOST_SUBSCHEMAS: usize = 1_000;
 
-/// The maximum number of subschemas that are tried to choose among alternatives. Later alternatives are all chosen.
+/// The maximum number of subschemas that are tried to choose among alternatives, or between `then` and `else`. After
+/// that, all further alternatives are chosen, and `then` rather than `else`.
 const MOST_TRIED: u64 = 100_000;
 
 /// Subschemas that apply to a value.

@@ -38,9 +38,9 @@ fn is_between(least: u64, count: u64, most: u64) -> bool
 
 impl Schema {
     /// Returns whether a value is valid against the schema at index `node`. Takes 1 from `left` for each subschema that
-    /// is applied. Fails with `TooDeep` if more than `depth` subschemas nest, or if a value to compare nests too deep
-    /// or contains a taken value. Fails with `TooLong` if more than `left` subschemas are applied, or if a keyword
-    /// takes too many steps.
+    /// is applied. Fails with `TooDeep` if more than `depth` subschemas nest, or if a value that `enum`, `const` or
+    /// `uniqueItems` compares nests too deep or contains a taken value. Fails with `TooLong` if more than `left`
+    /// subschemas are applied, or if a keyword takes too many steps.
     #[cycle(valid)]
     pub(crate) fn is_valid(
         &self,
@@ -521,8 +521,8 @@ impl Schema {
         self.evaluates(alloc, left, depth, node, value, part)
     }
 
-    /// Returns whether the subschema at index `node` covers `part`, as `covers` does. Returns false if `node` is
-    /// `None`. Fails like `is_valid`.
+    /// Returns whether the subschema at index `node` covers `part` (see `covers`), or false if `node` is `None`. Fails
+    /// like `is_valid`.
     #[cycle(valid)]
     fn maybe_covers(
         &self,
@@ -543,7 +543,7 @@ impl Schema {
         }
     }
 
-    /// Returns whether one of the subschemas at the indices `nodes` covers `part`, as `covers` does. Fails like
+    /// Returns whether one of the subschemas at the indices `nodes` covers `part` (see `covers`). Fails like
     /// `is_valid`.
     #[cycle(valid)]
     fn any_covers(
@@ -566,8 +566,8 @@ impl Schema {
         Ok(false)
     }
 
-    /// Returns whether the subschema of a pair in `entries` covers `part`, as `covers` does. Only pairs whose keys are
-    /// in `value` count. Fails like `is_valid`.
+    /// Returns whether the subschema of a pair in `entries` covers `part` (see `covers`). Only pairs whose keys are in
+    /// `value` count. Fails like `is_valid`.
     #[cycle(valid)]
     fn dependents_cover(
         &self,

@@ -107,7 +107,7 @@ kind_of_reason (is.UnknownVariant name expected) =
     marked (codes "unexpected-value") (reason_text (is.UnknownVariant name expected)) []
 kind_of_reason reason = custom (reason_text reason)
 
--- the expected name that an unknown one probably means
+-- the expected name that is nearest to an unknown key or variant, if one is near enough (see `nearest`)
 abbrev pub meant_by : Reason → Option (List ℕ)
 meant_by (is.UnknownField name expected) = nearest (string_bytes name) (map string_bytes expected.items)
 meant_by (is.UnknownVariant name expected) = nearest (string_bytes name) (map string_bytes expected.items)
@@ -139,7 +139,7 @@ abbrev pub IsAt : Node → Stop Misfit → Type 0
 IsAt root (stop.Memory e) = ⊤
 IsAt root (stop.Fault m) = IsPlaceIn (path_of m.path.items) m.span root
 
--- The misfit has the line and the column of its span, if that starts in the text.
+-- The misfit has the line and the column of its span's start, if this start is in the text or at the end of the text.
 abbrev pub HasLine : List ℕ → Misfit → Type 0
 HasLine text m = m.span.start ≤ length text → m.line_info ≡ Some (line_info text m.span.start)
 
@@ -148,7 +148,7 @@ abbrev pub HasTree : List ℕ → (Node → Type 0) → Type 0
 HasTree text P = (root : Value) × IsTree text depth_limit root × P (view root)
 
 -- An allocation failed, or the text has no tree and the error is that of the parser. Or the text has a tree, and the
--- misfit is at a place in it and has the line and the column of its span.
+-- misfit is at a place in the tree and has the line and the column of its span's start.
 abbrev pub IsRefused : List ℕ → Stop Error → Type 0
 IsRefused text (stop.Memory e) = ⊤
 IsRefused text (stop.Fault (error.Refused e)) = IsRefusal text depth_limit (stop.Fault e)

@@ -88,7 +88,7 @@ abbrev pub UnlessMemory : Stop Misread → Type 0 → Type 0
 UnlessMemory (stop.Memory e) P = ⊤
 UnlessMemory (stop.Fault m) P = P
 
--- No piece is left, and the error is `Invalid` at the end of the row, unless an allocation failed.
+-- No piece is left. The error is `Invalid` at the end of the row, or a failed allocation.
 abbrev pub RunsOut : Reader → Stop Misread → Type 0
 RunsOut r stopped = (ahead r ≡ []) × IsMisread (λ why. why ≡ is.Invalid) r.next stopped
 
@@ -175,8 +175,8 @@ abbrev pub IsOtherIn : List Expected → Option Piece → Reason → Type 0
 IsOtherIn kinds None why = why ≡ is.Invalid
 IsOtherIn kinds (Some p) why = IsOther kinds (found_of p.content) why
 
--- the attempts after the reader goes back to the position `mark`: unless it is there already, an attempt that has read
--- the piece at `mark`
+-- the attempts after the reader goes back to the position `mark`: the same if it is there already, otherwise one
+-- attempt that has read the piece at `mark`
 abbrev pub tries_back_at : ℕ → Reader → Tries
 tries_back_at mark r = if r.next == mark then tries r.tried else noted_read mark
 
@@ -191,8 +191,8 @@ abbrev pub is_unknown : Option ℕ → ℕ → Bool
 is_unknown None count = false
 is_unknown (Some at) count = not (nat_lt at count)
 
--- the piece of an unknown variant: the key that was just compared with the names, or the text that was last read as the
--- name of a variant
+-- the position to report for an unknown variant: that of the piece that was looked at last if the piece is an unknown
+-- key, otherwise that of the text that was last read as the name of a variant
 abbrev pub variant_place : Reader → ℕ
 variant_place r = if r.is_unknown then r.at else r.variant_at
 
@@ -209,7 +209,7 @@ abbrev pub variant_names : Reader → List (List ℕ)
 variant_names r = if r.is_unknown then fields r else variants r
 
 -- the names to remember after a text was compared with `names` and found at the index `at`: those remembered before, or
--- all forms of `names` if `at` is out of range
+-- `all_forms names` if `at` is out of range
 abbrev pub held : List Name → ℕ → List (List ℕ) → List (List ℕ)
 held names at before = if nat_lt at (length names) then before else all_forms names
 

@@ -56,8 +56,9 @@ Reads old event.flattens new = ⊥
 abbrev pub Sees : (Piece → Type 0) → List Piece → List Piece → Type 0
 Sees P old new = (new ≡ old) × ((p : Piece) × (rest : List Piece) × (old ≡ p ∷ rest) × P p)
 
--- A key (`true`), or a string or key (`false`), is read, and `at` is the index in `names` that is found for it. But if
--- `names` asks for the start or the end of a span, `at` is that of the next piece, which is not read.
+-- For `true`, a key is read, and `at` is the index in `names` that is found for it. For `false`, a string or key is
+-- read in the same way. But if `names` asks for the start or the end of a span, `at` is that of the next piece, and
+-- nothing is read.
 abbrev pub Picks : List Piece → Bool → List Name → ℕ → List Piece → Type 0
 Picks old true names at new = (s : List ℕ) × TakesPiece (λ c. c ≡ key s) old new × Finds names s at
 Picks old false names at new =

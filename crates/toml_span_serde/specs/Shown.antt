@@ -13,7 +13,7 @@ use Rattle.toml_span_serde.specs.declared.misfit.Error.{Error}
 use Rattle.toml_span_serde.specs.declared.misfit.Error.TheVariants as error
 use Rattle.toml_span_serde.specs.declared.misfit.Misfit.{Misfit}
 
--- the report with a line of help that suggests a name, if there is one
+-- the report, with help that suggests the name if a name is given
 abbrev pub with_meant : Option (List ℕ) → ReportContent → ReportContent
 with_meant None report = report
 with_meant (Some name) report = with_help report (codes "did you mean `" ++ name ++ codes "`?")

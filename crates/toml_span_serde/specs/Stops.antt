@@ -31,11 +31,11 @@ abbrev mutual
   members_spots path (member name span n ms) =
       (path ++ (key name ∷ []), span) ∷ (spots (path ++ (key name ∷ [])) n ++ members_spots path ms)
 
--- the position of the piece that is reported: `at` or, after the last piece, 0, the position of the root's first piece
+-- the position of the piece that is reported: `at` or, if `at` is after the last piece, 0, where the root begins
 abbrev pub reported_piece : Node → ℕ → ℕ
 reported_piece root at = if nat_lt at (length (pieces root)) then at else 0
 
--- The misfit has the reason of the reader's error, and the path and span of its piece.
+-- The misfit has the reason of the reader's error, and the path and the span of the piece that is reported.
 abbrev pub IsOf : Node → Misread → Misfit → Type 0
 IsOf root m misfit = (misfit.reason ≡ m.reason)
     × (slice_get (spots [] root) (reported_piece root m.at) ≡ Some (path_of misfit.path.items, misfit.span))

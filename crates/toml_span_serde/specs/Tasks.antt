@@ -72,6 +72,6 @@ abbrev pub sorted_by : {X : Type 0} → (X → ℕ) → List X → List X
 sorted_by number [] = []
 sorted_by number (x ∷ xs) = put_by number x (sorted_by number xs)
 
--- entries in the order of their keys' starts
+-- entries in the order in which their keys start in the text
 abbrev pub by_start : List (Key × Value) → List (Key × Value)
 by_start entries = sorted_by (λ e. e.0.span.start) entries

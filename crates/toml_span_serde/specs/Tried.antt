@@ -33,7 +33,7 @@ missed at e t =
 abbrev pub noted_read : ℕ → Tries
 noted_read at = record { at = at; is_read = true; kinds = [] }
 
--- The kinds that failed attempts expected at a piece. If an attempt has read the piece, its kind was accepted, so the
--- list is empty.
+-- The kinds that failed attempts expected at the position `at`. The list is empty if the attempts were at another
+-- position, or if one of them has read the piece, whose kind was thus accepted.
 abbrev pub kinds_at : ℕ → Tries → List Expected
 kinds_at at t = if (t.at == at) && not t.is_read then t.kinds else []

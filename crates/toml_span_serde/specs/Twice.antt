@@ -11,8 +11,9 @@ use Rattle.toml_span_serde.specs.declared.twice.KeyPlace.{KeyPlace}
 abbrev pub key_place : KeyPlace → ℕ × Span
 key_place k = (k.at, k.span)
 
--- One step of a search backwards through the pieces. `depth` is the number of ended arrays and tables that the piece is
--- in, `place` is the position and span of the piece, and `further` continues the search with the pieces before it.
+-- One step of a search backwards through the pieces. `depth` is the number of arrays and tables around the piece whose
+-- ends the search has passed. `place` is the position and span of the piece, and `further` continues the search with
+-- the pieces before it.
 abbrev pub earlier_from : List (List ℕ) → ℕ → ℕ × Span → Content → (ℕ → Option (ℕ × Span)) → Option (ℕ × Span)
 earlier_from forms depth place (value s) further = further depth
 earlier_from forms depth place nothing further = further depth

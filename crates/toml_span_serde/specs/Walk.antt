@@ -1,5 +1,5 @@
--- The path to each piece of a row, and the number of elements of an array before it. A way is a path in reverse, from
--- its last step to its first.
+-- The path to each piece of a row, and the number of elements that have ended in the innermost open array. A way is a
+-- path in reverse, from its last step to its first.
 use Rattle.std.specs.Prelude.{ℕ, ◌+◌, List, [], ◌∷◌, map, reverse}
 use Rattle.toml_span_tree.specs.Path.{Step, key, position}
 use Rattle.toml_span_serde.specs.Pieces as row
@@ -35,12 +35,13 @@ abbrev pub walked : List row.Piece → Way → Way
 walked [] way = way
 walked (p ∷ ps) way = walked ps (after p.content way)
 
--- the position of the next element of an array, or 0 if the way ends with a key or is empty
+-- the position of the next element of an array, or 0 if the last step is a key or the way is empty
 abbrev pub next_position : Way → ℕ
 next_position (position i ∷ way) = i
 next_position way = 0
 
--- how many elements of the innermost open array have ended after these pieces, or 0 inside an entry of a table
+-- the number of elements that have ended in the innermost array that is open after these pieces, or 0 if no array is
+-- open or the pieces end inside an entry of a table
 abbrev pub elements_in : List row.Piece → ℕ
 elements_in before = next_position (walked before [])
 

@@ -1,4 +1,4 @@
-//! Reads types that derive serde's `Deserialize` from a document or a tree.
+//! Reads a document or tree as a type that derives serde's `Deserialize`.
 #![tactic(auto)]
 
 pub mod laws;

@@ -28,7 +28,7 @@ pub enum Expected {
     Float,
     Character,
     String,
-    /// A string that can be borrowed, because its value equals the text at its span.
+    /// A string that can be borrowed, because its value is empty or equals the text at its span.
     PlainString,
     Array,
     Table,

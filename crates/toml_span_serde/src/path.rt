@@ -1,7 +1,7 @@
 //! Paths from the root of a tree to the values of its pieces.
 //!
-//! Between two pieces, `downs` is the path to the next piece: the position of the next element for each open array, and
-//! the name for each entry whose value has not ended yet, from the root inwards.
+//! Between two pieces, `downs` is the path to the next piece, from the root inwards. It has a position for each open
+//! array: that of the element that is open or comes next. It has a name for each entry whose value has not ended yet.
 ghost use Rattle.std.specs.Prelude.{◌≡◌, [], IfOk, OnOk, Some, map, reverse};
 ghost use Rattle.toml_span_serde.specs.Misfits.{path_of, step_of};
 ghost use Rattle.toml_span_serde.specs.Tasks.{piece_content, piece_of};

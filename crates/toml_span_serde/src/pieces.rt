@@ -110,8 +110,8 @@ impl<'v> Content<'v> {
     }
 }
 
-/// Returns the number of pieces of the value at the start of `ahead`, or 1 for a key. Returns `None` if the end of the
-/// value is missing.
+/// Returns the number of pieces of the value at the start of `ahead`, or 1 for a key. Returns `None` if `ahead` is
+/// empty or the end of the value is missing.
 pub(crate) fn count_value(ahead: &[Piece<'_>]) -> Option<usize>
     ensures value { (n : Node) (rest : List Laid) → map piece_of ahead.now ≡ pieces n ++ rest
         → result ≡ Some (length (pieces n)) }

@@ -15,8 +15,8 @@ use toml_span_tree::Value;
 
 /// Reads a document as a type that derives `Deserialize`.
 ///
-/// Types such as `&str` borrow from the text. They can be read only from strings whose value equals the text at their
-/// span, so not from a string with an escape.
+/// Types such as `&str` borrow from the text. They can be read only from strings and keys whose value is empty or
+/// equals the text at their span, so not from a string with an escape.
 ///
 /// Fails with `Error::Refused` if the text is not valid TOML, and with `Error::Misfit` if a value does not fit the
 /// type. Fails with `Stop::Memory` if an allocation fails.
@@ -82,7 +82,7 @@ fn read_by<'de, T: Deserialize<'de>>(
     input: &'de [u8],
     reader: &mut Reader<'_, '_>,
 ) -> Result<T, Stop<Misread>> {
-    // serde's trait promises nothing about the result, so this function has no contract. The rows test each reason.
+    // serde's trait promises nothing about the result, so this function has no contract. Rows test each `Reason`.
     T::deserialize(alloc, &mut Deserializer::new(input, reader))
 }
 

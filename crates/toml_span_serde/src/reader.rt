@@ -1,5 +1,5 @@
-//! A `Format` of serde that reads a tree piece by piece. A piece is a scalar, a key, or the beginning or end of an
-//! array or table.
+//! A `Format` of serde that reads a tree piece by piece. A piece is a scalar, a taken value, a key, or the beginning or
+//! end of an array or table.
 ghost use Rattle.std.specs.Float.{binary32, binary64};
 ghost use Rattle.std.specs.Option.{option_and_then};
 ghost use Rattle.std.specs.Prelude.{◌≡◌, ◌+◌, ◌-◌, ◌<◌, ◌≤◌, ◌^◌, ◌∷◌, ◌++◌, ◌↔◌, ◌||◌, [], false, true, not, IfErr};
@@ -138,7 +138,7 @@ impl<'p, 'v> Reader<'p, 'v> {
         })
     }
 
-    /// Returns copies of the text of the piece at the position `at` (see `text_at`) and of the names.
+    /// Returns copies of the text of the piece at the position `at` (see `text_at`) and of `names`.
     fn named(&self, at: usize, names: &[String]) -> Result<(String, Vec<String>), AllocError>
         ensures { IfOk result (λ error. (string_bytes error.0 ≡ piece_text_in (slice_get (laid self.now) at))
             × (map string_bytes error.1.items ≡ map string_bytes names.now)) }
@@ -147,7 +147,8 @@ impl<'p, 'v> Reader<'p, 'v> {
         Ok((name, copied(self.alloc, names)?))
     }
 
-    /// Returns the position of the piece that names an unknown variant.
+    /// Returns the position to report for an unknown variant: `self.at` if the piece there is an unknown key, otherwise
+    /// `self.variant_at`.
     fn variant_place(&self) -> usize
         ensures { result ≡ variant_place self.now }
     {
@@ -190,9 +191,9 @@ impl<'p, 'v> Reader<'p, 'v> {
         }
     }
 
-    /// Records the key at `self.at` for later errors. `span` is the span of the key, and `found` is the position of the
-    /// key's name in `names`. If the name has aliases, records the key, its name and the aliases. If `found` is out of
-    /// range, the key is unknown, and `all_forms(names)` is recorded.
+    /// Records what later errors need of the key at `self.at`. `span` is the span of the key, and `found` is the
+    /// position of the key's name in `names`. If the name has aliases, records the key, its name and the aliases. If
+    /// `found` is out of range, the key is unknown, and `all_forms(names)` is recorded.
     fn note_key(
         &mut self,
         span: Span,
@@ -284,8 +285,8 @@ impl<'p, 'v> Reader<'p, 'v> {
         }
     }
 
-    /// Reads a string or key, and returns its text. Fails with `Wanted` and the kind `expected` if the next piece is of
-    /// another kind. Also fails if no piece is left.
+    /// Reads a string or key, and returns its text. If the next piece is neither a string nor a key, fails with
+    /// `Wanted`, which names `expected`. Also fails if no piece is left.
     fn text(&mut self, expected: Expected) -> Result<&'v str, Stop<Misread>>
         ensures text { IfOk result (λ text. TakesPiece (IsText text.now) (ahead self.old) (ahead self.new)) }
         ensures misses { IfErr result (IsMisread (Misses IsAnyText expected (ahead self.old)) self.old.next) }
@@ -299,7 +300,7 @@ impl<'p, 'v> Reader<'p, 'v> {
         }
     }
 
-    /// Reads an integer. Fails with `Wanted` if the next piece is of another kind. Also fails if no piece is left.
+    /// Reads an integer. Fails with `Wanted` if the next piece is not an integer. Also fails if no piece is left.
     fn integer(&mut self) -> Result<i64, Stop<Misread>>
         ensures integer { IfOk result (λ z. TakesPiece (λ c. c ≡ value (integer z)) (ahead self.old) (ahead self.new)) }
         ensures misses { IfErr result (IsMisread (Misses IsAnyInteger expected.Integer (ahead self.old))

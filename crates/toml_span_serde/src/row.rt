@@ -1,5 +1,5 @@
-//! A tree as a row of pieces, which a `Reader` reads. A piece is a scalar, a key, or the beginning or end of an array
-//! or table.
+//! A tree as a row of pieces, which a `Reader` reads. A piece is a scalar, a taken value, a key, or the beginning or
+//! end of an array or table.
 ghost use Rattle.std.specs.Prelude.{◌≡◌, ◌<◌, [], IfOk, OnOk, Some, length, slice_get};
 ghost use Rattle.toml_span.specs.Ordered.{HasOneEach, IsOrdered};
 ghost use Rattle.toml_span_tree.specs.Node.{Node};
@@ -18,8 +18,8 @@ use std::alloc::{AllocError, Global};
 use toml_span_lex::stop::Stop;
 use toml_span_tree::Value;
 
-/// A tree as a list of pieces, which a `Reader` reads: a piece for each scalar and key, and two for each array and
-/// table, at its beginning and end.
+/// A tree as a list of pieces, which a `Reader` reads: a piece for each scalar, taken value and key, and two for each
+/// array and table, at its beginning and end.
 #[derive(Drop)]
 pub struct Row<'v> {
     pieces: Vec<Piece<'v>>,
@@ -45,8 +45,8 @@ impl<'v> Row<'v> {
     }
 
     /// Converts an error of a reader of this row to a misfit. The misfit has the span of the piece at which the read
-    /// stopped, and the path to the value of that piece. If no piece was left to read, the misfit is at the root.
-    /// `Stop::Memory` stays as it is, and is also returned if an allocation fails.
+    /// stopped, and the path to the value of that piece or, for a key, to the value that the key names. If no piece was
+    /// left to read, the misfit is at the root. Passes on `Stop::Memory`, and also returns it if an allocation fails.
     pub fn stopped(&self, alloc: Global, stop: Stop<Misread>) -> Stop<Misfit>
         ensures place { (n : Node) → pieces_in self.now ≡ pieces n → HasOneEach n → IsAt n result }
         ensures reported { (n : Node) → pieces_in self.now ≡ pieces n → IsStopOf n stop result }

@@ -15,7 +15,7 @@ pub(crate) const END: &str = "$toml_span::end";
 
 /// A value, or the key of a map, with its span. Comparisons ignore the span.
 ///
-/// Only a `Reader` of this crate knows spans. Reading a `Spanned` from another format fails.
+/// A `Spanned` must be read with a `Reader` of this crate, since other formats of serde don't know spans.
 #[derive(Debug, Drop)]
 #[derive_where(PartialEq, Eq, PartialOrd, Ord; T)]
 pub struct Spanned<T> {

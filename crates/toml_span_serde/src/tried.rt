@@ -13,7 +13,7 @@ use std::alloc::{AllocError, Global};
 pub(crate) struct Tried {
     /// The position of the piece among all pieces, counted from 0.
     at: usize,
-    /// Whether an attempt has read the piece, and failed at a later piece.
+    /// Whether an attempt has read the piece, and failed after that.
     is_read: bool,
     /// The kinds that other attempts expected, each once.
     kinds: Vec<Expected>,
@@ -67,8 +67,8 @@ impl Tried {
         self.kinds.clear();
     }
 
-    /// Returns the kinds that attempts expected at the position `at`. The list is empty if an attempt has read the
-    /// piece there.
+    /// Returns the kinds that attempts expected at the position `at`. The list is empty if the attempts were at another
+    /// position, or if one of them has read the piece.
     pub(crate) fn kinds_at(&self, at: usize) -> &[Expected]
         ensures { result.now ≡ kinds_at at (tries self.now) }
     {

@@ -28,8 +28,8 @@ fn is_among(texts: &[String], text: &str) -> bool
     false
 }
 
-/// Returns the last key in `before` that equals one of `forms`, or `None` if no key does. Looks only at keys of the
-/// innermost table that is open after `before`.
+/// Returns the last key in `before` that belongs to the innermost table open after `before`, and that equals one of
+/// `forms`. Returns `None` if no key does.
 pub(crate) fn earlier(before: &[Piece<'_>], forms: &[String]) -> Option<KeyPlace>
     ensures { option_map key_place result
         ≡ spec.earlier (map string_bytes forms.now) 0 (reverse (map piece_of before.now)) }

@@ -1,4 +1,4 @@
-//! Reads TOML from standard input, and prints the tree, one line for each value with its span, or the error.
+//! Reads TOML from standard input. Prints a line for each value, with its span, or a line for the error.
 #![tactic(auto)]
 
 use std::process::ExitCode;

@@ -1,4 +1,4 @@
--- The result for the bytes of a document.
+-- The result of parsing bytes.
 use Rattle.std.specs.Prelude.{◌≡◌, ℕ, List}
 use Rattle.toml_span.specs.Parsing.{IsTree, IsRefusal}
 use Rattle.toml_span_c.specs.Calls.{IsText}

@@ -12,7 +12,8 @@ laid zero [] (y ∷ ys) = y ∷ ys
 laid zero (x ∷ xs) (y ∷ ys) = x ∷ laid zero xs ys
 laid (suc at) xs (y ∷ ys) = y ∷ laid at xs ys
 
--- The bytes `added` were written after the first `m` bytes, as many as fit, and `total` counts all of them.
+-- The bytes `added` were written after the first `m` bytes, as many as fit. `total` counts the first `m` bytes and all
+-- of `added`.
 pub record PutsBytes (m : ℕ) (added old new : List ℕ) (total : ℕ) : Type 0 where
   pub bytes : new ≡ laid m added old
   pub count : total ≡ m + length added
@@ -29,7 +30,7 @@ pub record Fits (document : List ℕ) (k m : ℕ) (es : List Entry) : Type 0 whe
   pub short : m + length (strings_of document es) ≤ NONE
 
 -- The records and the bytes of the entries `es` were written after the first `k` records and `m` bytes, as many as fit.
--- `total` counts all of them.
+-- `total` counts the first `k` records and `m` bytes, and all records and bytes of `es`.
 pub record Puts (document : List ℕ) (k m : ℕ) (es : List Entry) (old new : List Record) (bytes bytes' : List ℕ)
     (total : Counts) : Type 0 where
   pub nodes : new ≡ laid k (records_of document m es) old

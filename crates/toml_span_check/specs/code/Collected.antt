@@ -23,7 +23,8 @@ Holds task old new text held = HoldsRest old new text held × ((held ≡ text) �
 
 -- ---- the bytes of a file
 
--- A document is being printed, and a prefix of the buffered text `held` and the answer has been written.
+-- The task is to print documents. A prefix of the buffered text `held`, followed by the text of the answer, has been
+-- written.
 abbrev pub Begun : Says → Format → Task → List ℕ → List ℕ → List ℕ → Option (List ℕ) → Option (List ℕ) → List ℕ → Type 0
 Begun says format task pointer name bytes old new held =
     Shows task × ((answer : Answer) × IsAnswer says format task pointer name bytes answer

@@ -1,4 +1,4 @@
--- What the functions that read paths return.
+-- What the functions that read paths return, and what `dotted` has read after each step.
 use Rattle.std.specs.Prelude.{◌≡◌, ℕ, Bool, List, ◌++◌, Result, Ok, Err}
 use Rattle.std.specs.Cow.{cow_str_bytes}
 use Rattle.std.specs.declared.borrow.CowStr.{CowStr}
@@ -39,7 +39,7 @@ abbrev pub prefixed : List (List ℕ) → Outcome → Outcome
 prefixed names (Ok segments) = Ok (names ++ segments)
 prefixed names (Err e) = Err e
 
--- The whole text is a dotted key with positions whose segments are `names` and then those of the steps from i on,
--- whatever these are.
+-- Whatever the outcome of the steps from i to the end of the text is: with `names` put before its segments, it is the
+-- outcome of the whole text as a dotted key with positions.
 abbrev pub AfterSegments : List ℕ → List (List ℕ) → ℕ → Type 0
 AfterSegments text names i = (rest : Outcome) → Steps text i rest → IsDotted text (prefixed names rest)

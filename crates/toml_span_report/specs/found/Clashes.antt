@@ -16,7 +16,7 @@ use Rattle.toml_span_report.specs.declared.words.TheConstants.{TABLE_TWICE, THRO
 abbrev pub header_end : List ℕ → ℕ → ℕ
 header_end text at = start_of class.Blank text (end_of class.Left text at)
 
--- the finding for two headers of the same table or array of tables
+-- the finding for two headers of one table, or for a header of a table and one of an array of tables with the same path
 unfoldable pub table_twice : List ℕ → Span → Span → FindingContent
 table_twice text span first =
     let was_array = begins text first.start (codes "[[") in

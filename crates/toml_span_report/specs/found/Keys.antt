@@ -111,8 +111,8 @@ other_sign mistake text from to =
     then mended mistake (span_of from to) (span_of start stop) (pieces key (codes " = ") (part text value stop))
     else other_word mistake text key (span_of from to) (span_of start stop) value
 
--- the end of the array that replaces a list in the style of YAML; and the finding for such a list, whose code has one
--- or two elements, and `..` if there are more
+-- the end of the array that replaces a list in the style of YAML; and the finding for such a list, whose code is a
+-- header if the first item is a table, otherwise an array of one or two elements, and `..` for more
 abbrev pub closing_of : Bool → Bool → List ℕ
 closing_of are_values has_more =
     if are_values then (if has_more then codes ", ..]" else codes "]")
@@ -171,7 +171,7 @@ lone_key text end =
     if bytes_eq (part text start end) (codes "---") then marked (said DOCUMENT_MARKER) start end
     else marked (said NO_VALUE) start end
 
--- the finding for a key of several words
+-- the finding for a key of several words, or for a keyword before a key
 unfoldable pub spaced_key : List ℕ → ℕ → ℕ → ℕ → FindingContent
 spaced_key text end at stop =
     let start = start_of class.Name text end in
@@ -200,7 +200,7 @@ second_word text end at =
     else if slice_index text (end_of class.Left text at) == 61 then None
     else Some (other_sign (said NO_EQUALS) text at at)
 
--- the finding for the token `found`, where `=` is expected
+-- the finding for the token that `found` names, where `=` is expected
 unfoldable pub at_equals : List ℕ → List ℕ → ℕ → Option FindingContent
 at_equals found text at =
     let end = start_of class.Blank text at in
@@ -246,7 +246,7 @@ missing_key mistake text at =
     else if begins text at (codes "=======") then marked (said CONFLICT) at (last_of_line text at)
     else marked mistake at (ahead text at 1)
 
--- the finding for the token `found`, where a key is expected
+-- the finding for the token that `found` names, where a key is expected
 unfoldable pub at_key : List ℕ → List ℕ → ℕ → Option FindingContent
 at_key found text at =
     if bytes_eq found (codes "a period") then Some (extra (said EXTRA_DOT) text at)

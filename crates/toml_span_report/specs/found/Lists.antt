@@ -31,7 +31,7 @@ unclosed text at =
 unfoldable pub open_end : List ℕ → ℕ → Option FindingContent
 open_end text at = if nat_lt 0 (open_before text at).depth then Some (unclosed text at) else None
 
--- the finding for the end of a line or of the text, where a key is expected
+-- the finding for a comment, or the end of a line or of the text, where a key is expected
 unfoldable pub unfinished_key : List ℕ → ℕ → Option FindingContent
 unfinished_key text at =
     if byte_before text at == 46 || is_in_header text (open_before text at)
@@ -83,7 +83,7 @@ equals text at =
     if begins text (at - 1) (codes "==") then Some (other_sign (said EQUALS) text (at - 1) (ahead text at 1))
     else None
 
--- the finding for the token `found`, where a value is expected
+-- the finding for the token that `found` names, where a value is expected
 unfoldable pub at_value : List ℕ → List ℕ → ℕ → Option FindingContent
 at_value found text at =
     if bytes_eq found (codes "a comma") then extra_comma text at
@@ -161,8 +161,8 @@ abbrev pub is_glue : List ℕ → Bool
 is_glue found =
     bytes_eq found (codes "a period") || bytes_eq found (codes "a colon") || bytes_eq found (codes "a plus")
 
--- the finding for the token `found`, where `]` is expected in an array (`in_array`) or also in a header (`at_bracket`),
--- and where a comma is expected in an inline table (`at_comma`)
+-- the findings for the token that `found` names: where `]` is expected in an array (`in_array`), or in an array or
+-- header (`at_bracket`), and where a comma is expected in an inline table (`at_comma`)
 abbrev pub in_array : List ℕ → List ℕ → ℕ → Option FindingContent
 in_array found text at =
     if bytes_eq found (codes "eof") then Some (unclosed text at)

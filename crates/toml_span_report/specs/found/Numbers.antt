@@ -38,8 +38,8 @@ abbrev pub base_of : ℕ → ℕ
 base_of letter =
     if letter == 120 || letter == 88 then 16 else if letter == 111 || letter == 79 then 8 else 2
 
--- the value of a number that continues with the byte b; and the value of the first bytes of a number, at most 2 ^ 64 -
--- 1, or None if one of them is neither `_` nor a digit in this base
+-- the value of a number after the byte b is appended, and the value of the first bytes of a number: capped at
+-- 18446744073709551615, or None if a byte is neither `_` nor a digit in this base
 abbrev pub next_value : Option ℕ → ℕ → ℕ → Option ℕ
 next_value None base b = None
 next_value (Some value) base b =
@@ -160,8 +160,8 @@ integer text start digits end =
     let number = part text digits end in
     integer_value text start digits end (value_of number 10 (length number))
 
--- whether the byte at `at` is a `_` that lacks a digit on at least one side; and whether such a `_` is among the first
--- n bytes
+-- whether the byte at `at` is a `_` that lacks a digit on at least one side; and whether such a `_` is among this many
+-- bytes at the beginning
 abbrev pub is_misplaced : List ℕ → ℕ → Bool
 is_misplaced number at =
     slice_index number at == 95

@@ -1,4 +1,4 @@
--- Mistakes in strings: missing quotes, and invalid characters and escapes.
+-- Mistakes in strings and quoted keys: missing or wrong quotes, and invalid characters and escapes.
 use Rattle.std.specs.Prelude.{ℕ, ◌+◌, ◌-◌, ◌*◌, ◌==◌, ◌&&◌, ◌||◌, Bool, not, nat_lt, nat_le, List, [], ◌∷◌, codes}
 use Rattle.std.specs.Prelude.{slice_index, Option, Some, None, if◌then◌else◌}
 use Rattle.toml_span_report.specs.Bytes.{ahead, begins, end_of, first_of_line, last_of_line, part, start_of}

@@ -15,7 +15,7 @@ use Rattle.toml_span_report.specs.declared.words.TheConstants.{CONFLICT, CURLY_Q
 use Rattle.toml_span_report.specs.declared.words.TheConstants.{OTHER_SIGN, OTHER_SPACE, PARENTHESES, SEMICOLON}
 use Rattle.toml_span_report.specs.declared.words.TheConstants.{SEMICOLONS, SLASHES}
 
--- the TOML character that the character c looks like, and the Unicode name of c
+-- what to write instead of the character c, if c looks like an ASCII character or is invisible
 unfoldable pub look_alike : ℕ → Option SubstituteContent
 look_alike c =
     if c == 0xA0 then Some (as_substitute (said OTHER_SPACE) (codes "NO-BREAK SPACE (U+00A0)") (codes " "))

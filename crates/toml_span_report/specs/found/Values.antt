@@ -38,7 +38,7 @@ near_boolean word =
     else if is_within_one_edit word (codes "false") then Some (as_substitute (said NEAR_FALSE) [] (codes "false"))
     else None
 
--- what TOML has for a word of other languages, or for a misspelled boolean
+-- what to write instead of a word of other languages, or of a misspelled boolean
 unfoldable pub known_word : List ℕ → Option SubstituteContent
 known_word word =
     if bytes_eq word (codes "True") || bytes_eq word (codes "TRUE")

@@ -106,7 +106,7 @@ word_after text at =
     then onto_next_line (said SECOND_KEY) text (start_of class.Blank text at) at
     else marked (said AFTER_VALUE) at end
 
--- the finding for the token `found` after a value, on the same line
+-- the finding for the token that `found` names, after a value on the same line
 unfoldable pub after_value : List ℕ → List ℕ → ℕ → Option FindingContent
 after_value found text at =
     let is_string = byte_before text at == 34 || byte_before text at == 39 in

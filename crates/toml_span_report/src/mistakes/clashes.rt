@@ -14,16 +14,16 @@ use crate::words::{
 };
 use toml_span_lex::span::Span;
 
-/// Returns the end of the header that begins at `at`: before the next `=`, `#` or line end, without the blanks before
-/// it.
+/// Returns the end of the header that begins at `at`: the next `=`, `#` or line end, or the end of the text, moved back
+/// over blanks.
 fn header_end(text: &str, at: usize) -> usize
     ensures { result ≡ spec.header_end text.now at }
 {
     start_of(Class::Blank, text, end_of(Class::Left, text, at))
 }
 
-/// Returns the finding for two headers of the same table or array of tables. `first` is the span of the earlier header,
-/// `span` the span of the later one.
+/// Returns the finding for two headers of one table, or for a header of a table and one of an array of tables with the
+/// same path. `first` begins at the earlier header, `span` at the later one.
 #[tactic(auto, unfolding(crate::specs::found::Clashes::table_twice))]
 pub(crate) fn table_twice<'a>(text: &'a str, span: Span, first: Span) -> Finding<'a>
     ensures { finding_content result ≡ spec.table_twice text.now span first }
@@ -78,9 +78,9 @@ fn kind_label(text: &str, at: usize) -> &'static str
     }
 }
 
-/// Returns the line of an inline table, with the assignment at `at` moved into its braces. The dotted key of the
-/// assignment goes through the table. The table's key ends at `key_end`, and its `{` is at `table`. Returns empty code
-/// if the dotted key does not begin with the table's key and a dot, or if the table's line does not end with `}`.
+/// Returns the line of an inline table, with the assignment at `at` moved into the table's braces. The dotted key of
+/// the assignment goes through the table. The table's key ends at `key_end`, and its `{` is at `table`. Returns empty
+/// code if the dotted key does not begin with the table's key and a dot, or if the table's line does not end with `}`.
 #[tactic(auto, unfolding(crate::specs::found::Clashes::extended))]
 fn extended<'a>(text: &'a str, key_end: usize, table: usize, at: usize) -> Code<'a>
     ensures { code_content result ≡ spec.extended text.now key_end table at }
@@ -134,9 +134,9 @@ fn body<'a>(text: &'a str, end: usize) -> &'a str
     }
 }
 
-/// Returns the assignment to write in an inline table, instead of a header that goes through the table: a table for
-/// `[..]`, an array of one table for `[[..]]`. The part of the header that names the inline table ends at `end`.
-/// Returns empty code if this part is the last one, or if the header's line does not end with `]`.
+/// Returns the assignment to write in an inline table, instead of a header that goes through the table. Its value is a
+/// table for `[..]`, and an array of one table for `[[..]]`. The part of the header that names the inline table ends at
+/// `end`. Returns empty code if this part is the last one, or if the header's line does not end with `]`.
 #[tactic(auto, unfolding(crate::specs::found::Clashes::subtable))]
 fn subtable<'a>(text: &'a str, end: usize) -> Code<'a>
     ensures { code_content result ≡ spec.subtable text.now end }
@@ -157,7 +157,8 @@ fn subtable<'a>(text: &'a str, end: usize) -> Code<'a>
     }
 }
 
-/// Recognizes a key or header, at `span`, that goes through an earlier value. The key of the value is at `first`.
+/// Recognizes a key or header, at `span`, that would extend an earlier value, or a table that a dotted key defines.
+/// `first` is the span of the earlier key.
 #[tactic(auto, unfolding(crate::specs::found::Clashes::through_value))]
 pub(crate) fn through_value<'a>(text: &'a str, span: Span, first: Span) -> Option<Finding<'a>>
     ensures { option_map finding_content result ≡ spec.through_value text.now span first }
@@ -196,8 +197,8 @@ pub(crate) fn through_value<'a>(text: &'a str, span: Span, first: Span) -> Optio
     }
 }
 
-/// Recognizes a duplicate key that is in a header or before a dot, and so goes through an earlier value. The duplicate
-/// key is at `span`, and the key of the value at `first`.
+/// Recognizes a duplicate key, at `span`, that is before a dot, or on a line that begins with `[`, such as a header.
+/// `first` is the span of the earlier key. Returns the finding of `through_value`.
 #[tactic(auto, unfolding(crate::specs::found::Clashes::key_twice))]
 pub(crate) fn key_twice<'a>(text: &'a str, span: Span, first: Span) -> Option<Finding<'a>>
     ensures { option_map finding_content result ≡ spec.key_twice text.now span first }

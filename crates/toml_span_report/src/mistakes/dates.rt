@@ -129,9 +129,9 @@ fn month_length<'a>(text: &'a str, year: usize, month: usize) -> Code<'a>
     }
 }
 
-/// Returns the finding for the invalid time that begins at `hour`, in the value that spans `start..end`. The finding
-/// names a UTC offset without a colon or an hour that does not exist. For any other mistake, it marks the value and
-/// shows how dates and times are written.
+/// Returns the finding for the invalid date or time in `start..end`. Its hour, if it has one, begins at `hour`. The
+/// finding names a UTC offset without a colon or an hour that does not exist. For any other mistake, it shows how dates
+/// and times are written.
 #[tactic(auto, unfolding(crate::specs::found::Dates::time))]
 fn time<'a>(text: &'a str, start: usize, hour: usize, end: usize) -> Finding<'a>
     ensures { finding_content result ≡ spec.time text.now start hour end }

@@ -65,8 +65,8 @@ pub(crate) fn other_key<'a>(text: &'a str, at: usize) -> Option<Finding<'a>>
     }
 }
 
-/// Returns the start of the key that ends at `end`. A key that ends with a quote is taken to begin at the nearest quote
-/// before that. Any other key is the run of bytes of the class `Dotted` that ends at `end`.
+/// Returns the start of the key that ends at `end`. A key that ends with a quote is taken to begin at the nearest
+/// quote, backtick or line end before that. Any other key is the run of bytes of the class `Dotted` that ends at `end`.
 #[tactic(auto, unfolding(crate::specs::found::Keys::key_start))]
 fn key_start(text: &str, end: usize) -> usize
     ensures { result ≡ spec.key_start text.now end }
@@ -140,9 +140,9 @@ fn doubtful<'a>(mistake: Mistake, mark: Span, edit: Span, code: Code<'a>) -> Fin
     Finding { words, ..found }
 }
 
-/// Returns the finding for `key`, a sign other than `=`, and the word of another language at `at`. `mark` is the span
-/// of the sign, `edit` the span of all three, and `known` what TOML has for the word. If `known.code` is empty, the
-/// finding only marks the word. Otherwise it marks the sign, and replaces `edit`.
+/// Returns the finding for `key`, a sign other than `=`, and the word at `at`. `mark` is the span of the sign, `edit`
+/// the span of all three. `known` says what to write instead of the word. If `known.code` is empty, the finding only
+/// marks the word. Otherwise it marks the sign, and replaces `edit`.
 fn known_pair<'a>(
     mistake: Mistake,
     key: &'a str,
@@ -161,8 +161,8 @@ fn known_pair<'a>(
 }
 
 /// Returns the finding for `key`, a sign other than `=`, and the word at `at`, which is not a value. `mark` is the span
-/// of the sign, `edit` the span of all three. For a word of another language (`known_word`), returns the finding of
-/// `known_pair`. Otherwise the replacement puts the word, and any words after the word, in quotes.
+/// of the sign, `edit` the span of all three. For a word that `known_word` recognizes, returns the finding of
+/// `known_pair`. Otherwise the replacement puts the word, and any words after the word, in quotes (`phrase_end`).
 #[tactic(auto, unfolding(crate::specs::found::Keys::other_word))]
 fn other_word<'a>(
     mistake: Mistake,
@@ -312,8 +312,8 @@ fn lone_key<'a>(text: &'a str, end: usize) -> Finding<'a>
     }
 }
 
-/// Returns the finding for a key of several words. The first word ends at `end`, the second begins at `at`, and the `=`
-/// after the key is at `stop`.
+/// Returns the finding for a key of several words, or for a keyword before a key. The first word ends at `end`, the
+/// second begins at `at`, and the `=` after the key is at `stop`.
 #[tactic(auto, unfolding(crate::specs::found::Keys::spaced_key))]
 fn spaced_key<'a>(text: &'a str, end: usize, at: usize, stop: usize) -> Finding<'a>
     ensures { finding_content result ≡ spec.spaced_key text.now end at stop }
@@ -370,7 +370,7 @@ fn second_word<'a>(text: &'a str, end: usize, at: usize) -> Option<Finding<'a>>
     }
 }
 
-/// Recognizes the mistake in the token `found` at `at`, where `=` is expected.
+/// Recognizes the mistake in the token at `at`, where `=` is expected. `found` names the token, as in `a colon`.
 #[tactic(auto, unfolding(crate::specs::found::Keys::at_equals))]
 pub(crate) fn at_equals<'a>(found: &str, text: &'a str, at: usize) -> Option<Finding<'a>>
     ensures { option_map finding_content result ≡ spec.at_equals found.now text.now at }
@@ -454,7 +454,7 @@ pub(crate) fn missing_key<'a>(mistake: Mistake, text: &'a str, at: usize) -> Fin
     }
 }
 
-/// Recognizes the mistake in the token `found` at `at`, where a key is expected.
+/// Recognizes the mistake in the token at `at`, where a key is expected. `found` names the token, as in `a comma`.
 #[tactic(auto, unfolding(crate::specs::found::Keys::at_key))]
 pub(crate) fn at_key<'a>(found: &str, text: &'a str, at: usize) -> Option<Finding<'a>>
     ensures { option_map finding_content result ≡ spec.at_key found.now text.now at }

@@ -157,7 +157,7 @@ fn equals<'a>(text: &'a str, at: usize) -> Option<Finding<'a>>
     }
 }
 
-/// Recognizes the mistake in the token `found` at `at`, where a value is expected.
+/// Recognizes the mistake in the token at `at`, where a value is expected. `found` names the token, as in `a comma`.
 #[tactic(auto, unfolding(crate::specs::found::Lists::at_value))]
 pub(crate) fn at_value<'a>(found: &str, text: &'a str, at: usize) -> Option<Finding<'a>>
     ensures { option_map finding_content result ≡ spec.at_value found.now text.now at }
@@ -189,8 +189,8 @@ fn open_header<'a>(text: &'a str, at: usize, bracket: usize) -> Finding<'a>
     replaced(OPEN_HEADER, bracket, end, code)
 }
 
-/// Recognizes the mistake in the token `found` at `at`, in the header that begins at `bracket`. The closing bracket of
-/// the header is expected at `at`.
+/// Recognizes the mistake in the token at `at`, where the closing bracket of a header is expected. The header begins at
+/// `bracket`. `found` names the token, as in `a comma`.
 #[tactic(auto, unfolding(crate::specs::found::Lists::header))]
 fn header<'a>(found: &str, text: &'a str, at: usize, bracket: usize) -> Option<Finding<'a>>
     ensures { option_map finding_content result ≡ spec.header found.now text.now at bracket }
@@ -238,7 +238,7 @@ pub(crate) fn word<'a>(text: &'a str, at: usize) -> Finding<'a>
 }
 
 /// Returns the finding for a comma that is missing before the value or pair at `at`. The finding has no replacement if
-/// a `#` is before the comma on its line, since the comma may then be in a comment.
+/// a `#` is before the place for the comma, on the same line, since this place may then be in a comment.
 #[tactic(auto, unfolding(crate::specs::found::Lists::missing_comma))]
 fn missing_comma<'a>(mistake: Mistake, text: &'a str, at: usize) -> Finding<'a>
     ensures { finding_content result ≡ spec.missing_comma (texts mistake.entry) text.now at }
@@ -299,7 +299,8 @@ fn glued<'a>(text: &'a str, at: usize) -> Option<Finding<'a>>
     }
 }
 
-/// Recognizes the mistake in the token `found` at `at`, where `]` is expected.
+/// Recognizes the mistake in the token at `at`, where `]` is expected in an array or header. `found` names the token,
+/// as in `a right brace`.
 #[tactic(auto, unfolding(crate::specs::found::Lists::at_bracket))]
 pub(crate) fn at_bracket<'a>(found: &str, text: &'a str, at: usize) -> Option<Finding<'a>>
     ensures { option_map finding_content result ≡ spec.at_bracket found.now text.now at }
@@ -316,7 +317,8 @@ pub(crate) fn at_bracket<'a>(found: &str, text: &'a str, at: usize) -> Option<Fi
     }
 }
 
-/// Recognizes the mistake in the token `found` at `at`, where a comma is expected in an inline table.
+/// Recognizes the mistake in the token at `at`, where a comma is expected in an inline table. `found` names the token,
+/// as in `a right bracket`.
 #[tactic(auto, unfolding(crate::specs::found::Lists::at_comma))]
 pub(crate) fn at_comma<'a>(found: &str, text: &'a str, at: usize) -> Option<Finding<'a>>
     ensures { option_map finding_content result ≡ spec.at_comma found.now text.now at }

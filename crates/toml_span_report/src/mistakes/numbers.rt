@@ -72,9 +72,9 @@ fn base_of(letter: u8) -> u64
     }
 }
 
-/// Returns the value of a number with the digit `byte` appended, at most `u64::MAX`. `value` is the value without this
-/// digit. If `byte` is `_`, returns `value`. Returns `None` if `value` is `None`, or if `byte` is neither `_` nor a
-/// digit in this base.
+/// Returns the value of a number with the digit `byte` appended, capped at `u64::MAX`. `value` is the value without
+/// this digit. If `byte` is `_`, returns `value`. Returns `None` if `value` is `None`, or if `byte` is neither `_` nor
+/// a digit in this base.
 fn next_value(value: Option<u64>, base: u64, byte: u8) -> Option<u64>
     ensures { result ≡ spec.next_value value base byte }
 {
@@ -88,8 +88,8 @@ fn next_value(value: Option<u64>, base: u64, byte: u8) -> Option<u64>
     }
 }
 
-/// Returns the value of a number, at most `u64::MAX`. An empty text has the value 0. Returns `None` if a byte is
-/// neither `_` nor a digit in this base.
+/// Returns the value of the digits of a number, capped at `u64::MAX`. Without digits, the value is 0. Returns `None` if
+/// a byte is neither `_` nor a digit in this base.
 fn value_of(digits: &str, base: u64) -> Option<u64>
     ensures { result ≡ spec.value_of digits.now base (length digits.now) }
 {
@@ -116,8 +116,8 @@ fn decimal_code<'a>(text: &'a str, start: usize, value: u64) -> Code<'a>
 }
 
 /// Returns the finding for a number with a sign before a prefix such as `0x`. The `0` of the prefix is at `zero`. The
-/// replacement is the number in decimal. The finding has no replacement if a digit is not valid, or if the number is
-/// too large or too small for an integer (`largest`).
+/// replacement is the number in decimal (0 without digits). The finding has no replacement if a digit is not valid, or
+/// if the number is too large or too small for an integer (`largest`).
 #[tactic(auto, unfolding(crate::specs::found::Numbers::signed_prefix))]
 fn signed_prefix<'a>(text: &'a str, start: usize, zero: usize, end: usize) -> Finding<'a>
     ensures { finding_content result ≡ spec.signed_prefix text.now start zero end }
@@ -149,8 +149,8 @@ fn unsigned_prefix<'a>(text: &'a str, start: usize, end: usize, letter: u8) -> F
     found
 }
 
-/// Recognizes the mistake in an invalid number with a prefix such as `0x`. Returns `None` unless the prefix begins at
-/// `zero`.
+/// Recognizes the mistake in an invalid number with a prefix such as `0x`. Returns `None` unless such a prefix begins
+/// at `zero`.
 #[tactic(auto, unfolding(crate::specs::found::Numbers::prefixed_number))]
 fn prefixed_number<'a>(text: &'a str, start: usize, zero: usize, end: usize) -> Option<Finding<'a>>
     ensures { option_map finding_content result ≡ spec.prefixed_number text.now start zero end }
@@ -171,8 +171,8 @@ fn prefixed_number<'a>(text: &'a str, start: usize, zero: usize, end: usize) -> 
 }
 
 /// Returns the finding for a number with leading zeros. Its digits begin at `digits`, with the zeros. For a number such
-/// as `0755`, of one zero and three octal digits, the replacement is octal (`0o755`). For any other number, it has no
-/// leading zeros.
+/// as `0755`, of one leading zero and three octal digits, without a sign, the replacement is octal (`0o755`). For any
+/// other number, the replacement is the number without its leading zeros.
 #[tactic(auto, unfolding(crate::specs::found::Numbers::zeros))]
 fn zeros<'a>(text: &'a str, start: usize, digits: usize, end: usize) -> Finding<'a>
     ensures { finding_content result ≡ spec.zeros text.now start digits end }
@@ -238,7 +238,8 @@ fn grouping_mistake(text: &str, digits: usize) -> Mistake
 }
 
 /// Returns the finding for an invalid integer of digits and `_`, which begin at `digits`: too large, with a leading
-/// zero, or with a misplaced `_`. Its replacement has a leading zero only if it is `0`.
+/// zero, or with a misplaced `_`. An integer that is too large has no replacement. For any other integer, the
+/// replacement has no leading zeros.
 #[tactic(auto, unfolding(crate::specs::found::Numbers::integer))]
 fn integer<'a>(text: &'a str, start: usize, digits: usize, end: usize) -> Finding<'a>
     ensures { finding_content result ≡ spec.integer text.now start digits end }

@@ -1,5 +1,5 @@
-//! Mistakes in strings: missing quotes, and invalid characters and escapes. The module `mistakes` says what the
-//! functions take and return.
+//! Mistakes in strings and quoted keys: missing or wrong quotes, and invalid characters and escapes. The module
+//! `mistakes` says what the functions take and return.
 ghost use Rattle.std.specs.Prelude.{◌≡◌, option_map};
 ghost use Rattle.toml_span_report.specs.Finding.{finding_content};
 ghost use Rattle.toml_span_report.specs.found.Strings as spec;

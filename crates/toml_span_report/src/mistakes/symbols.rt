@@ -19,8 +19,8 @@ use crate::words::{
     MARKUP, OTHER_SIGN, OTHER_SPACE, PARENTHESES, SEMICOLON, SEMICOLONS, SLASHES,
 };
 
-/// Returns the TOML character that `c` looks like, with the mistake and the Unicode name of `c`. If `c` is invisible,
-/// the code is empty. Returns `None` for any other character.
+/// Returns what to write instead of `c`: the ASCII character that `c` looks like, or empty code if `c` is invisible.
+/// Returns `None` for any other character, and for curly quotes.
 #[tactic(auto, unfolding(crate::specs::found::Symbols::look_alike))]
 fn look_alike(c: char) -> Option<Substitute>
     ensures { option_map substitute_content result ≡ spec.look_alike c }
@@ -59,7 +59,7 @@ fn curly_name(c: char) -> &'static str
 
 /// Returns the finding for the curly quote at `at`, whose Unicode name is `name`. The finding has a replacement if a
 /// closing quote follows: the next character from U+2000 to U+2FFF on the line must be from U+2018 to U+201E, as curly
-/// quotes are. No quote, backtick or backslash may be before it.
+/// quotes are. No straight quote, backtick or backslash may be between the two.
 #[tactic(auto, unfolding(crate::specs::found::Symbols::curly))]
 fn curly<'a>(text: &'a str, at: usize, name: &'static str) -> Finding<'a>
     ensures { finding_content result ≡ spec.curly text.now at name.now }

@@ -32,7 +32,7 @@ fn is_within_one_edit_at(word: &str, name: &str, at: usize) -> bool
 }
 
 /// Returns whether `word` and `name` are equal, or differ in one byte that is missing, extra or different, or in two
-/// swapped bytes. `name` has at most five bytes.
+/// adjacent bytes that are swapped. `name` has at most five bytes.
 #[tactic(auto, unfolding(crate::specs::found::Values::is_within_one_edit))]
 fn is_within_one_edit(word: &str, name: &str) -> bool
     ensures { result ≡ spec.is_within_one_edit word.now name.now }
@@ -45,7 +45,8 @@ fn is_within_one_edit(word: &str, name: &str) -> bool
         || is_within_one_edit_at(word, name, 5)
 }
 
-/// Returns the boolean that a word probably misspells, or `None` if there is none (`is_within_one_edit`).
+/// Returns the boolean to write instead of a word that probably misspells it (`is_within_one_edit`). Returns `None` for
+/// any other word.
 #[tactic(auto, unfolding(crate::specs::found::Values::near_boolean))]
 fn near_boolean(word: &str) -> Option<Substitute>
     ensures { option_map substitute_content result ≡ spec.near_boolean word.now }
@@ -59,8 +60,8 @@ fn near_boolean(word: &str) -> Option<Substitute>
     }
 }
 
-/// Returns what TOML has for a word of other languages, or for a misspelled boolean: the mistake, and the code to
-/// write. The code is empty if TOML has nothing for the word. Returns `None` for any other word.
+/// Returns what to write instead of a word of other languages, such as `yes`, or of a misspelled boolean. The code is
+/// empty for words such as `null`, which have no counterpart in TOML. Returns `None` for any other word.
 #[tactic(auto, unfolding(crate::specs::found::Values::known_word))]
 pub(crate) fn known_word(word: &str) -> Option<Substitute>
     ensures { option_map substitute_content result ≡ spec.known_word word.now }
@@ -78,8 +79,8 @@ pub(crate) fn known_word(word: &str) -> Option<Substitute>
 }
 
 /// Returns the end of a string that needs quotes. The string begins at `at`, and its first word ends at `end`. The
-/// string includes all words up to a comment, a comma, `]`, `}` or the end of the line. If a quote, `=` or a control
-/// character comes first, returns `end`.
+/// string includes all words up to `#`, a comma, `]`, `}`, NUL, or the end of the line or text. If a quote, `=` or
+/// another control character comes first, returns `end`.
 #[tactic(auto, unfolding(crate::specs::found::Values::phrase_end))]
 pub(crate) fn phrase_end(text: &str, at: usize, end: usize) -> usize
     ensures { result ≡ spec.phrase_end text.now at end }
@@ -130,8 +131,8 @@ fn prefixed_string<'a>(text: &'a str, at: usize, quote: usize) -> Finding<'a>
     }
 }
 
-/// Returns the finding for the word in `at..end`, which is written instead of a value. `known` is what TOML has for the
-/// word. The finding has a replacement unless `known.code` is empty.
+/// Returns the finding for the word in `at..end`, which is written instead of a value. `known` says what to write. The
+/// finding has a replacement unless `known.code` is empty.
 fn known_value<'a>(at: usize, end: usize, known: Substitute) -> Finding<'a>
     ensures { finding_content result ≡ spec.known_value at end (substitute_content known) }
 {

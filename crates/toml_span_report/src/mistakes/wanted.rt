@@ -68,8 +68,8 @@ fn header_value<'a>(text: &'a str, line: usize, at: usize) -> Finding<'a>
     replaced(VALUE_OF_HEADER, line, last, code)
 }
 
-/// Recognizes the mistake in the token `found` at `at`, which follows a header on its line. The header begins at
-/// `line`.
+/// Recognizes the mistake in the token at `at`, which follows a header on its line. The header begins at `line`.
+/// `found` names the token, as in `an equals`.
 #[tactic(auto, unfolding(crate::specs::found::Wanted::after_header))]
 fn after_header<'a>(found: &str, text: &'a str, line: usize, at: usize) -> Option<Finding<'a>>
     ensures { option_map finding_content result ≡ spec.after_header found.now text.now line at }
@@ -91,7 +91,7 @@ fn is_half_day(word: &str) -> bool
     matches!(word, "AM" | "PM" | "am" | "pm")
 }
 
-/// The hours of the afternoon, on a 12-hour clock and on a 24-hour clock.
+/// The hours from 1 PM to 11 PM, on a 12-hour clock and on a 24-hour clock.
 const AFTERNOON: [(&str, &str); 11] = [
     ("01", "13"),
     ("02", "14"),
@@ -124,7 +124,8 @@ fn full_hour<'a>(hour: &'a str, is_late: bool) -> &'a str
     }
 }
 
-/// Returns the finding for `AM` or `PM`, in `at..end`, after a time.
+/// Returns the finding for `AM` or `PM`, in `at..end`, after a value that ends with a digit. If the value ends with a
+/// time such as `07:32`, with two digits for the hour, the finding has a replacement.
 #[tactic(auto, unfolding(crate::specs::found::Wanted::half_day))]
 fn half_day<'a>(text: &'a str, at: usize, end: usize) -> Finding<'a>
     ensures { finding_content result ≡ spec.half_day text.now at end }
@@ -153,7 +154,7 @@ fn is_zone(word: &str) -> bool
     matches!(word, "UTC" | "GMT")
 }
 
-/// Returns the finding for the name of a time zone, in `at..end`, after a date and time.
+/// Returns the finding for `UTC` or `GMT`, in `at..end`, after a value that ends with a digit, such as a time.
 #[tactic(auto, unfolding(crate::specs::found::Wanted::zone))]
 fn zone<'a>(text: &'a str, at: usize, end: usize) -> Finding<'a>
     ensures { finding_content result ≡ spec.zone text.now at end }
@@ -184,7 +185,8 @@ fn word_after<'a>(text: &'a str, at: usize) -> Finding<'a>
     marked(AFTER_VALUE, at, end)
 }
 
-/// Recognizes the mistake in the token `found` at `at`, after a value on the same line.
+/// Recognizes the mistake in the token at `at`, after a value on the same line. `found` names the token, as in
+/// `a comma`.
 #[tactic(auto, unfolding(crate::specs::found::Wanted::after_value))]
 fn after_value<'a>(found: &str, text: &'a str, at: usize) -> Option<Finding<'a>>
     ensures { option_map finding_content result ≡ spec.after_value found.now text.now at }
@@ -202,7 +204,7 @@ fn after_value<'a>(found: &str, text: &'a str, at: usize) -> Option<Finding<'a>>
     }
 }
 
-/// Recognizes the mistake in the token `found` at `at`, where a line should end.
+/// Recognizes the mistake in the token at `at`, where a line should end. `found` names the token, as in `a comma`.
 #[tactic(auto, unfolding(crate::specs::found::Wanted::at_newline))]
 fn at_newline<'a>(found: &str, text: &'a str, at: usize) -> Option<Finding<'a>>
     ensures { option_map finding_content result ≡ spec.at_newline found.now text.now at }
@@ -216,7 +218,7 @@ fn at_newline<'a>(found: &str, text: &'a str, at: usize) -> Option<Finding<'a>>
 }
 
 /// Recognizes the mistake that caused the error `Wanted` at `span`: an unexpected token or, in a typed read, a value of
-/// another kind. `expected` and `found` are the fields of the error.
+/// the wrong kind. `expected` and `found` are the fields of the error.
 #[tactic(auto, unfolding(crate::specs::found::Wanted::wanted))]
 pub(crate) fn wanted<'a>(
     expected: &str,

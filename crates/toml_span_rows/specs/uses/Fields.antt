@@ -44,8 +44,8 @@ whole text = record { start = 0; end = length text }
 abbrev pub number : Node → Result ℕ Errors
 number = read_integer (codes "u16") (unsigned (2 ^ 16))
 
--- The text is not valid, and this is its error. Or it is valid, and the error is the last of those that a read of the
--- port returns.
+-- Why `port_of` fails. If no allocation failed, either the text is not valid TOML, and this is its error; or it is
+-- valid TOML, and the error is the last of those that a read of the port returns.
 abbrev pub NoPort : List ℕ → Stop Error → Type 0
 NoPort text (stops.Memory e) = ⊤
 NoPort text (stops.Fault error) =

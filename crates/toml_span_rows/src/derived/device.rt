@@ -1,4 +1,4 @@
-//! Types that together use every attribute, and every way to read a value.
+//! Types that together use many attributes of `Deserialize`, and have fields of many types.
 use serde::{Deserialize, Deserializer, Format};
 use std::alloc::Global;
 
@@ -35,7 +35,7 @@ pub enum Either<'a> {
     List(Vec<i8>),
 }
 
-/// Fields whose types are the enums above, or contain one.
+/// Fields whose types are enums, and a field with a struct that contains an enum.
 #[derive(Debug, Drop, Deserialize)]
 pub struct Tagged<'a> {
     pub transport: Option<Transport<'a>>,
@@ -44,7 +44,7 @@ pub struct Tagged<'a> {
     pub either: Option<Either<'a>>,
 }
 
-/// Fields of other types, one of them with an alias.
+/// Fields with a boolean, a character, a pair and a number. The number has an alias.
 #[derive(Debug, Drop, Deserialize)]
 pub struct Device {
     pub flag: Option<bool>,
@@ -95,7 +95,8 @@ pub enum Kind<'a> {
     Unknown,
 }
 
-/// Fields with attributes that no other type in this file has. Missing fields have default values.
+/// Fields with the attributes `rename`, `default`, `skip`, `with` and `deserialize_with`. Missing fields get default
+/// values.
 #[derive(Debug, Drop, Default, Deserialize)]
 #[serde(default, rename_all = "kebab-case")]
 pub struct Attributes<'a> {

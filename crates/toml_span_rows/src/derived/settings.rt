@@ -1,4 +1,4 @@
-//! Settings whose types derive `Deserialize`.
+//! Settings whose types derive `Deserialize`, and a function that reads them.
 use serde::Deserialize;
 use std::alloc::{AllocError, Global};
 use toml_span_serde::{Spanned, Style, from_str, render_stop};

@@ -1,4 +1,4 @@
-//! `again`: parses numbers, booleans, dates, arrays and inline tables of a document again, each after `x =`.
+//! `again`: parses each number, boolean, date, time, array and inline table of a document again, after `x =`.
 use crate::output::Out;
 use crate::trees::shown::push_lines;
 use std::alloc::Global;
@@ -33,8 +33,8 @@ fn is_read_again(alloc: Global, piece: &str, value: &Value<'_>, out: &mut Out) -
     lines.text == again.text
 }
 
-/// Returns whether a value is written in one piece: a number, boolean or date, an array in brackets, or a table in
-/// braces.
+/// Returns whether a value is written in one piece: a number, boolean, date or time, an array in brackets, or a table
+/// in braces.
 fn is_piece(text: &str, value: &Value<'_>) -> bool {
     let start = value.span.start;
     let (bracket, inner) = match (value.as_array(), value.as_table()) {

@@ -21,14 +21,14 @@ use toml_span::value::{Pointer, Value, ValueInner};
 #[derive(Clone, Copy)]
 struct Operation<'w> {
     name: &'w str,
-    /// The pointer or the name of a key.
+    /// A pointer or, for `has_key`, the name of a key.
     place: &'w str,
-    /// The number or the message.
+    /// The text after the second `=`: a number or, for `take_string`, a message.
     rest: Option<&'w str>,
 }
 
-/// Takes the content of a value, and prints the result. If it has been taken before, prints `taken` for any operation.
-/// Otherwise returns `false` for an unknown operation.
+/// Makes the call `take` or `take_string` on a value, and prints the result. If the content of the value has been taken
+/// before, prints `taken` instead, for any operation. Otherwise returns `false` for an unknown operation.
 fn push_taken(value: &mut Value<'_>, operation: Operation<'_>, out: &mut Out) -> bool {
     if value.is_taken() {
         out.push_str("taken");
@@ -48,8 +48,9 @@ fn push_taken(value: &mut Value<'_>, operation: Operation<'_>, out: &mut Out) ->
     operation.name == "take_string"
 }
 
-/// Makes a call on the value at a pointer, and prints the result. If the value does not exist, prints `none` for any
-/// operation. Otherwise returns `false` for an unknown operation, as `push_taken` does.
+/// Makes the call `set`, `take` or `take_string` on the value at a pointer, and prints the result. If the value does
+/// not exist, prints `none` for any operation. Otherwise returns `false` for an unknown operation, as `push_taken`
+/// does. `number` is the new value for `set`.
 fn push_lent<'t>(
     root: &mut Value<'t>,
     operation: Operation<'t>,

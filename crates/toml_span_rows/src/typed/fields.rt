@@ -15,8 +15,8 @@ use toml_span::de_helpers::{TableHelper, Unfinished};
 use toml_span::value::{Key, Value};
 use toml_span::{Deserialize, Error, Spanned, Stop};
 
-/// Prints the answer to `fields`. Returns `false` if no helper can be made for the root, if `calls` is empty, or at an
-/// unknown call.
+/// Prints the answer to `fields`. Returns `false` if no helper can be made for the root, if `calls` is empty, or if a
+/// call is unknown.
 pub fn push_fields<'de>(
     alloc: Global,
     calls: &'de [String],
@@ -61,7 +61,7 @@ fn push_calls<'de>(helper: &mut TableHelper<'de>, calls: &'de [String], out: &mu
     true
 }
 
-/// Makes one call, and prints the result. Returns `false` for an unknown call.
+/// Makes one call, and prints the result. Returns `false` for an unknown call or type.
 fn push_call<'de>(helper: &mut TableHelper<'de>, call: &'de str, out: &mut Out) -> bool
     requires { AllWhole (state_of helper.old) }
     ensures { AllWhole (state_of helper.new) }
@@ -90,7 +90,8 @@ fn push_entry(entry: Result<Option<(Key<'_>, Value<'_>)>, AllocError>, out: &mut
     }
 }
 
-/// Reads a field as a type, and prints the result. Returns `false` for an unknown call or type.
+/// Reads a field with the call `how`, and prints the result. `arguments` are the type and the name of the field.
+/// Returns `false` for an unknown call or type.
 fn push_field<'de>(
     helper: &mut TableHelper<'de>,
     how: &str,
@@ -113,7 +114,7 @@ fn push_field<'de>(
     }
 }
 
-/// Reads a field as `T`, and prints the result. Returns `false` for an unknown call.
+/// Reads the field `name` as `T` with the call `how`, and prints the result. Returns `false` for an unknown call.
 #[tactic(auto, using(toml_span_typed::proofs::Whole::found_whole))]
 fn push_as<'de, T: Deserialize<'de> + Debug>(
     helper: &mut TableHelper<'de>,

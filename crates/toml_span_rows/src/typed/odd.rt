@@ -1,4 +1,4 @@
-//! Types whose reads have no contract.
+//! A type whose read does unusual things, and a type for which parsing a string always fails.
 use std::alloc::Global;
 use std::borrow::CowStr;
 use std::str::FromStr;
@@ -11,9 +11,9 @@ fn custom<'de>(message: &'de str, span: Span) -> DeserError<'de> {
     Error::from((kind, span)).into()
 }
 
-/// A type whose read succeeds only for a boolean, which it does not take. For a table, the read takes the entry `a`,
-/// and always fails; if `a` is a `u8`, it puts the other entries back first. For any other value, it takes the value,
-/// and fails with two errors.
+/// A type whose read succeeds only for a boolean, and does not take the boolean. For a table, the read takes all
+/// entries, and fails with one error; if the entry `a` is a `u8`, the read first puts the other entries back. For any
+/// other value, the read takes the content, and fails with two errors.
 #[derive(Debug, Drop)]
 pub struct Odd;
 

@@ -1,4 +1,4 @@
-//! Types that are read from tables.
+//! Types that are read from tables, and a type that is read from a number.
 use std::alloc::Global;
 use std::borrow::CowStr;
 use toml_span::de_helpers::TableHelper;
@@ -27,7 +27,7 @@ impl<'de> Deserialize<'de> for Server<'de> {
     }
 }
 
-/// Fields with old names, a number that is parsed from a string, and the keys of another struct.
+/// Fields with aliases, a number that is parsed from a string, and a struct whose keys are in the same table.
 #[derive(Debug, Drop)]
 pub struct Upload {
     pub max_body: u64,
@@ -47,7 +47,7 @@ impl<'de> Deserialize<'de> for Upload {
     }
 }
 
-/// Fields that are an `Option`, strings read by `FromStr`, and an array of two. Other keys stay in the table.
+/// Fields with an `Option`, fields that `FromStr` parses from strings, and a pair. Other keys stay in the table.
 #[derive(Debug, Drop)]
 pub struct Holders {
     some: Option<u8>,
@@ -89,7 +89,8 @@ impl<'de> Deserialize<'de> for Range {
     }
 }
 
-/// Returns the range from `low` to `high`. A missing bound is 0 or 255. Fails if `low` is above `high`.
+/// Returns the range from `low` to `high`. If `low` is missing, it is 0; if `high` is missing, it is 255. Fails with an
+/// error at `span` if `low` is above `high`.
 fn range_of<'s>(
     low: Option<u8>,
     high: Option<u8>,

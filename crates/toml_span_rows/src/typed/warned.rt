@@ -28,7 +28,7 @@ impl<'de> DeserializeWithWarnings<'de> for Limits {
     }
 }
 
-/// Fields whose types are read with warnings, and a field with a deprecated name.
+/// Two fields whose types are read with warnings, a field with a deprecated name, and a field with an alias.
 #[derive(Debug, Drop)]
 pub struct Service {
     pub level: u8,
