@@ -70,7 +70,8 @@ region_properties text span = line_properties (line_column text span.start) (lin
 -- the line numbers of the first primary label and, if it is on one line, its columns; nothing if no label is primary
 abbrev pub primary_region : List ℕ → List ReportLabel → List ℕ
 primary_region text [] = []
-primary_region text (label ∷ labels) = if label.primary then region_properties text label.span else primary_region text labels
+primary_region text (label ∷ labels) =
+    if label.primary then region_properties text label.span else primary_region text labels
 
 -- ---- the line
 

@@ -91,7 +91,8 @@ pub(crate) struct Shape {
 /// Appends a value as JSON. A value that has been taken is `null`.
 #[cycle(push_value)]
 fn push_value(shape: Shape, out: &mut String, value: &Value<'_>) -> Result<(), AllocError>
-    ensures { OnOk result (string_bytes out.new ≡ string_bytes out.old ++ spec.to_json shape.is_tagged (view value.now)) }
+    ensures { OnOk result (string_bytes out.new
+        ≡ string_bytes out.old ++ spec.to_json shape.is_tagged (view value.now)) }
 {
     if value.is_taken() {
         out.push_str("null")?;

@@ -22,14 +22,14 @@ abbrev pub ChecksFixed : List (List ℕ) → Bool → Bool → Option (List ℕ)
     → Option (List ℕ) → Bool → ℕ → Type 0
 ChecksFixed words auto_is_coloured is_watched stdout stdout' out_failed stderr stderr' err_failed status =
     (line : List ℕ) × (mid : Option (List ℕ)) × HasWritten stderr mid line
-    × (Starts file_says queries.Check words auto_is_coloured is_watched None None stdout stdout' out_failed mid stderr' err_failed
-    status
+    × (Starts file_says queries.Check words auto_is_coloured is_watched None None stdout stdout' out_failed mid stderr'
+    err_failed status
     ⊎ ((status ≡ 3) × Keeps stdout stdout' × (mid ≡ stderr')))
 
 abbrev pub PerformsCheck : List (List ℕ) → Bool → Bool → Option (List ℕ) → Option (List ℕ) → Bool → Option (List ℕ)
     → Option (List ℕ) → Bool → ℕ → Type 0
 PerformsCheck words auto_is_coloured is_watched stdout stdout' out_failed stderr stderr' err_failed status =
-    Starts file_says queries.Check words auto_is_coloured is_watched None None stdout stdout' out_failed stderr stderr' err_failed
-    status
+    Starts file_says queries.Check words auto_is_coloured is_watched None None stdout stdout' out_failed stderr stderr'
+    err_failed status
     ⊎ (AsksForFixing words auto_is_coloured
     × ChecksFixed words auto_is_coloured is_watched stdout stdout' out_failed stderr stderr' err_failed status)

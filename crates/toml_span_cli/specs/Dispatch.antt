@@ -39,7 +39,8 @@ abbrev pub Performs : Command → List (List ℕ) → Bool → Bool → Option (
 Performs commands.Check words is_coloured is_watched stdout stdout' out_failed stderr stderr' err_failed status =
     PerformsCheck words is_coloured is_watched stdout stdout' out_failed stderr stderr' err_failed status
 Performs commands.Get words is_coloured is_watched stdout stdout' out_failed stderr stderr' err_failed status =
-    Starts no_schema queries.Get words is_coloured is_watched None None stdout stdout' out_failed stderr stderr' err_failed status
+    Starts no_schema queries.Get words is_coloured is_watched None None stdout stdout' out_failed stderr stderr'
+    err_failed status
 Performs commands.Show words is_coloured is_watched stdout stdout' out_failed stderr stderr' err_failed status =
     PerformsShow words stdout stdout' out_failed stderr stderr' err_failed status
 Performs command words is_coloured is_watched stdout stdout' out_failed stderr stderr' err_failed status = status ≤ 4

@@ -33,8 +33,8 @@ ShowsWord false word stdout stdout' out_failed stderr stderr' err_failed status 
 
 -- `show FILE`. The first of `words` is the command's name. For any other number of arguments, a message is written to
 -- standard error, and the status is 2, or 3 if the write fails.
-abbrev pub PerformsShow : List (List ℕ) → Option (List ℕ) → Option (List ℕ) → Bool → Option (List ℕ) → Option (List ℕ) → Bool
-    → ℕ → Type 0
+abbrev pub PerformsShow : List (List ℕ) → Option (List ℕ) → Option (List ℕ) → Bool → Option (List ℕ)
+    → Option (List ℕ) → Bool → ℕ → Type 0
 PerformsShow (command ∷ word ∷ []) stdout stdout' out_failed stderr stderr' err_failed status =
     ShowsWord (is_help word) word stdout stdout' out_failed stderr stderr' err_failed status
 PerformsShow words stdout stdout' out_failed stderr stderr' err_failed status =

@@ -145,8 +145,8 @@ fn put_element(
 }
 
 /// Adds to `plan` the insertion of the element `item` into an array. The last segment of `path` is the position of the
-/// new element: at most the number of elements in the array. Fails with `NoArray` if the array does not exist, or if the
-/// last segment is not such a position. Fails with another reason if the element can't be written there.
+/// new element: at most the number of elements in the array. Fails with `NoArray` if the array does not exist, or if
+/// the last segment is not such a position. Fails with another reason if the element can't be written there.
 pub(crate) fn insert(
     document: Document<'_, '_>,
     path: &[&str],

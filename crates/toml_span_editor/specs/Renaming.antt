@@ -19,4 +19,5 @@ Renames name text new = (edit : Edit) × IsRenameTo name edit.change × EditsMad
 -- In `made.text`, one key of `text` is renamed to `name`. The edits of `made` turn `text` into `made.text`.
 abbrev pub RenamesBy : List ℕ → List ℕ → Rewritten → Type 0
 RenamesBy name text made =
-    Renames name text (string_bytes made.text) × ChangesInto text (map edit_content made.edits.items) (string_bytes made.text)
+    Renames name text (string_bytes made.text)
+    × ChangesInto text (map edit_content made.edits.items) (string_bytes made.text)

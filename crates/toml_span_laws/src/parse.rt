@@ -11,7 +11,7 @@ ghost use Rattle.toml_span_typed.specs.TableHelper.{OpensTable, Refuses, Require
 ghost use Rattle.toml_span_typed.specs.declared.de_helpers.table_helper.TableHelper.{TableHelper};
 ghost use Rattle.toml_span_typed.specs.declared.de_helpers.table_helper.Unfinished.{Unfinished};
 ghost use Rattle.toml_span_typed.specs.declared.de_helpers.table_helper.Unfinished.TheVariants.{Faults as unfinished};
-ghost use Rattle.toml_span_typed.specs.declared.de_helpers.table_helper.Unfinished.TheVariants.{Memory as after_alloc_error};
+ghost use Rattle.toml_span_typed.specs.declared.de_helpers.table_helper.Unfinished.TheVariants.{Memory as out_of_memory};
 ghost use Rattle.std.specs.declared.alloc.AllocError.{AllocError};
 ghost use Rattle.toml_span_laws.specs.Again.{ScalarReadsAgain};
 ghost use Rattle.toml_span_read.specs.Data.{ParsedSection};
@@ -243,5 +243,5 @@ pub fn finalize_ends_the_table()
     ensures faults { (places : Path → Option Place) (s : State) (faults : Errors) → IsOver places s
         → Refuses s (Err (unfinished faults)) → EndsWith places s faults }
     ensures memory { (places : Path → Option Place) (s : State) (helper : TableHelper) → IsOver places s
-        → Refuses s (Err (after_alloc_error helper)) → HasNoKeyBut s.asked places → ⊥ }
+        → Refuses s (Err (out_of_memory helper)) → HasNoKeyBut s.asked places → ⊥ }
 {}
