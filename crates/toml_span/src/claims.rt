@@ -53,7 +53,7 @@ pub struct ClaimInfo {
 pub struct HeaderInfo {
     /// Whether the header has double brackets.
     pub array: bool,
-    /// The span of the header's line, including the line end.
+    /// The span from the header's first bracket to the end of its line, including the line end.
     pub line: Span,
     /// The span of the header's section.
     pub extent: Span,

@@ -51,7 +51,8 @@ pub enum Task {
 pub(crate) struct Verdict {
     /// The number of errors. A complaint counts as one error.
     pub(crate) errors: usize,
-    /// The lines of `SchemaReports::complaint`, for standard error. Empty if the file is not checked against a schema.
+    /// The lines of `SchemaReports::complaint`, for standard error. Empty if no schema check was attempted, since the
+    /// file has errors.
     pub(crate) complaint: String,
 }
 

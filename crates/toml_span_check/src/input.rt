@@ -19,8 +19,9 @@ pub trait Inputs {
     ghost log: { Self → Option Asked };
 
     /// Returns the names of the files to read for the argument `name`. For a directory, these are the TOML files below
-    /// it, except for those that the search leaves out, for example because of the patterns `excludes`. If no file is
-    /// found, or `name` is not a directory, returns `name` itself. Fails if an allocation fails.
+    /// it, except for those that the search leaves out, for example because of the patterns `excludes`, and the paths
+    /// below it that can't be searched, so that reading them reports why. If no file is found, or `name` is not a
+    /// directory, returns `name` itself. Fails if an allocation fails.
     fn find(
         &mut self,
         alloc: Global,

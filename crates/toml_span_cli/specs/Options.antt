@@ -123,8 +123,8 @@ format_named name style =
     else if bytes_eq name (codes "sarif") then Some Sarif
     else None
 
--- the choice of some flags, after one more flag, which chooses `form` if it is set; two flags that choose a form are a
--- mistake
+-- `chosen` is the form that the flags so far have chosen, if any. Returns the form after one more flag, which chooses
+-- `form` if it is set, or a mistake if two flags choose a form.
 abbrev pub with_form : Result (Option Form) Mistake → Bool → Form → Result (Option Form) Mistake
 with_form chosen false form = chosen
 with_form (Ok None) true form = Ok (Some form)

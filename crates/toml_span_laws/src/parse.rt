@@ -73,8 +73,8 @@ pub fn outcome_decides()
         → HasOutcome text limit outcome → IsParseResult text limit result → IsAnswerOf text outcome result }
 {}
 
-/// Nothing has been taken from a tree that shows the flat document of some sections: no path leads to a value that has
-/// been taken, and the tree is whole if no name occurs twice in a table.
+/// In a tree that shows the flat document of some sections, no path leads to a value that has been taken. If, besides,
+/// no name occurs twice in a table, paths lead to all values, so the tree is whole.
 pub fn shown_is_whole()
     ensures filled { (n : Node) (length : ℕ) (sections : List ParsedSection)
         → ShowsExactly n (flat length (claims sections))

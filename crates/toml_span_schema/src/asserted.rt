@@ -179,7 +179,8 @@ fn allows_table(keyword: &Keyword, value: &Value<'_>, count: usize) -> bool
 
 /// Returns whether a keyword without subschemas allows a value. A keyword for one type, such as `minimum`, allows all
 /// values of other types. Fails with `TooDeep` if a value that `enum`, `const` or `uniqueItems` compares nests too deep
-/// or contains a taken value. Fails with `TooLong` if `multipleOf` or the format `regex` takes too many steps.
+/// or contains a taken value. Fails with `TooLong` if the division for `multipleOf` takes too many steps, or if a
+/// string that must have the format `regex` is too large a regular expression or nests too deep.
 #[tactic(auto, unfolding(crate::specs::Asserted::allows_simple))]
 pub(crate) fn allows_simple(
     alloc: Global,

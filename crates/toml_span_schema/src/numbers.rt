@@ -12,7 +12,7 @@ pub(crate) struct Decimal {
     ghost small: { point < 2 ^ 67 },
 }
 
-/// A number of TOML. `Infinite(true)` is negative infinity.
+/// A TOML number. `Infinite(true)` is negative infinity.
 #[derive(Drop)]
 pub(crate) enum Number {
     Finite(Decimal),

@@ -44,7 +44,8 @@ pub(crate) struct Resource {
     pub(crate) dialect: Dialect,
 }
 
-/// A name for a schema in a resource of the document at the position `source`.
+/// An anchor: a name for a schema, which is valid within one resource. `source` is the index of its document in
+/// `Sources::documents`.
 #[derive(Drop)]
 pub(crate) struct Anchor {
     pub(crate) source: usize,

@@ -77,8 +77,8 @@ impl Kinds {
         }
     }
 
-    /// Adds the kinds that `type` names, a table for `required` and `Keyword::Properties`, or an array for
-    /// `Keyword::Items`. Adds nothing for other keywords.
+    /// Adds the kinds of value that `keyword` is about: those that `Type` lists, tables for `Required` and
+    /// `Properties`, arrays for `Items`, and none for any other keyword.
     fn add_keyword(&mut self, keyword: &Keyword) {
         match keyword {
             Keyword::Type(types) => self.add_types(types),
@@ -408,8 +408,9 @@ impl Schema {
         Ok(true)
     }
 
-    /// Returns whether a keyword may allow a value if more keys are added to it. Returns true for keywords that
-    /// `may_fit` does not check. Fails like `is_valid`.
+    /// Returns whether `keyword` may allow `value` after more keys are added to it. `Type`, `Enum` and `Never` judge
+    /// `value` as it is; `AllOf`, `AnyOf`, `OneOf` and `Properties` apply `may_fit` to their subschemas. Returns true for
+    /// all other keywords. Fails like `is_valid`.
     #[cycle(fit)]
     fn keyword_may_fit(
         &self,

@@ -208,8 +208,8 @@ variants r = map string_bytes r.variants.items
 abbrev pub variant_names : Reader → List (List ℕ)
 variant_names r = if r.is_unknown then fields r else variants r
 
--- the names to remember after a text was compared with `names` and found at the index `at`: those remembered before, or
--- `all_forms names` if `at` is out of range
+-- the names to remember after a text was compared with `names`: `before` if the text is the name at the index `at`, or
+-- `all_forms names` if `at` is out of range, since no name matched
 abbrev pub held : List Name → ℕ → List (List ℕ) → List (List ℕ)
 held names at before = if nat_lt at (length names) then before else all_forms names
 

@@ -36,7 +36,7 @@ fn push_copies(alloc: Global, copied: &[&str], texts: &mut Vec<String>) -> Resul
     Ok(())
 }
 
-/// Appends a name and its aliases to `texts`, or nothing if the field is skipped.
+/// Appends `name` and its aliases to `texts`, or nothing if its field or variant is skipped.
 fn push_read(alloc: Global, name: &Name<'_>, texts: &mut Vec<String>) -> Result<(), AllocError>
     ensures { OnOk result (map string_bytes texts.new.items
         ≡ map string_bytes texts.old.items ++ spec.forms_read name.now) }

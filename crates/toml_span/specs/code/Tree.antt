@@ -35,7 +35,7 @@ entries n = (out-Branch n).entries.items
 abbrev pub child : List ℕ → Branch → Option Branch
 child name n = option_map box_value (lookup (is_named name) (out-Branch n).tables.entries)
 
--- the assigned value with this name, with its key
+-- the key and the assigned value under this name, if there is one
 abbrev pub closed_in : List ℕ → BTreeMap Key Value → Option (Key × Value)
 closed_in name values = lookup_entry (is_named name) values.entries
 

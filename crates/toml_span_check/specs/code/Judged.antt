@@ -11,7 +11,8 @@ use Rattle.toml_span_check.specs.declared.answer.Task.{Task}
 use Rattle.toml_span_check.specs.declared.answer.Task.TheVariants.{Show}
 use Rattle.toml_span_check.specs.declared.formats.Format.{Format}
 
--- The result is the answer to `text` or, if `text` is a document to print, its tree.
+-- The result is the answer for `text` or, if `text` is a document to print, the form and the tree from which the answer
+-- is made.
 abbrev pub JudgesText : Says → Format → Task → List ℕ → List ℕ → List ℕ → Judged → Type 0
 JudgesText says format task pointer name text (Text verdict out) =
     IsRead says format task pointer name text (verdict.errors, out.items, string_bytes verdict.complaint)

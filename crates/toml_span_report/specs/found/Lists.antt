@@ -114,7 +114,8 @@ is_assignment text at =
     let end = end_of class.Dotted text at in
     first_of_line text at == at && (nat_lt at end && byte_after text end == 61)
 
--- whether the line that contains `at` looks like a header
+-- whether the line that contains `at` begins with `[`, and `]` and at most one more character follow the word at `at`
+-- until the end of the line, as in a header
 unfoldable pub is_heading : List ℕ → ℕ → Bool
 is_heading text at =
     let end = end_of class.Dotted text at in

@@ -171,8 +171,8 @@ unfoldable pub has_misplaced : List ℕ → ℕ → Bool
 has_misplaced number zero = false
 has_misplaced number (suc i) = has_misplaced number i || is_misplaced number i
 
--- whether a number lacks digits after `e`; and the finding for a float with this mistake, a point without a digit after
--- it, or a misplaced `_`
+-- whether a number lacks digits after `e`; and the finding for a float that lacks them, that has a point without a
+-- digit after it, or that has a misplaced `_`
 abbrev pub lacks_exponent : List ℕ → ℕ → Bool
 lacks_exponent text end =
     let last = slice_index text (end - 1) in
