@@ -104,7 +104,7 @@ typedef struct {
 typedef struct {
     uint32_t code;         /* the kind of error, from 1 on: toml_span_code writes its name */
     uint32_t has_first;    /* 1 if `first` is set: the error is also about an earlier key, table or value; else 0 */
-    toml_span_range span;  /* the bytes that are wrong */
+    toml_span_range span;  /* the bytes that are wrong: whole characters of the text, or none of them at its end */
     toml_span_range first; /* the bytes of the earlier key, table or value; otherwise 0..0 */
     size_t line, column;   /* the line and the column of span.start */
 } toml_span_fault;

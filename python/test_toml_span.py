@@ -11,6 +11,7 @@ import io
 import json
 import math
 import os
+import pathlib
 import pickle
 import re
 import sys
@@ -218,6 +219,13 @@ class Errors(unittest.TestCase):
         self.assertEqual(error.doc[error.pos], "a")
         self.assertIn("  a = 2\n", error.report)
 
+    @unittest.skipIf(sys.version_info < (3, 11), "there is no tomllib")
+    def test_tomllib_catches_it(self):
+        import tomllib
+
+        with self.assertRaises(tomllib.TOMLDecodeError):
+            toml_span.loads("a")
+
     def test_the_end(self):
         error = self.fault("a = ")
         self.assertEqual(error.code, "unexpected-eof")
@@ -228,9 +236,19 @@ class Errors(unittest.TestCase):
         self.assertEqual((error.lineno, error.colno), (1, 9))
 
     def test_a_name_in_the_report(self):
-        with self.assertRaises(toml_span.TOMLDecodeError) as caught:
-            toml_span.parse("=", "settings.toml")
-        self.assertIn("--> settings.toml:1:1", caught.exception.report)
+        for name in ("settings.toml", pathlib.Path("settings.toml")):
+            with self.assertRaises(toml_span.TOMLDecodeError) as caught:
+                toml_span.parse("=", name)
+            self.assertIn("--> settings.toml:1:1", caught.exception.report)
+
+    def test_the_message_is_the_headline(self):
+        texts = {
+            "[a": "this header is not closed",
+            "a = True": "booleans are lowercase",
+            "a = 1\na = 2": "duplicate key: `a`",
+        }
+        for text, msg in texts.items():
+            self.assertEqual(self.fault(text).msg, msg)
 
     def test_what_python_has_no_date_for(self):
         self.assertEqual(self.fault("a = 1990-12-31T23:59:60Z").span, (4, 24))
@@ -241,7 +259,7 @@ class Errors(unittest.TestCase):
             error = self.fault(f"a = {text}")
             self.assertEqual(error.msg, "integer out of range: it must be from -2**63 to 2**63 - 1")
             self.assertIn(text[2:], "0x" + error.doc[slice(*error.char_span)])
-        self.assertEqual(self.fault("a = 01").msg, "invalid number")
+        self.assertEqual(self.fault("a = 01").msg, "octal numbers begin with `0o`")
 
     def test_a_surrogate(self):
         for read in (toml_span.loads, toml_span.parse):
@@ -252,6 +270,12 @@ class Errors(unittest.TestCase):
     def test_messages_have_no_control_characters(self):
         for text in ('a = "\x1b[31m"', "a = 1 \x9b", "a\u202e = 1", "'\u202e' = 1\n'\u202e' = 2"):
             self.assertTrue(str(self.fault(text)).isprintable(), text)
+
+    def test_the_span_has_whole_characters_of_the_text(self):
+        for text, span in (("a", (1, 1)), ("a\U0001f600", (1, 5)), ("a = [1 2", (7, 8)), ("a = 1 \u00e9", (6, 8))):
+            error = self.fault(text)
+            self.assertEqual(error.span, span, text)
+            self.assertEqual(error.doc[slice(*error.char_span)], text.encode()[slice(*span)].decode(), text)
 
     def test_char_span(self):
         error = self.fault("'\u00e9' = 1\n'\u00e9' = 2")

@@ -7,8 +7,8 @@ A mark says what a block, a list or a table quotes:
 
     ```rust             code: the parts between lines `// ..` follow each other in one file of crates/*/src
     ```text clause FILE paragraphs of crates/FILE, or of any source without FILE, ignoring white space
-    ```text in FILE     lines of this file, or of an answer in it (crates/toml_span_rows/stdout)
-    ```console run NAME `$ PROGRAM ARGUMENT..` of crates/*/runs/NAME, and its output
+    ```text in FILE     lines of this file, or of an answer or a text in it (crates/toml_span_rows/stdout, transcripts)
+    ```console run NAME `$ PROGRAM ARGUMENT..` of the run NAME of a transcript crates/*/runs/*.run, and its output
     ```sh               names files that exist
     (indented by four)  the same as `sh`, a line of crates.txt, or lines of a stored output
     <!-- rows: CALL --> a table or a list whose lines begin with the text of a row of this call (`parse 128` without
@@ -29,6 +29,8 @@ import re
 import shlex
 import subprocess
 import sys
+
+from transcripts import all_runs
 
 TOP = os.path.dirname(os.path.dirname(os.path.abspath(__file__)))
 ROWS = "crates/toml_span_rows"
@@ -105,8 +107,9 @@ class Sources:
         self.code = [re.sub(r"(?m)^[ \t]+|[ \t]+$", "", text) for text in code.values()]
         self.quotable = {path: squeezed(text) for path, text in (code | specs | worked).items()}
         self.answers = answers()
-        stored = found("crates/*/stdout") + found("crates/*/runs/**/*stdout")
-        self.outputs = [*map(text_of, stored), re.sub("(?m)^    ", "", text_of(f"{ROWS}/stdout"))]
+        self.runs = [it for crate in found("crates/*/runs") for it in all_runs(crate.split("/")[1]).items()]
+        self.outputs = [*map(text_of, found("crates/*/stdout")), re.sub("(?m)^    ", "", text_of(f"{ROWS}/stdout"))]
+        self.outputs += [run["stdout"].decode() for _, run in self.runs if run.get("stdout")]
         self.heads, self.names = {}, {*FOREIGN}
         for folder in ("crates/*/[!o]*", "crates/*/[!o]*/**/*", "scripts/*", "crates/*"):
             self.names |= {os.path.basename(path).split(".")[0] for path in found(folder)}
@@ -181,7 +184,7 @@ class Page:
 
     def names(self, at, text):
         """Checks the paths, links, clauses and names of some lines."""
-        folders = r"crates|docs|scripts|toml_span\w*|src|specs|proofs|must-fail|mistakes"
+        folders = r"crates|docs|scripts|toml_span\w*|src|specs|proofs|mistakes"
         for code in re.findall(rf"`(?:bash |python3 )?((?:{folders})/[^` ]*)", text):
             is_open = re.search(r"\b(NAME|CRATE|FILE|X|m|out)\b", code)
             if not is_open and not any(found(before + code) for before in ("", "crates/", "crates/*/")):
@@ -213,7 +216,9 @@ class Page:
         elif kind == ["text", "clause"]:
             self.clauses(at, f"crates/{name}" if name else "", lines)
         elif kind in (["text", "in"], ["toml", "in"]):
-            if not os.path.isfile(f"{TOP}/{name}") or not has_lines(text_of(name), lines):
+            text = text_of(name) if os.path.isfile(f"{TOP}/{name}") else ""
+            stored = re.sub("(?m)^    ", "", text) if name.endswith(".run") else ""
+            if not has_lines(text, lines) and not has_lines(stored, lines):
                 self.fault(at, f"{name} does not have these lines")
         elif kind == ["console", "run"]:
             self.run(at, name, lines)
@@ -240,13 +245,12 @@ class Page:
     def run(self, at, name, lines):
         command, *said = "\n".join(lines).rstrip("\n").split("\n")
         command = re.sub(r"^\$ \S+ ", "", command)
-        for run in found(f"crates/*/runs/{name}/args"):
-            files = [run.removesuffix("args") + end for end in ("stdout", "stderr")]
-            told = "".join(text_of(it) for it in files if os.path.isfile(f"{TOP}/{it}")).rstrip("\n")
-            words = text_of(run).splitlines()
+        for run in (run for of, run in self.sources.runs if of == name):
+            told = b"".join(run.get(it, b"") for it in ("stdout", "stderr")).decode().rstrip("\n")
+            words = run["args"].decode().splitlines()
             if command in (" ".join(words), shlex.join(words)) and said == (told.split("\n") if told else []):
                 return
-        self.fault(at, f"no run crates/*/runs/{name} is like this")
+        self.fault(at, f"no run {name} of crates/*/runs/*.run is like this")
 
     def indented(self, at, lines):
         if re.match(r"(bash|python3|rt|\(cd) ", lines[0]):
@@ -323,7 +327,7 @@ class Page:
 
 def edits(sources):
     """Returns the faults of the edits: text that is not in its file exactly once, or a clause that does not exist."""
-    for path in found("crates/*/must-fail/*.edit") + found("crates/*/mistakes/*.edit"):
+    for path in found("crates/*/mistakes/*.edit"):
         first, words, *lines = text_of(path).split("\n")
         if not first.startswith("clause: ") or not words.endswith("."):
             yield f"{path}: it does not begin with `clause: FUNCTION CLAUSE, ..` and a sentence that says what is wrong"

@@ -1,18 +1,22 @@
 #!/usr/bin/env bash
 # Runs all programs on their stored inputs without any proof, for a first check after a change:
-# bash scripts/quick.sh [CRATE..]
+# bash scripts/quick.sh [--unchecked] [CRATE..]
 #
-# Each program is built without proofs (scripts/native.sh, which keeps the build while the sources stay the same), or is
-# the proved build if that is up to date. scripts/runs.sh tests it. What passed is not run again until the program or
+# Each program is built without proofs (scripts/native.sh --checked, which keeps the build while the sources stay the
+# same), or is the proved build if that is up to date. scripts/runs.sh tests it. What passed is not run again until the program or
 # its runs change.
 #
 # The builds stop at an index out of range, an overflow or a failed unwrap (status 132; `rt try` says where), so this
 # finds those faults for the stored inputs, and wrong output; what holds for all inputs is proved by scripts/test.sh.
-# QUICK_JOBS programs run at a time, by default one for each processor. The last line has the counts. Status 5: the
-# toolchain's command rt is missing.
+# With --unchecked, it runs the builds that people get of a commit, without these checks: both kinds must print the same.
+# QUICK_JOBS programs are built at a time, by default one for each processor. A line says when a step begins, what it
+# does, and how long it has taken: at least one a minute. The last line has the counts. Status 5: the toolchain's
+# command rt is missing.
 source "$(dirname -- "$(readlink -f -- "$0")")/common.sh"
 set +e
 cd -- "$top" || exit
+kind=--checked
+if [ "${1-}" = --unchecked ]; then kind= && shift; fi
 command -v rt >/dev/null || fail 5 "the toolchain's command rt is not here: put it on PATH"
 
 # sum_of_runs CRATE PROGRAM: the checksum of a program, of its runs and of the scripts that compare them
@@ -24,18 +28,33 @@ sum_of_runs() {
     } | sha256sum
 }
 
+# progress: prints the lines of native.sh in which a new step begins, and else one a minute
+progress() {
+    local line step='' last='' lines=0
+    while IFS= read -r line; do
+        if [[ $line != "building "* ]]; then continue; fi
+        step=${line%, [0-9]* s}
+        lines=$((lines + 1))
+        if [ "$step" != "$last" ]; then lines=0; fi
+        if ((lines % 6 == 0)); then echo "$line"; fi
+        last=$step
+    done
+}
+
 # try CRATE: builds a program, tests its runs, and prints the result
 try() {
     local said program sum passed=crates/$1/out/passed
     SECONDS=0
     said=$(mktemp) || return
-    if ! program=$(bash scripts/native.sh "$1" </dev/null 2>"$said"); then
+    program=$(mktemp) || return
+    bash scripts/native.sh ${kind:+"$kind"} "$1" </dev/null 2>&1 >"$program" | tee "$said" | progress
+    if ! program=$(cat -- "$program" && rm -- "$program") || [ ! -x "$program" ]; then
         printf '%s\n%s: NOT BUILT\n' "$(<"$said")" "$1"
     elif sum=$(sum_of_runs "$1" "$program") && [ -f "$passed" ] && [ "$(<"$passed")" = "$sum" ]; then
         echo "$1: right (unchanged since it passed)"
-    elif bash scripts/runs.sh "$1" "$program" >"$said" 2>&1; then
+    elif echo "$1: built, $SECONDS s; running it" && bash scripts/runs.sh "$1" "$program" >"$said" 2>&1; then
         mkdir -p "crates/$1/out" && echo "$sum" >"$passed"
-        echo "$1: right ($SECONDS s)"
+        echo "$1: right, $SECONDS s"
     else
         printf '%s\n%s: FAILED\n' "$(<"$said")" "$1"
         sum=
@@ -44,13 +63,14 @@ try() {
     [ -n "${sum-}" ]
 }
 
-# the crates that most others use come first, since they take longest
+# the programs of these crates, or all; first those that use most crates, since they take longest
 crates=("$@")
-if [ $# -eq 0 ]; then mapfile -t crates < <(sed -n 's/^\([a-z][a-z0-9_]*\).*:.*/\1/p' crates.txt | tac); fi
-programs=()
-for crate in "${crates[@]}"; do
-    if [ -f "crates/$crate/src/main.rt" ]; then programs+=("$crate"); fi
-done
+if [ $# -eq 0 ]; then mapfile -t crates < <(sed -n 's/^\([a-z][a-z0-9_]*\).*:.*/\1/p' crates.txt); fi
+mapfile -t programs < <(for crate in "${crates[@]}"; do
+    if [ -f "crates/$crate/src/main.rt" ]; then
+        echo "$(bash scripts/vendor.sh --list "$crate" | wc -l) $crate"
+    fi
+done | sort -rn | cut -d ' ' -f 2)
 count=${#programs[@]}
 jobs=${QUICK_JOBS:-$(nproc)}
 passed=0

@@ -2,22 +2,20 @@
 # Tests a program with its stored runs, or runs rows: bash scripts/runs.sh CRATE [PROGRAM]
 #                                                     bash scripts/runs.sh --rows [ROW..]
 #
-# A run is the folder crates/CRATE or a folder crates/CRATE/runs/NAME. Its file `args` has the arguments, one per line,
-# `stdin` is standard input, and `stdout`, `stderr` and `status` are the expected output and exit status. Where a file
-# is missing, the output must be empty and the status 0, but any `stderr` is accepted. The program runs in a folder with
-# the files of runs/data and of the run's own `data`. Afterwards these must be as before, with their permissions, except
-# for the files of its folder `after`, and there may be no other file. With a file `requests` that has three numbers,
-# the run takes place again with each request for memory refused in turn: the status, the least number of requests, and
-# how many of them change nothing. The script crates/CRATE/checks.sh has further checks. PROGRAM is the proved build by
-# default.
+# The runs are in the transcripts crates/CRATE/runs/*.run, whose form scripts/transcripts.py describes and reads; one
+# more run is the folder crates/CRATE, with files as `expand` writes them. The program runs in a folder with the files
+# of runs/data and of the run's own. Afterwards these must be as before, with their permissions, except for the files
+# `after`, and there may be no other file. A line `refused` has three numbers: the run takes place again with each
+# request for memory refused in turn, and they are the status, the least number of requests, and how many of them change
+# nothing. The script crates/CRATE/checks.sh has further checks. PROGRAM is the proved build by default.
 #
 # --rows prints each ROW with its answer (docs/ARCHITECTURE.md, "Tests are rows of data"). Without ROW it takes the
 # lines of crates/toml_span_rows/stdout that are not answers as `stdin`, runs the program, and shows each answer that
-# differs (< as stored, > now), with status 1. The program is a native build (scripts/native.sh).
+# differs (< as stored, > now), with status 1. The program is a native build (scripts/native.sh --checked).
 source "$(dirname -- "$(readlink -f -- "$0")")/common.sh"
 scratch
 if [ "${1-}" = --rows ]; then
-    program=$(bash "$top/scripts/native.sh" toml_span_rows </dev/null)
+    program=$(bash "$top/scripts/native.sh" --checked toml_span_rows </dev/null)
     cd -- "$top/crates/toml_span_rows/data"
     if [ $# -gt 1 ]; then
         printf '%s\n' "${@:2}" | "$program"
@@ -46,7 +44,7 @@ holds() {
     count=$((count + 1))
     if ! "$@" >"$work/differs"; then
         wrong=$((wrong + 1))
-        echo "runs: $crate/${name#.}: wrong: $(printf '%q ' "$@") (status $status)"
+        echo "runs: $crate/${name##*/}: wrong: $(printf '%q ' "$@") (status $status)"
         cat "$work/differs" "$work/stderr" | head -n 100
     fi
 }
@@ -93,7 +91,7 @@ arguments_of() {
     words=()
     if [ -f "$name/args" ]; then mapfile -t words <"$name/args"; fi
     input=/dev/null
-    if [ -f "$name/stdin" ]; then input=$PWD/$name/stdin; fi
+    if [ -f "$name/stdin" ]; then input=$(realpath -- "$name/stdin"); fi
 }
 
 # stored: checks the stored run $name
@@ -153,9 +151,11 @@ kit=$(dirname "$(rt doc)")/toolchain/bin
 "$kit/clang" --target=x86_64-unknown-linux-gnu -O1 -fPIC -c "$top/scripts/c_tests/faults.c" -o "$work/faults.o" &&
     "$kit/ld.lld" -shared "$work/faults.o" -o "$work/faults.so" || exit
 
-for name in . runs/*/; do
+mkdir "$work/runs"
+if [ -d runs ] && ! python3 "$top/scripts/transcripts.py" expand "$crate" "$work/runs"; then exit 1; fi
+for name in . "$work"/runs/*/; do
     name=${name%/}
-    if [ -d "$name" ] && [ "$name" != runs/data ]; then stored; fi
+    if [ -d "$name" ]; then stored; fi
 done
 name=.
 arguments_of

@@ -46,7 +46,7 @@ chmod +x "$work"/kit/bin/* "$work/kit/toolchain/bin/clang"
 fresh() {
     rm -rf "$repository" "$HOME" "$work/prefix" "$TRIES"
     mkdir -p "$crate/src" "$repository/crates/toml_span/src" "$HOME"
-    cp -r "$top/scripts" "$top"/LICENSE-* "$repository"
+    cp -r "$top/scripts" "$top"/LICENSE-* "$top/.gitignore" "$repository"
     printf 'toml_span_cli:\ntoml_span:\n' >"$repository/crates.txt"
     echo '//! A library.' >"$repository/crates/toml_span/src/lib.rt"
     cat >"$crate/src/main.rt" <<'SOURCE'
@@ -63,6 +63,8 @@ int main(int count, char **words) {
 SOURCE
 }
 for name in native install package vendor; do eval "$name() { bash \"\$repository/scripts/$name.sh\" \"\$@\"; }"; done
+commit() { git -C "$repository" init -q && git -C "$repository" add . &&
+    git -C "$repository" -c user.name=n -c user.email=e commit -qm one; }
 cli() { bash "$repository/scripts/toml-span.sh" "$@"; }
 tries() { [ "$(wc -l <"$TRIES")" -eq "$1" ]; }
 is_clean() { [ -z "$(find "$repository" "$HOME" -name '.build-*')" ]; }
@@ -105,7 +107,7 @@ while IFS='|' read -r name expected line command; do
     echo "scripts: wrong: $name (status $status, expected $expected and ${line:-any output})"
     sed 's/^/    /' "$work/said"
 done < <(sed -z 's/\n    / /g' <<'CASES'
-the first run builds, and says so|2|^building toml_span_cli without proofs, once|fresh; cli a 'b c'
+the first run builds, and says so|2|^building toml_span_cli without proofs, with run-time checks, once|fresh; cli a 'b c'
 a link, from another folder, with CDPATH|2|^\[x\]\[y z\]$|
     mkdir b; cd b; ln -s "$repository/scripts/toml-span.sh" l; CDPATH=/:.. bash l x 'y z'
 the next run does not|0|!building|cli && tries 1
@@ -121,6 +123,13 @@ a compiler that fails|5|^clang: out of luck$|FAULT=clang cli
 a toolchain that works differently|5|make the proved build with `rt run`|FAULT=nothing cli
 a linker that fails|5|^rattle-link: out of luck$|FAULT=rattle-link native toml_span_cli
 nothing is left of these|0||is_clean
+a commit is built without run-time checks|0|^building toml_span_cli of commit [0-9a-f]* without proofs and run-time|
+    fresh; commit && cli && tries 1
+and the next run takes that build|0|!building|cli && tries 1
+a change is built with them|0|^building toml_span_cli without proofs, with run-time checks, once|
+    echo >>"$crate/src/main.rt"; cli && tries 2
+which --checked takes of a commit too|0|!building|commit && native --checked toml_span_cli && tries 2
+but others do not|0|^building toml_span_cli of commit|cli && tries 3
 a checkout that can't be written|0|/home/.cache/toml_span/toml_span_cli/|fresh; : >"$crate/out"; native toml_span_cli
 nor the cache|5|name another one in XDG_CACHE_HOME|fresh; : >"$crate/out"; : >"$HOME/.cache"; cli
 two runs at once make one build|0|^waiting for another build|fresh; FAULT=slow cli & sleep 0.5; cli && wait && tries 1

@@ -327,7 +327,7 @@ def limits(named):
     programs = [[os.path.abspath(it)] for it in named]
     if not programs:
         cli, show = toml_test.native("toml_span_cli"), toml_test.native("toml_span_show")
-        programs = [[cli, "check"], [cli, "fmt", "-"], [cli, "get", "--items", "-", ""]]
+        programs = [[cli, "check", "-"], [cli, "fmt", "-"], [cli, "get", "--items", "-", ""]]
         programs += [[cli, "get", "--tagged", "-", ""], [show]]
     for program in programs:
         print(f"{' '.join([os.path.relpath(program[0], TOP), *program[1:]])}:")

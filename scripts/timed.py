@@ -1,9 +1,9 @@
 #!/usr/bin/env python3
-"""Runs a command, and then prints how long its proofs, tests and must-fail edits took: timed.py COMMAND ARGUMENT..
+"""Runs a command, and then prints how long its proofs and tests took: timed.py COMMAND ARGUMENT..
 
-Once a second it looks at the prover's processes below the command: which crate each works on, whether it has --test
-or is in the folder of an edit, and its processor time. So up to a second of each process is missing, except in the
-total, which the system counts. The status is that of the command.
+Once a second it looks at the prover's processes below the command: which crate each works on, whether it has --test,
+and its processor time. So up to a second of each process is missing, except in the total, which the system counts. The
+status is that of the command.
 
 Processors differ in speed, and a shared one varies from hour to hour: the proof of toml_span_lex took from 129 to 283
 processor seconds. So each figure is also given as a multiple of that proof in the same run, if it was part of it.
@@ -16,7 +16,7 @@ import sys
 import time
 
 TICKS = os.sysconf("SC_CLK_TCK")
-PARTS = ["proofs", "tests", "edits"]
+PARTS = ["proofs", "tests"]
 UNIT = "proofs", "toml_span_lex"
 
 
@@ -38,12 +38,11 @@ def task(process):
     try:
         with open(f"/proc/{process}/cmdline", "rb") as it:
             words = it.read().decode(errors="replace").split("\0")
-        folder = os.readlink(f"/proc/{process}/cwd")
     except OSError:
         return None
     if os.path.basename(words[0]) != "rattle" or "--crate-name" not in words:
         return None
-    part = "edits" if "rt-edit-" in folder else "tests" if "--test" in words else "proofs"
+    part = "tests" if "--test" in words else "proofs"
     return part, words[words.index("--crate-name") + 1]
 
 

@@ -1,10 +1,11 @@
 #!/usr/bin/env python3
-"""Runs toml-span on the suite toml-test (TOML 1.1) and counts: toml_test.py [PROGRAM ARGUMENT..]
+"""Runs toml-span on the suite toml-test (TOML 1.1) and counts: toml_test.py [--rows | PROGRAM ARGUMENT..]
 
 The source package golang-toml of Debian's sid has the suite. apt fetches it from the mirror of this machine, into a
 temporary folder. PROGRAM with its arguments reads a document from standard input: of a valid one it prints
 the values with their types, which are compared with those of the suite by value; it ends with status 1 if one is
-invalid. It is `toml-span get --tagged - ''` of a native build (scripts/native.sh) unless it is given.
+invalid. It is `toml-span get --tagged - ''` of a native build (scripts/native.sh) unless it is given. --rows runs
+nothing: it prints a row `refused` of toml_span_rows for each invalid document that is UTF-8.
 
 Status: 0 if all pass, 1 if one does not, 2 if the suite cannot be fetched, as without a network or apt.
 """
@@ -16,6 +17,8 @@ import tempfile
 from pathlib import Path
 
 TOP = Path(__file__).resolve().parent.parent
+# a line of apt's archives
+HOST = r"(?m)^Debian \w+ (\S+)$"
 
 
 def moment(text):
@@ -69,6 +72,16 @@ def passes_all(program, folder):
     return passed == count and min(count) > 0
 
 
+def print_rows(folder):
+    """Prints the invalid documents as rows, each once. Returns 0."""
+    named = {"\\": r"\\", "\n": r"\n", "\r": r"\r", "\t": r"\t"}
+    shown = lambda c: named.get(c) or (c if " " <= c <= "~" else f"\\u{{{ord(c):x}}}")
+    texts = {it.decode(errors="replace"): it for _, it, wanted in documents(folder) if wanted is None}
+    for text in (text for text, document in texts.items() if text.encode() == document):
+        print(f"refused: {''.join(map(shown, text))}\n    refused")
+    return 0
+
+
 def called(*words, **named):
     """Returns the output of a command, or None if it fails or does not exist."""
     try:
@@ -91,8 +104,10 @@ class Unreachable(Exception):
 
 def apt_of(work, kind="deb-src"):
     """Returns the words of an apt-get command that knows only the packages of Debian's sid (`deb` or `deb-src`)."""
-    targets = called("apt-get", "indextargets", "--format", "$(ORIGIN) $(RELEASE) $(REPO_URI)") or ""
-    hosts = re.findall(r"(?m)^Debian \w+ (\S+)$", targets)
+    list_targets = ("apt-get", "indextargets", "--format", "$(ORIGIN) $(RELEASE) $(REPO_URI)")
+    hosts = re.findall(HOST, called(*list_targets) or "")
+    if not hosts and called("apt-get", "-qq", "update") is not None:
+        hosts = re.findall(HOST, called(*list_targets) or "")
     if not hosts:
         raise Unreachable("apt knows no Debian archive: run apt-get update")
     for folder in ("lists/partial", "cache/archives/partial", "sources"):
@@ -128,8 +143,10 @@ def main(program):
         if why := fetch(Path(work)):
             print(f"toml-test: the suite cannot be fetched: {why}", file=sys.stderr)
             return 2
-        program = program or [native("toml_span_cli"), "get", "--tagged", "-", ""]
         for version in Path(work).glob("sources/**/toml-test/tests/version.toml"):
+            if program == ["--rows"]:
+                return print_rows(version.parent)
+            program = program or [native("toml_span_cli"), "get", "--tagged", "-", ""]
             return 0 if passes_all(program, version.parent) else 1
         print("toml-test: no suite is in these sources", file=sys.stderr)
         return 2

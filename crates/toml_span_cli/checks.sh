@@ -4,7 +4,7 @@
 cuts() {
     local document at format
     mkdir "$work/folder/cuts"
-    for document in runs/data/*.toml runs/tagged_*/stdin; do
+    for document in runs/data/*.toml "$work"/runs/tagged_*/stdin; do
         for ((at = $(stat -c %s "$document"); at > 0; at -= 7)); do
             head -c "$at" "$document" >"$work/folder/cuts/${document//\//_}-$at.toml"
         done
@@ -74,8 +74,8 @@ prefixes() {
 
 # edits: files of every kind that are edited
 edits() {
-    # shellcheck disable=SC2016,SC2034 # (backticks of messages; used by `writes`)
-    local number long left='error: cannot write `named.toml`: `named.toml.toml-span` was left by another run'
+    # shellcheck disable=SC2016 # (backticks of messages)
+    local number long
     long=$(printf '%0240d' 0)
     cd "$work/folder" || return
     printf 'a = 1\n' | tee read.toml one.toml long.toml left.toml named.toml many.toml >"$long"
@@ -97,28 +97,159 @@ help: `--in-place` writes into the file itself, which keeps its names' set one.t
     writes 3 'error: cannot write `/dev/null`: it is not a regular file' set --in-place /dev/null /a 2
     ends 0 set "$long" /a 2
     holds cmp "$long" read.toml
-    echo other >named.toml.toml-span
-    writes 3 "$left: remove it if none is running" set --wait 0 named.toml /a 2
-    writes 3 "${left/named/linked}: remove it if none is running" set --wait=0 linked.toml /a 2
-    (umask 077 && echo other >left.toml.toml-span)
-    ends 0 set left.toml /a 2
-    holds cmp left.toml read.toml
-    (umask 077 && : >left.toml.toml-span)
-    exec 8<left.toml.toml-span
-    flock 8
-    writes 3 'error: cannot write `left.toml`: another run is editing it and holds `left.toml.toml-span`
-help: `--wait SECONDS` waits longer' set --wait 0 left.toml /a 3
-    exec 8<&-
     for number in {1..8}; do "$program" add many.toml '' "k$number" "$number" & done
     wait
     holds test "$(grep -c '^k' many.toml)" = 8
-    holds test "$(echo *.toml-span)" = 'left.toml.toml-span named.toml.toml-span'
+    holds test "$(echo *.toml-span)" = '*.toml-span'
     cd - >/dev/null || return
 }
 
+# fixes: a file that can't be written does not keep others from being fixed
+fixes() {
+    # shellcheck disable=SC2016 # (backticks of messages)
+    local broken='broken/a.toml:1:5: unquoted-string: booleans are lowercase'
+    cd "$work/folder" || return
+    mkdir broken
+    printf 'a = True\n' | tee broken/a.toml >broken/b.toml
+    chmod 444 broken/a.toml
+    writes 3 "$broken
+error: cannot write \`broken/a.toml\`: it is read-only
+fixed 1 error in 1 file" check --fix --format short broken
+    holds test "$(<broken/b.toml)" = 'a = true'
+    ends 3 check --fix --quiet broken
+    cd - >/dev/null || return
+}
+
+# locks: files that have the name of the lock of another file. Only one that a run of toml-span has left is removed.
+locks() {
+    # shellcheck disable=SC2016 # (backticks of messages)
+    local mode command taken='`k.toml.toml-span` already exists, and was not left by toml-span
+help: the result is first written to a file of that name; rename or remove yours'
+    cd "$work/folder" || return
+    echo 'a = 2' >two
+    ln -s k.toml linked
+    for mode in 600 644; do
+        echo 'a=1' >k.toml
+        echo mine >k.toml.toml-span
+        chmod "$mode" k.toml.toml-span
+        writes 3 "error: cannot write \`k.toml\`: $taken" set k.toml /a 2
+        writes 3 "error: cannot write \`k.toml\`: $taken" set --in-place k.toml /a 2
+        writes 3 "error: cannot write \`k.toml\`: $taken" fmt k.toml
+        writes 3 "error: cannot write \`linked\`: $taken" set --wait 0 linked /a 2
+        holds test "$(cat k.toml k.toml.toml-span)" = $'a=1\nmine'
+        holds test "$(stat -c %a k.toml.toml-span)" = "$mode"
+    done
+    for command in mkfifo mkdir 'ln -s nowhere' 'ln two'; do
+        rm -rf k.toml.toml-span
+        $command k.toml.toml-span
+        writes 3 "error: cannot write \`k.toml\`: $taken" set k.toml /a 2
+        holds test -e k.toml.toml-span -o -L k.toml.toml-span
+    done
+    rm k.toml.toml-span
+    for mode in 1600 644; do
+        echo 'a = 1' >k.toml
+        : >k.toml.toml-span
+        chmod "$mode" k.toml.toml-span
+        exec 8<k.toml.toml-span
+        flock 8
+        writes 3 'error: cannot write `k.toml`: another run is editing it and holds `k.toml.toml-span`
+help: `--wait SECONDS` waits longer' set --wait 0 k.toml /a 2
+        exec 8<&-
+        rm k.toml.toml-span
+    done
+    echo part >k.toml.toml-span
+    chmod 1600 k.toml.toml-span
+    ends 0 set k.toml /a 2
+    holds cmp k.toml two
+    holds test ! -e k.toml.toml-span
+    cd - >/dev/null || return
+}
+
+# signals: a run that is interrupted, ended or killed leaves the file as it was or as it should be, and what it leaves
+# beside the file is removed by the next run
+signals() {
+    local number
+    cd "$work/folder" || return
+    python3 -c 'print("\n".join(f"k{n} = {n}" for n in range(20000)))' >old
+    sed '1s/.*/k0 = 1/' old >new
+    for number in 2 15 9 2 15 9; do
+        cp old big.toml
+        python3 -c "$interrupted" "$number" "$program" set big.toml k0 1
+        holds test "$(cmp -s big.toml old && echo same)$(cmp -s big.toml new && echo same)" = same
+        ends 0 set big.toml k0 1
+        holds cmp big.toml new
+        holds test ! -e big.toml.toml-span
+    done
+    cd - >/dev/null || return
+}
+
+# pipes: a pipe, which would never end, is not opened
+pipes() {
+    # shellcheck disable=SC2016 # (backticks of messages)
+    local command
+    cd "$work/folder" || return
+    mkdir piped
+    mkfifo pipe piped/.gitignore piped/schema.json
+    ln -s pipe to_pipe
+    echo 'a = 1' | tee piped/a.toml >one.toml
+    for command in 'fmt' 'fmt --check' 'fmt --diff'; do
+        # shellcheck disable=SC2086 # (words)
+        writes 2 'error: cannot read `pipe`: it is not a regular file' $command pipe
+    done
+    writes 2 'error: cannot read `pipe`: it is not a regular file' set --diff pipe /a 2
+    writes 2 'error: cannot read `pipe`: it is not a regular file' edit --dry-run pipe -e 'remove a'
+    writes 2 'error: cannot read `to_pipe`: it is not a regular file' fmt to_pipe
+    writes 3 'error: cannot write `pipe`: it is not a regular file' set pipe /a 2
+    writes 0 '1 file unchanged' fmt piped
+    ends 0 check --quiet piped
+    ends 2 check --schema piped/schema.json one.toml
+    holds grep -qx 'error: cannot read the schema `piped/schema.json`: it is not a regular file' "$work/stderr"
+    ends 2 check --catalog pipe one.toml
+    printf '#:schema https://example.org/s.json\na = 1\n' >mapped.toml
+    ends 2 check --schema-map https://example.org/s.json=pipe mapped.toml
+    printf '#:schema ./pipe\na = 1\n' >names.toml
+    ends 2 check names.toml
+    cd - >/dev/null || return
+}
+
+# written: the options that say how files are written, in all commands that write files
+written() {
+    # shellcheck disable=SC2016 # (backticks of messages)
+    local command
+    cd "$work/folder" || return
+    for command in fmt 'fmt --in-place'; do
+        rm -f read.toml one.toml other.toml
+        echo 'a=1' | tee one.toml >read.toml
+        chmod 444 read.toml
+        ln one.toml other.toml
+        # shellcheck disable=SC2086 # (words)
+        writes 3 'error: cannot write `read.toml`: it is read-only
+help: `--force` edits it all the same' $command read.toml
+        ends 0 fmt --force read.toml
+        holds test "$(stat -c %a read.toml) $(cat read.toml)" = '444 a = 1'
+    done
+    writes 3 'error: cannot write `one.toml`: it has more than one name (hard links)
+help: `--in-place` writes into the file itself, which keeps its names' fmt one.toml
+    writes 0 '1 file formatted' fmt --in-place one.toml
+    holds cmp other.toml read.toml
+    cd - >/dev/null || return
+}
+
+interrupted='import os, subprocess, sys, time
+child = subprocess.Popen(sys.argv[2:])
+while child.poll() is None and not os.path.exists("big.toml.toml-span"): time.sleep(0.0005)
+time.sleep(0.01)
+if child.poll() is None: child.send_signal(int(sys.argv[1]))
+child.wait()'
+
 terminal='import os, pty, sys; sys.exit(os.waitstatus_to_exitcode(pty.spawn(sys.argv[1:])))'
 fresh
-for part in cuts names prefixes edits; do "$part"; done
+for part in cuts names prefixes edits fixes; do "$part"; done
+for part in locks signals pipes written; do
+    fresh
+    "$part"
+done
+fresh
 out=/dev/full ends 3 check settings.toml
 out=/dev/full ends 3 check --help
 out=/dev/full ends 3 show tree.toml

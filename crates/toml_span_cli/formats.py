@@ -96,7 +96,8 @@ def location(name, label, text):
     physical = {"artifactLocation": artifact(name)}
     if not label:
         return {"physicalLocation": physical}
-    return {"physicalLocation": physical | {"region": region(label, text)}, "message": {"text": label["message"]}}
+    said = {"message": {"text": label["message"]}} if label["message"] else {}
+    return {"physicalLocation": physical | {"region": region(label, text)}} | said
 
 
 def result(fault, text):

@@ -31,7 +31,7 @@ def value(r, depth=3):
     if kind == 0:
         return r.choice([True, False])
     if kind <= 2:
-        return r.choice([0, 1, 2, 3, -1, 1.5, 2.5, 10, 0.25])
+        return r.choice([0, 1, 2, 3, -1, 1.5, 2.5, 10, 0.25, 0.1, 0.3, 2**53, 2**53 + 1, -(2**62), 1e15])
     if kind <= 4:
         return r.choice(["", "a", "b", "ab", "abc", "1", "\u00e9\u00e9"])
     if kind <= 5:
@@ -50,6 +50,21 @@ def schema(r, draft, depth=3):
             made[keyword] = make(r, draft, depth - 1)
     if "$ref" not in made and depth == 3 and r.random() < 0.3:
         made["properties"] = {"a": {"$ref": "#"}, "b": schema(r, draft, 2)}
+    elif depth == 3 and r.random() < 0.5:
+        made |= references(r, draft)
+    return made
+
+
+def references(r, draft):
+    """Returns keywords that refer to schemas by a pointer, by an anchor and by a dynamic anchor, as the draft has them."""
+    at = list(DEFAULTS).index(draft)
+    place = "$defs" if at >= 3 else "definitions"
+    made = {place: {"d": schema(r, draft, 2)}, "properties": {"a": {"$ref": f"#/{place}/d"}}}
+    for name, first, anchor, word in (("b", 3, "$anchor", "$ref"), ("ab", 4, "$dynamicAnchor", "$dynamicRef")):
+        inner = schema(r, draft, 2)
+        if at >= first and isinstance(inner, dict):
+            made[place][name] = {anchor: f"to_{name}", **inner}
+            made["properties"][name] = {word: f"#to_{name}"}
     return made
 
 
@@ -72,7 +87,7 @@ def count(r, draft, depth):
 
 
 def number(r, draft, depth):
-    return r.choice([0, 1, 1.5, 2, -1])
+    return r.choice([0, 1, 1.5, 2, -1, 0.1, 2**53, 2**53 + 1])
 
 
 # keyword: the first draft, whether it has schemas inside, and how its value is made

@@ -145,10 +145,12 @@ static void look_at_faults(void) {
     static const struct {
         const char *text;
         uint32_t status, code;
-        size_t start;
-    } texts[] = {{"a = 1\na = 2", TOML_SPAN_INVALID, 13, 6},
-                 {"=", TOML_SPAN_INVALID, 11, 0},
-                 {"a = '\xff'", TOML_SPAN_UNREAD, 0, 0}};
+        size_t start, end;
+    } texts[] = {{"a = 1\na = 2", TOML_SPAN_INVALID, 13, 6, 7},
+                 {"=", TOML_SPAN_INVALID, 11, 0, 1},
+                 {"a", TOML_SPAN_INVALID, 11, 1, 1},
+                 {"a\xF0\x9F\x98\x80", TOML_SPAN_INVALID, 7, 1, 5},
+                 {"a = '\xff'", TOML_SPAN_UNREAD, 0, 0, 0}};
     for (size_t at = 0; at < sizeof texts / sizeof *texts; at++)
         for (int which = 0; which < 2; which++) {
             take(texts[at].text);
@@ -157,7 +159,8 @@ static void look_at_faults(void) {
             needed = refused = 77;
             uint32_t status = call(which ? &one : NULL, 1, part, 100);
             tell(status == texts[at].status && needed == 77 && refused == 77 && is_blank(part, 100) &&
-                     fault.code == texts[at].code && fault.span.start == texts[at].start,
+                     fault.code == texts[at].code && fault.span.start == texts[at].start &&
+                     fault.span.end == texts[at].end,
                  texts[at].text, "fault", at);
         }
     static char *large;

@@ -113,6 +113,13 @@ static int is_rewritten(const char *text, size_t length, guarded block, uint32_t
     return now != TOML_SPAN_READ || needed > room || toml_span_check(out, needed) == TOML_SPAN_READ;
 }
 
+/* Returns whether a range is in a text of UTF-8, and begins and ends between characters. */
+static int is_whole(const char *text, size_t length, toml_span_range range) {
+    return range.start <= range.end && range.end <= length &&
+           (range.start == length || (text[range.start] & 0xC0) != 0x80) &&
+           (range.end == length || (text[range.end] & 0xC0) != 0x80);
+}
+
 int main(int argc, char **argv) {
     if (argc < 3) return 2;
     long count = atol(argv[1]), read = 0, refused = 0, other = 0, wrong = 0;
@@ -140,7 +147,8 @@ int main(int argc, char **argv) {
             if (counts.nodes <= room && !hangs(nodes, counts, length)) wrong++;
         } else if (status == TOML_SPAN_INVALID) {
             refused++;
-            if (fault.code < 1 || fault.code > 17 || fault.span.start > length) wrong++;
+            if (fault.code < 1 || fault.code > 17 || !is_whole(shown, length, fault.span)) wrong++;
+            if (!is_whole(shown, length, fault.first)) wrong++;
         } else if (status == TOML_SPAN_UNREAD) {
             other++;
         } else wrong++;

@@ -3,7 +3,6 @@
 //! `toml_span_bench FILE N` parses FILE N times, or for about a second if N is 0, and drops the tree each time. It
 //! prints one line with the shortest and the mean time of a pass in nanoseconds. `toml_span_bench tokens FILE N` only
 //! splits FILE into tokens.
-#![tactic(auto)]
 
 use std::alloc::Global;
 use std::process::ExitCode;

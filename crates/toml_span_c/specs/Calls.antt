@@ -48,9 +48,9 @@ pub record IsRead (bytes : List ℕ) (nodes nodes' : List Record) (strings strin
 abbrev pub IsInvalid : List ℕ → (ErrorContent → Type 0) → Type 0
 IsInvalid bytes P = (error : Error) × IsRefusal bytes depth_limit (stops.Fault error) × P (content_of error)
 
--- The record describes the error.
-abbrev pub IsFaultOf : FaultRecord → ErrorContent → Type 0
-IsFaultOf fault error = fault ≡ fault_of error
+-- The record describes the error of the document.
+abbrev pub IsFaultOf : List ℕ → FaultRecord → ErrorContent → Type 0
+IsFaultOf text fault error = fault ≡ fault_of text error
 
 -- The array has as much of the text as fits, and `needed` is the length of the whole text.
 abbrev pub Fills : List ℕ → List ℕ → ℕ → List ℕ → Type 0

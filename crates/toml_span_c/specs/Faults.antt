@@ -8,6 +8,8 @@ use Rattle.toml_span_tree.specs.Error.{duplicate_key, redefine_as_array, multili
 use Rattle.toml_span_tree.specs.Error.{unquoted_string}
 use Rattle.toml_span_c.specs.Records.{no_span, range_of}
 use Rattle.toml_span_c.specs.declared.faults.FaultRecord.{FaultRecord}
+use Rattle.toml_span_c.specs.declared.records.Range.{Range}
+use Rattle.toml_span_report.specs.Places.{clipped_span}
 
 -- the number of a kind of error, or 0 for kinds that `parse` does not return
 abbrev pub code_number : Kind → ℕ
@@ -63,12 +65,17 @@ abbrev pub has_first : Option Span → ℕ
 has_first None = 0
 has_first (Some first) = 1
 
-abbrev pub fault_of : ErrorContent → FaultRecord
-fault_of error = record {
+-- the part of a span that is in the document, in whole characters
+abbrev pub range_in : List ℕ → Span → Range
+range_in text span = range_of (clipped_span text span)
+
+-- the record of the error of a document
+abbrev pub fault_of : List ℕ → ErrorContent → FaultRecord
+fault_of text error = record {
   code = code_number error.kind;
   has_first = has_first (first_of error.kind);
-  span = range_of error.span;
-  first = range_of (unwrap_or (first_of error.kind) no_span);
+  span = range_in text error.span;
+  first = range_in text (unwrap_or (first_of error.kind) no_span);
   line = (unwrap_or error.line_info (0, 0)).0;
   column = (unwrap_or error.line_info (0, 0)).1;
 }

@@ -235,7 +235,7 @@ pub extern "C" fn toml_span_edit_paths(
     ensures status { IsNewStatus text.now result }
     ensures made { result ≡ 0
         → (new : List ℕ) × IsEdited text.now changes.now new × Holds out.old out.new needed.new new }
-    ensures faulty { result ≡ 1 → IsInvalid text.now (IsFaultOf fault.new) }
+    ensures faulty { result ≡ 1 → IsInvalid text.now (IsFaultOf text.now fault.new) }
     ensures refused { result ≡ 3
         → IsDocument text.now × ((reason : List ℕ) × Fills out.old out.new needed.new reason) }
     ensures out_kept { result ≢ 0 → result ≢ 3 → (out.new ≡ out.old) × (needed.new ≡ needed.old) }
@@ -247,8 +247,8 @@ pub extern "C" fn toml_span_edit_paths(
             drop(root);
             put_changed(alloc, document, changes, out, needed, refused)
         }
-        Answer::Fault(_text, error) => {
-            *fault = fault_of(&error);
+        Answer::Fault(document, error) => {
+            *fault = fault_of(document, &error);
             1
         }
         Answer::Unread => 2,

@@ -5,9 +5,10 @@ ghost use Rattle.toml_span_c.specs.Faults as spec;
 
 use crate::records::Range;
 use toml_span_lex::span::Span;
+use toml_span_report::clipped_span;
 use toml_span_tree::{Error, ErrorKind};
 
-/// The error of a document. Spans are byte offsets, end exclusive.
+/// The error of a document. Spans are byte offsets, end exclusive, in the document and at character boundaries.
 #[repr(C)]
 #[derive(Clone, Copy)]
 pub struct FaultRecord {
@@ -63,24 +64,25 @@ fn first_of(kind: &ErrorKind<'_>) -> Option<Span>
     }
 }
 
-/// Converts an error to a record.
-pub(crate) fn fault_of(error: &Error<'_>) -> FaultRecord
-    ensures { result ≡ spec.fault_of (content_of error.now) }
+/// Returns the part of a span that is in the document, in whole characters (`clipped_span`).
+fn range_in(text: &str, span: Span) -> Range
+    ensures { result ≡ spec.range_in text.now span }
+{
+    let Span { start, end } = clipped_span(text, span);
+    Range { start, end }
+}
+
+/// Converts an error of the document `text` to a record.
+pub(crate) fn fault_of(text: &str, error: &Error<'_>) -> FaultRecord
+    ensures { result ≡ spec.fault_of text.now (content_of error.now) }
 {
     let first = first_of(&error.kind);
-    let at = first.unwrap_or(Span { start: 0, end: 0 });
     let (line, column) = error.line_info.unwrap_or((0, 0));
     FaultRecord {
         code: code_number(&error.kind),
         has_first: u32::from(first.is_some()),
-        span: Range {
-            start: error.span.start,
-            end: error.span.end,
-        },
-        first: Range {
-            start: at.start,
-            end: at.end,
-        },
+        span: range_in(text, error.span),
+        first: range_in(text, first.unwrap_or(Span { start: 0, end: 0 })),
         line,
         column,
     }

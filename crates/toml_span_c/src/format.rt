@@ -61,7 +61,7 @@ pub extern "C" fn toml_span_format(
     ensures status { IsNewStatus text.now result }
     ensures made { result ≡ 0
         → (new : List ℕ) × IsFormatted text.now new × Holds out.old out.new needed.new new }
-    ensures faulty { result ≡ 1 → IsInvalid text.now (IsFaultOf fault.new) }
+    ensures faulty { result ≡ 1 → IsInvalid text.now (IsFaultOf text.now fault.new) }
     ensures unmade { result ≡ 3 → IsDocument text.now }
     ensures out_kept { result ≢ 0 → (out.new ≡ out.old) × (needed.new ≡ needed.old) }
     ensures fault_kept { result ≢ 1 → fault.new ≡ fault.old }
@@ -75,8 +75,8 @@ pub extern "C" fn toml_span_format(
             };
             put_formatted(alloc, document, options, out, needed)
         }
-        Answer::Fault(_text, error) => {
-            *fault = fault_of(&error);
+        Answer::Fault(document, error) => {
+            *fault = fault_of(document, &error);
             1
         }
         Answer::Unread => 2,

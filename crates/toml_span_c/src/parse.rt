@@ -27,7 +27,7 @@ pub extern "C" fn toml_span_parse(
 ) -> u32
     ensures status { IsStatus text.now result }
     ensures read { result ≡ 0 → IsRead text.now nodes.old nodes.new strings.old strings.new counts.new }
-    ensures faulty { result ≡ 1 → IsInvalid text.now (IsFaultOf fault.new) }
+    ensures faulty { result ≡ 1 → IsInvalid text.now (IsFaultOf text.now fault.new) }
     ensures kept { result ≢ 0 → (nodes.new ≡ nodes.old) × (strings.new ≡ strings.old) × (counts.new ≡ counts.old) }
     ensures fault_kept { result ≢ 1 → fault.new ≡ fault.old }
 {
@@ -36,8 +36,8 @@ pub extern "C" fn toml_span_parse(
             *counts = put_tree(document, &root, nodes, strings);
             0
         }
-        Answer::Fault(_text, error) => {
-            *fault = fault_of(&error);
+        Answer::Fault(document, error) => {
+            *fault = fault_of(document, &error);
             1
         }
         Answer::Unread => 2,

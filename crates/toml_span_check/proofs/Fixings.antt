@@ -1,17 +1,60 @@
--- One more fix.
-use Rattle.toml_span_lex.proofs.Common.{◌≡◌, ℕ, List, ◌+◌, Option, Some, None, Global, String, option_map, string_bytes, subst}
-use Rattle.toml_span_check.specs.Fixing.{Leads, NextFix, one_more}
+-- One more fix, and one more statement.
+use Rattle.toml_span_lex.proofs.Common.{◌≡◌, ◌<◌, ℕ, List, [], ◌∷◌, ◌++◌, length, take, take_more, get_or, ◌+◌, min, Option, Some, None, Result, Ok, Err, IfOk, AllocError, Global, String, string_bytes, option_map, subst, sym, inl}
+use Rattle.toml_span_lex.specs.declared.stop.Stop.TheVariants as stops
+use Rattle.toml_span_read.specs.Data.{depth_limit}
+use Rattle.toml_span_tree.specs.declared.error.Error.{Error}
+use Rattle.toml_span_tree.specs.Error.{content_of}
+use Rattle.toml_span.specs.Parsing.{IsRefusal}
+use Rattle.toml_span_safety.specs.Drafts.{Parts}
+use Rattle.toml_span_syntax.specs.declared.pieces.Piece.{Piece}
+use Rattle.toml_span_syntax.specs.declared.statements.Statement.{Statement}
+use Rattle.toml_span_check.specs.Fixing.{AddsStatement, Checks, Drafts, FixOf, FixesError, Leads, Mends, NextFix, another, fix, fixed, one_more}
+use Rattle.toml_span_check.specs.Safety.{own_bytes, own_pieces}
+use Rattle.toml_span_check.specs.declared.fixing.Fix.{Fix}
+use Rattle.toml_span_check.specs.declared.fixing.Fixed.{Fixed}
+use Rattle.toml_span_check.specs.declared.fixing.Step.{Step}
+use Rattle.toml_span_check.specs.declared.fixing.Step.TheVariants as steps
+use Rattle.toml_span_check.specs.declared.fixing.Way.{Way}
 
-pub leads_more : (text copy mid : List ℕ) (n : ℕ) (field : Option (String Global)) (new : String Global) → Leads text n mid → copy ≡ mid →
-    NextFix copy (option_map string_bytes field) → field ≡ Some new → Leads text (n + 1) (string_bytes new)
-leads_more text copy mid n field new before same next is =
-    one_more n mid (string_bytes new) before
-    (subst (λ (m : List ℕ). NextFix m (Some (string_bytes new))) same
-    (subst (λ (f : Option (String Global)). NextFix copy (option_map string_bytes f)) is next))
+-- the first error is fixed, or is not
+pub next_some : (text : List ℕ) (way : Way) (error : Error) (field : Option (String Global)) (new : String Global) → IsRefusal text depth_limit (stops.Fault error) →
+    FixesError text (content_of error) way (option_map string_bytes field) → field ≡ Some new → NextFix text way (steps.Fixed new)
+next_some text way error field new refusal fixes is =
+    (error, refusal, subst (λ (f : Option (String Global)). FixesError text (content_of error) way (option_map string_bytes f)) is fixes)
 
--- no further fix is possible
-pub leads_none : (copy mid : List ℕ) (field : Option (String Global)) → copy ≡ mid → NextFix copy (option_map string_bytes field) → field ≡ None →
-    NextFix mid None
-leads_none copy mid field same next is =
-    subst (λ (m : List ℕ). NextFix m None) same
-    (subst (λ (f : Option (String Global)). NextFix copy (option_map string_bytes f)) is next)
+pub next_none : (text : List ℕ) (way : Way) (error : Error) (field : Option (String Global)) → IsRefusal text depth_limit (stops.Fault error) →
+    FixesError text (content_of error) way (option_map string_bytes field) → field ≡ None → NextFix text way steps.Stuck
+next_none text way error field refusal fixes is =
+    (error, refusal, subst (λ (f : Option (String Global)). FixesError text (content_of error) way (option_map string_bytes f)) is fixes)
+
+-- what is found at a copy of the text
+pub step_of : (copy mid : List ℕ) (way : Way) (field step : Step) → copy ≡ mid → NextFix copy way field → field ≡ step →
+    NextFix mid way step
+step_of copy mid way field step same next is =
+    subst (λ (m : List ℕ). NextFix m way step) same (subst (λ (f : Step). NextFix copy way f) is next)
+
+pub leads_more : (text copy mid : List ℕ) (way : Way) (n : ℕ) (field : Step) (new : String Global) → Leads text way n mid → copy ≡ mid →
+    NextFix copy way field → field ≡ steps.Fixed new → Leads text way (n + 1) (string_bytes new)
+leads_more text copy mid way n field new before same next is =
+    one_more n mid new before (step_of copy mid way field (steps.Fixed new) same next is)
+
+-- one more statement of a list
+pub drafts_more : (text : List ℕ) (pieces : List Piece) (way : Way) (ss : List Statement) (i n m : ℕ) (d : Statement) (old new : Parts) →
+    i < length ss → Drafts text pieces way (take i ss) n old → AddsStatement text pieces (get_or ss i d) way old m new →
+    Drafts text pieces way (take (i + 1) ss) (min (n + m) 18446744073709551615) new
+drafts_more text pieces way ss i n m d old new below before adds =
+    subst (λ (xs : List Statement). Drafts text pieces way xs (min (n + m) 18446744073709551615) new) (sym (take_more ss i d below))
+    (another (take i ss) n old (get_or ss i d) m new before adds)
+
+-- a statement whose new text was checked
+pub fix_checked : (text : List ℕ) (pieces : List Piece) (s : Statement) (way : Way) (old : List ℕ) (own : List Piece) (field : Option Fixed) (made : Fixed) (r : Result (Option Fix) AllocError) →
+    old ≡ own_bytes text pieces s → own ≡ own_pieces pieces s → Mends old way (option_map fixed field) → field ≡ Some made →
+    IfOk r (λ f. Checks text own (fixed made) (option_map fix f)) → IfOk r (λ f. FixOf text pieces s way (option_map fix f))
+fix_checked text pieces s way old own field made (Err e) same_text same_own mends is checks = tt
+fix_checked text pieces s way old own field made (Ok f) same_text same_own mends is checks =
+    inl (
+      fixed made,
+      subst (λ (m : Option Fixed). Mends (own_bytes text pieces s) way (option_map fixed m)) is
+          (subst (λ (t : List ℕ). Mends t way (option_map fixed field)) same_text mends),
+      subst (λ (ps : List Piece). Checks text ps (fixed made) (option_map fix f)) same_own checks,
+    )

@@ -6,3 +6,4 @@ pub mod Judged
 pub mod Pieces
 pub mod Statuses
 pub mod Collecting
+pub mod SafeFixes

@@ -1,6 +1,6 @@
 -- The answer to one file: its errors, or the document or value to print.
-use Rattle.std.specs.Prelude.{◌≡◌, ◌<◌, ◌≤◌, ◌⊎◌, ℕ, ◌+◌, true, false, IsUtf8, List, [], ◌++◌, length, codes, Option, Some}
-use Rattle.std.specs.Prelude.{None, take}
+use Rattle.std.specs.Prelude.{◌≡◌, ◌<◌, ◌≤◌, ◌⊎◌, ℕ, ◌+◌, Bool, true, false, if◌then◌else◌, IsUtf8, List, [], ◌++◌}
+use Rattle.std.specs.Prelude.{length, codes, Option, Some, None, take}
 use Rattle.std.specs.List.{flat_map}
 use Rattle.std.specs.Str.{IsValidUpTo}
 use Rattle.toml_span_tree.specs.declared.error.Error.{Error}
@@ -13,10 +13,12 @@ use Rattle.toml_span_report.specs.Report.{ReportContent, bare}
 use Rattle.toml_span_report.specs.declared.report.Severity.TheVariants as severity
 use Rattle.toml_span_check.specs.Encoding.{not_utf8_report}
 use Rattle.toml_span_check.specs.Every.{Checks}
-use Rattle.toml_span_check.specs.Formats.{formatted_report}
+use Rattle.toml_span_check.specs.Fixable.{count_of, no_error, one_error}
+use Rattle.toml_span_check.specs.Formats.{fixable_report, formatted_report}
 use Rattle.toml_span_check.specs.Newer.{Lacks}
 use Rattle.toml_span_check.specs.Schemas.{Says, complaint_weight, errors_in}
 use Rattle.toml_span_check.specs.Shown.{raw, to_json}
+use Rattle.toml_span_check.specs.declared.fixable.Count.{Count}
 use Rattle.toml_span_check.specs.declared.formats.Format.{Format}
 use Rattle.toml_span_check.specs.declared.newer.Version.{Version}
 use Rattle.toml_span_check.specs.declared.schemas.Chooser.{Chooser}
@@ -30,10 +32,10 @@ use Rattle.toml_span_places.specs.Dotted.{Locates}
 use Rattle.toml_span_places.specs.Spelled.{value_text}
 use Rattle.toml_span_read.specs.Data.{depth_limit}
 
--- The answer to a file: the number of errors, the text of the reports or the value that is printed, and the complaint
+-- The answer to a file: the numbers of errors, the text of the reports or the value that is printed, and the complaint
 -- about the file's schema (see `SchemaReports`).
 abbrev pub Answer : Type 0
-Answer = ℕ × List ℕ × List ℕ
+Answer = Count × List ℕ × List ℕ
 
 -- the text of an error report about the file as a whole, without a source line
 abbrev pub plain_fault : Format → List ℕ → List ℕ → List ℕ → List ℕ
@@ -41,7 +43,7 @@ plain_fault format code message name = formatted_report format (bare severity.Er
 
 abbrev pub nothing_there : Format → List ℕ → List ℕ → Answer
 nothing_there format pointer name =
-    (1, plain_fault format (codes "nothing-there") (codes "no value at `" ++ pointer ++ codes "`") name, [])
+    (one_error, plain_fault format (codes "nothing-there") (codes "no value at `" ++ pointer ++ codes "`") name, [])
 
 -- a value, printed in this form
 abbrev pub formed : Form → Node → List ℕ
@@ -53,30 +55,32 @@ formed Toml n = value_text n ++ codes "\n"
 
 -- the answer if a value is to be printed: the value in this form, or an error if the path `pointer` names no value
 abbrev pub found : Format → Form → List ℕ → List ℕ → Option Node → Answer
-found format form pointer name (Some n) = (0, formed form n, [])
+found format form pointer name (Some n) = (no_error, formed form n, [])
 found format form pointer name None = nothing_there format pointer name
 
 -- the text of one report, or of several, about a file with this name and source text
-abbrev pub report_text : Format → List ℕ → List ℕ → ReportContent → List ℕ
-report_text format name text r = formatted_report format r name text
+abbrev pub report_text : Format → Bool → List ℕ → List ℕ → ReportContent → List ℕ
+report_text format is_fixable name text r =
+    if is_fixable then fixable_report format r name text else formatted_report format r name text
 
-abbrev pub reports_text : Format → List ℕ → List ℕ → List ReportContent → List ℕ
-reports_text format name text rs = flat_map (report_text format name text) rs
+abbrev pub reports_text : Format → Bool → List ℕ → List ℕ → List ReportContent → List ℕ
+reports_text format are_fixable name text rs = flat_map (report_text format are_fixable name text) rs
 
--- `answer` has the number and the text of the reports that `Checks` allows for `text`
+-- `answer` has the numbers and the text of the reports that `Checks` allows for `text`
 abbrev pub AreReported : Format → List ℕ → List ℕ → Answer → Type 0
 AreReported format name text answer =
-    (rs : List ReportContent) × Checks text rs × (answer ≡ (length rs, reports_text format name text rs, []))
+    (rs : List ReportContent) × Checks text rs
+    × (answer ≡ (count_of rs, reports_text format true name text rs, []))
 
 -- The answer for a valid text. It counts the reports on newer forms (see `Lacks`), the errors among the reports of the
--- schema, and a complaint as one error. The reports of the schema come last.
+-- schema, and a complaint as one error. The reports of the schema come last; `--fix` does not apply their fixes.
 abbrev pub AreChecked : Says → Format → Version → Chooser → List ℕ → List ℕ → Node → Answer → Type 0
 AreChecked says format version chooser name text root answer =
     (rs more : List ReportContent) × (complaint : List ℕ) × Lacks version name text rs
     × says chooser name text root more complaint
     × (answer ≡ (
-      length rs + errors_in more + complaint_weight complaint,
-      reports_text format name text rs ++ reports_text format name text more,
+      record (count_of rs) { errors = length rs + errors_in more + complaint_weight complaint },
+      reports_text format true name text rs ++ reports_text format false name text more,
       complaint,
     ))
 
@@ -94,11 +98,11 @@ IsRead says format task pointer name text answer =
     ⊎ ((error : Error) × IsRefusal text depth_limit (stops.Fault error) × AreReported format name text answer)
 
 abbrev pub too_long : Format → List ℕ → Answer
-too_long format name = (1, plain_fault format (codes "too-long") (codes "the file is larger than 16 MiB") name, [])
+too_long format name = (one_error, plain_fault format (codes "too-long") (codes "the file is larger than 16 MiB") name, [])
 
 -- the answer for a file that is valid UTF-8 only up to this offset
 abbrev pub not_utf8 : Format → List ℕ → List ℕ → ℕ → Answer
-not_utf8 format name bytes at = (1, formatted_report format (not_utf8_report bytes at) name (take at bytes), [])
+not_utf8 format name bytes at = (one_error, formatted_report format (not_utf8_report bytes at) name (take at bytes), [])
 
 -- The answer for the bytes of a file, which may be longer than 16 MiB, not UTF-8, a document, or not valid TOML.
 pub record IsAnswer (says : Says) (format : Format) (task : Task) (pointer : List ℕ) (name : List ℕ) (bytes : List ℕ)

@@ -11,6 +11,7 @@ use Rattle.toml_span.specs.Parsing.{IsTree, IsRefusal}
 use Rattle.toml_span_report.specs.Errors.{ReportsError}
 use Rattle.toml_span_report.specs.Report.{ReportContent, bare}
 use Rattle.toml_span_report.specs.declared.report.Severity.TheVariants as severity
+use Rattle.toml_span_check.specs.Fixable.{IsSettled}
 
 -- ---- texts with spaces
 
@@ -48,12 +49,16 @@ pub record Adds (report : ReportContent) (place : ℕ) (old new : Progress) : Ty
   pub places : new.places ≡ old.places ++ place ∷ []
   pub blanked : IsBlanked old.blanked new.blanked
 
+-- the report of this error; its replacements are marked as safe only if a statement has a safe fix
+abbrev pub ReportsFixable : List ℕ → Error → ReportContent → Type 0
+ReportsFixable text error report =
+    (made : ReportContent) × ReportsError severity.Error text (content_of error) made × IsSettled text made report
+
 -- The error that `parse` returns for the text is added.
 abbrev pub AddsError : List ℕ → Progress → Progress → Type 0
 AddsError text old new =
     (error : Error) × IsRefusal text depth_limit (Fault error)
-    × ((report : ReportContent) × ReportsError severity.Error text (content_of error) report
-    × Adds report error.span.start old new)
+    × ((report : ReportContent) × ReportsFixable text error report × Adds report error.span.start old new)
 
 -- The first error is the one that `parse` returns for the text. Each further error is the one that `parse` returns for
 -- a copy of the text. The copy has spaces between two offsets, or in place of the statements with errors so far.

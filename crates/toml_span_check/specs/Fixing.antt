@@ -1,72 +1,178 @@
--- How the safe replacements of reports fix errors.
-use Rattle.std.specs.Prelude.{◌≡◌, ◌<◌, ◌≤◌, ◌⊎◌, ℕ, ◌+◌, ◌-◌, Bool, true, false, List, [], ◌∷◌, map, length}
-use Rattle.std.specs.Prelude.{Option, Some, None}
-use Rattle.std.specs.List.{list_all}
+-- How the replacements of reports fix errors.
+use Rattle.std.specs.Prelude.{◌≡◌, ◌<◌, ◌⊎◌, ℕ, ◌+◌, min, Bool, true, false, List, [], ◌∷◌, ◌++◌, map, length}
+use Rattle.std.specs.Prelude.{Option, Some, None, String, string_bytes}
+use Rattle.std.specs.Global.{Global}
+use Rattle.std.specs.Str.{IsUtf8}
 use Rattle.toml_span_lex.specs.declared.stop.Stop.TheVariants as stops
 use Rattle.toml_span_read.specs.Data.{depth_limit}
 use Rattle.toml_span_tree.specs.declared.error.Error.{Error}
 use Rattle.toml_span_tree.specs.declared.value.Value.{Value}
 use Rattle.toml_span_tree.specs.Error.{ErrorContent, content_of}
 use Rattle.toml_span.specs.Parsing.{IsTree, IsRefusal}
-use Rattle.toml_span_places.specs.Replace.{SpanEdit, edited_from, first_fault}
+use Rattle.toml_span_places.specs.Replace.{SpanEdit, replaced}
 use Rattle.toml_span_report.specs.Errors.{ReportsError}
 use Rattle.toml_span_report.specs.Report.{Repair, ReportContent}
 use Rattle.toml_span_report.specs.declared.report.Severity.TheVariants as severity
-
-abbrev pub all_safe : List Repair → Bool
-all_safe repairs = list_all (λ repair. repair.is_safe) repairs
-
--- whether there are replacements, and all of them are safe
-abbrev pub is_safe : List Repair → Bool
-is_safe [] = false
-is_safe (first ∷ more) = all_safe (first ∷ more)
+use Rattle.toml_span_safety.specs.Drafts.{HasSizes, IsReading, Parts, add, empty}
+use Rattle.toml_span_syntax.specs.declared.pieces.Piece.{Piece}
+use Rattle.toml_span_syntax.specs.declared.statements.Statement.{Statement}
+use Rattle.toml_span_check.specs.Safety as fixes
+use Rattle.toml_span_check.specs.Safety.{all_kept, has_open_string, kept, offset_of, own_bytes, own_pieces, repaired}
+use Rattle.toml_span_check.specs.Safety.{same_comments}
+use Rattle.toml_span_check.specs.Safety.{uses_crlf}
+use Rattle.toml_span_check.specs.declared.fixing.Fix.{Fix}
+use Rattle.toml_span_check.specs.declared.fixing.Fixed.{Fixed}
+use Rattle.toml_span_check.specs.declared.fixing.FixLevel.{FixLevel}
+use Rattle.toml_span_check.specs.declared.fixing.FixLevel.TheVariants as levels
+use Rattle.toml_span_check.specs.declared.fixing.Step.{Step}
+use Rattle.toml_span_check.specs.declared.fixing.Step.TheVariants as steps
+use Rattle.toml_span_check.specs.declared.fixing.Way.{Way}
 
 abbrev pub edits : List Repair → List SpanEdit
 edits repairs = map (λ repair. (repair.span, repair.text)) repairs
 
--- the end of the first replacement in the new source
-abbrev pub reach : List Repair → ℕ
-reach [] = 0
-reach (first ∷ more) = first.span.start + length first.text
+-- ---- a statement
 
--- whether a source is valid, or its first error starts at or after `at`, and fewer than `left` bytes before the end
-unfoldable pub Improves : List ℕ → ℕ → ℕ → Bool → Type 0
-Improves text at left true =
-    ((root : Value) × IsTree text depth_limit root)
-    ⊎ ((error : Error) × IsRefusal text depth_limit (stops.Fault error)
-    × ((at ≤ error.span.start) × (length text - error.span.start < left)))
-Improves text at left false =
-    (error : Error) × IsRefusal text depth_limit (stops.Fault error)
-    × ((error.span.start < at) ⊎ (left ≤ length text - error.span.start))
-
--- The source with these replacements, or `None` if the list is empty, if a replacement is not safe, or if they don't
--- fit the source. Also `None` if the first error of the new source does not start late enough (`Improves`).
-abbrev pub Repairs : List ℕ → List Repair → ℕ → Option (List ℕ) → Type 0
-Repairs text repairs left (Some new) =
-    (is_safe repairs ≡ true) × (first_fault text 0 0 (edits repairs) ≡ None)
-    × (new ≡ edited_from text 0 (edits repairs))
-    × Improves new (reach repairs) left true
-Repairs text repairs left None =
-    (is_safe repairs ≡ false) ⊎ (¬ (first_fault text 0 0 (edits repairs) ≡ None))
-    ⊎ Improves (edited_from text 0 (edits repairs)) (reach repairs) left false
-
--- the source with this error fixed by the replacements of its report, or `None` if they don't fix it (see `Repairs`)
-abbrev pub FixesError : List ℕ → ErrorContent → Option (List ℕ) → Type 0
-FixesError text error new =
+-- the statement with the replacements of this error's report, or `None` if they may not be made (see `repaired`)
+abbrev pub FixesError : List ℕ → ErrorContent → Way → Option (List ℕ) → Type 0
+FixesError text error way new =
     (report : ReportContent) × ReportsError severity.Error text error report
-    × Repairs text report.replacements (length text - error.span.start) new
+    × (new ≡ repaired text 0 report.replacements way)
 
--- the source with its first error fixed, or `None` if it is valid or its first error can't be fixed
-abbrev pub NextFix : List ℕ → Option (List ℕ) → Type 0
-NextFix text new =
-    ((root : Value) × IsTree text depth_limit root × (new ≡ None))
-    ⊎ ((error : Error) × IsRefusal text depth_limit (stops.Fault error) × FixesError text (content_of error) new)
+-- The first error of the statement is fixed, or can't be fixed, or there is none.
+abbrev pub NextFix : List ℕ → Way → Step → Type 0
+NextFix text way steps.Valid = (root : Value) × IsTree text depth_limit root
+NextFix text way steps.Stuck =
+    (error : Error) × IsRefusal text depth_limit (stops.Fault error) × FixesError text (content_of error) way None
+NextFix text way (steps.Fixed new) =
+    (error : Error) × IsRefusal text depth_limit (stops.Fault error)
+    × FixesError text (content_of error) way (Some (string_bytes new))
 
 -- `text` after this number of fixes, one after the other
-pub data Leads (text : List ℕ) : ℕ → List ℕ → Type 0 where
-  no_fix : (new : List ℕ) → new ≡ text → Leads text 0 new
-  one_more : (n : ℕ) (mid new : List ℕ) → Leads text n mid → NextFix mid (Some new) → Leads text (n + 1) new
+pub data Leads (text : List ℕ) (way : Way) : ℕ → List ℕ → Type 0 where
+  no_fix : (new : List ℕ) → new ≡ text → Leads text way 0 new
+  one_more : (n : ℕ) (mid : List ℕ) (new : String Global) → Leads text way n mid → NextFix mid way (steps.Fixed new)
+      → Leads text way (n + 1) (string_bytes new)
 
--- `new` is `text` after `n` fixes, and either no further fix is possible or `n` is 100
-abbrev pub Fixes : List ℕ → ℕ → List ℕ → Type 0
-Fixes text n new = Leads text n new × ((n ≡ 100) ⊎ NextFix new None)
+-- a new text, and the number of its fixes
+abbrev pub Made : Type 0
+Made = List ℕ × ℕ
+
+abbrev pub fixed : Fixed → Made
+fixed f = (string_bytes f.text, f.count)
+
+-- All errors of the statement are fixed. Or one of them can't be fixed, or there are more than 100.
+abbrev pub Mends : List ℕ → Way → Option Made → Type 0
+Mends text way (Some made) = Leads text way made.1 made.0 × ((root : Value) × IsTree made.0 depth_limit root)
+Mends text way None =
+    (n : ℕ) × (mid : List ℕ) × Leads text way n mid × ((n ≡ 100) ⊎ NextFix mid way steps.Stuck)
+
+-- a new text for a statement, the number of its fixes, and its pieces and statements
+pub record Mended : Type 0 where
+  pub text : List ℕ
+  pub count : ℕ
+  pub pieces : List Piece
+  pub statements : List Statement
+
+abbrev pub fix : Fix → Mended
+fix f = record {
+  text = string_bytes f.new.text;
+  count = f.new.count;
+  pieces = f.reading.pieces.items;
+  statements = f.reading.statements.items;
+}
+
+abbrev pub mended : Parts → Mended → Parts
+mended parts m = add parts m.text m.pieces m.statements
+
+-- The new text has fixes, and the same comments as these pieces of the text.
+abbrev pub Checks : List ℕ → List Piece → Made → Option Mended → Type 0
+Checks text own made (Some m) =
+    (m.text ≡ made.0) × (m.count ≡ made.1) × IsReading m.text m.pieces m.statements
+    × (0 < m.count) × (same_comments text own m.text m.pieces ≡ true)
+Checks text own made None =
+    (made.1 ≡ 0)
+    ⊎ ((pieces : List Piece) × (statements : List Statement) × IsReading made.0 pieces statements
+    × (same_comments text own made.0 pieces ≡ false))
+
+-- The statement is fixed, or has no error, or can't be fixed.
+abbrev pub FixOf : List ℕ → List Piece → Statement → Way → Option Mended → Type 0
+FixOf text pieces s way new =
+    ((made : Made) × Mends (own_bytes text pieces s) way (Some made) × Checks text (own_pieces pieces s) made new)
+    ⊎ ((Mends (own_bytes text pieces s) way None ⊎ ¬ IsUtf8 (own_bytes text pieces s)) × (new ≡ None))
+
+-- ---- a text
+
+-- One more statement, which is fixed by this number of fixes, or is as it was.
+abbrev pub AddsStatement : List ℕ → List Piece → Statement → Way → Parts → ℕ → Parts → Type 0
+AddsStatement text pieces s way old n new =
+    ((m : Mended) × FixOf text pieces s way (Some m) × (n ≡ m.count)
+    × (new ≡ mended old m))
+    ⊎ (FixOf text pieces s way None × (n ≡ 0) × (new ≡ kept old text pieces s))
+
+-- all of these statements, with this number of fixes
+pub data Drafts (text : List ℕ) (pieces : List Piece) (way : Way) : List Statement → ℕ → Parts → Type 0 where
+  nothing : (parts : Parts) → parts ≡ empty → Drafts text pieces way [] 0 parts
+  another : (ss : List Statement) (n : ℕ) (parts : Parts) (s : Statement) (m : ℕ) (more : Parts)
+      → Drafts text pieces way ss n parts → AddsStatement text pieces s way parts m more
+      → Drafts text pieces way (ss ++ s ∷ []) (min (n + m) 18446744073709551615) more
+
+-- The draft has fixes, and its text has the pieces and statements that it must have.
+abbrev pub Finishes : ℕ → Parts → Option Made → Type 0
+Finishes count parts (Some made) =
+    (0 < count) × HasSizes parts.text parts true × (made.0 ≡ parts.text) × (made.1 ≡ count)
+Finishes count parts None = (count ≡ 0) ⊎ HasSizes parts.text parts false ⊎ ¬ IsUtf8 parts.text
+
+-- Lines end as the first one does.
+abbrev pub way_of : List Piece → FixLevel → Way
+way_of pieces level = record { level = level; is_crlf = uses_crlf pieces }
+
+-- The statements are fixed one by one, unless a multi-line string is not closed: any line may then be a part of a
+-- string.
+abbrev pub FixesStatements : List ℕ → FixLevel → Option Made → Type 0
+FixesStatements text level made =
+    (pieces : List Piece) × (statements : List Statement) × IsReading text pieces statements
+    × (((has_open_string pieces ≡ true) × (made ≡ None))
+    ⊎ ((count : ℕ) × (parts : Parts) × (has_open_string pieces ≡ false)
+    × Drafts text pieces (way_of pieces level) statements count parts × Finishes count parts made))
+
+-- The text with its errors fixed, or as it was: if it is valid, or if its statements have no fixes.
+abbrev pub Fixes : List ℕ → FixLevel → Made → Type 0
+Fixes text level made =
+    FixesStatements text level (Some made)
+    ⊎ ((((root : Value) × IsTree text depth_limit root) ⊎ FixesStatements text level None)
+    × (made.0 ≡ text) × (made.1 ≡ 0))
+
+-- ---- one fix
+
+-- The errors of a statement can be fixed by safe fixes.
+abbrev pub HasFix : List ℕ → Type 0
+HasFix text =
+    (pieces : List Piece) × (statements : List Statement) × IsReading text pieces statements
+    × ((s : Statement) × (m : Mended) × FixOf text pieces s (way_of pieces levels.Safe) (Some m))
+
+-- The statement with these replacements made has no error, and the same comments.
+abbrev pub IsMade : List ℕ → List Piece → Statement → List Repair → Way → Mended → Type 0
+IsMade text pieces s repairs way m =
+    (Some m.text ≡ repaired (own_bytes text pieces s) (offset_of text pieces s.first) repairs way)
+    × ((root : Value) × IsTree m.text depth_limit root) × IsReading m.text m.pieces m.statements
+    × (same_comments text (own_pieces pieces s) m.text m.pieces ≡ true)
+
+-- The text with these replacements made is that of the parts, and has their pieces and statements.
+abbrev pub Makes : List ℕ → List Repair → Bool → Parts → Type 0
+Makes text repairs crlf parts =
+    (replaced text (fixes.edits 0 crlf repairs) ≡ Some parts.text) × HasSizes parts.text parts true
+
+-- The replacements are a safe fix by themselves: they are made in one statement, and the other statements stay as they
+-- are.
+pub record IsSafeFix (text : List ℕ) (repairs : List Repair) : Type 0 where
+  pub pieces : List Piece
+  pub before : List Statement
+  pub statement : Statement
+  pub after : List Statement
+  pub reading : IsReading text pieces (before ++ statement ∷ after)
+  pub closed : has_open_string pieces ≡ false
+  pub fix : Mended
+  pub made : IsMade text pieces statement repairs (way_of pieces levels.Safe) fix
+  pub others : Makes text repairs (uses_crlf pieces)
+      (all_kept text pieces (mended (all_kept text pieces empty before) fix) after)

@@ -6,7 +6,8 @@ use Rattle.std.specs.Fmt.{decimal}
 use Rattle.std.specs.List.{flat_map}
 use Rattle.std.specs.Str.{chars}
 use Rattle.toml_span_lex.specs.declared.span.Span.{Span}
-use Rattle.toml_span_report.specs.Places.{floor_boundary, line_number, column}
+use Rattle.toml_span_report.specs.Places.{clipped_span, floor_boundary, line_number, column}
+use Rattle.toml_span_report.specs.Rendering.{clipped_text}
 use Rattle.toml_span_report.specs.Report.{ReportLabel, ReportContent}
 use Rattle.toml_span_report.specs.declared.report.Severity.{Severity}
 use Rattle.toml_span_report.specs.declared.report.Severity.TheVariants.{Error, Warning, Note}
@@ -34,9 +35,9 @@ escaped_message text = flat_map message_char (chars text)
 unfoldable pub escaped_property : List ℕ → List ℕ
 escaped_property text = flat_map property_char (chars text)
 
--- a message, escaped for GitHub and then as in all other reports, which show U+001B as `\u001b`
+-- a message, cut after 1,000 bytes, escaped for GitHub and then as in all other reports, which show U+001B as `\u001b`
 abbrev pub message : List ℕ → List ℕ
-message text = visible (escaped_message text)
+message text = visible (escaped_message (clipped_text text))
 
 abbrev pub property : List ℕ → List ℕ
 property text = visible (escaped_property text)
@@ -65,7 +66,9 @@ line_properties start end =
     codes ",line=" ++ decimal start.0 ++ codes ",endLine=" ++ decimal end.0 ++ columns start end
 
 abbrev pub region_properties : List ℕ → Span → List ℕ
-region_properties text span = line_properties (line_column text span.start) (line_column text (marked_end text span))
+region_properties text span =
+    let span = clipped_span text span in
+    line_properties (line_column text span.start) (line_column text (marked_end text span))
 
 -- the line numbers of the first primary label and, if it is on one line, its columns; nothing if no label is primary
 abbrev pub primary_region : List ℕ → List ReportLabel → List ℕ

@@ -2,6 +2,7 @@ pub mod Answer
 pub mod Dates
 pub mod Encoding
 pub mod Every
+pub mod Fixable
 pub mod Fixing
 pub mod Folders
 pub mod Formats
@@ -10,6 +11,7 @@ pub mod Lints
 pub mod Newer
 pub mod Patterns
 pub mod Run
+pub mod Safety
 pub mod Sarif
 pub mod Schemas
 pub mod Shown

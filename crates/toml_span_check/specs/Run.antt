@@ -10,6 +10,7 @@ use Rattle.std.specs.declared.io.ErrorKind.{ErrorKind}
 use Rattle.std.specs.declared.io.ErrorKind.TheVariants as kind
 use Rattle.toml_span_lines.specs.Run.{HasRead, HasReadAll, HasWritten}
 use Rattle.toml_span_check.specs.Answer.{Answer, IsAnswer}
+use Rattle.toml_span_check.specs.Fixable.{no_error, one_error, plus}
 use Rattle.toml_span_check.specs.Sarif.{document}
 use Rattle.toml_span_report.specs.Visible.{visible}
 use Rattle.toml_span_check.specs.Schemas.{Says}
@@ -17,6 +18,7 @@ use Rattle.toml_span_check.specs.Words.{shown_word}
 use Rattle.toml_span_check.specs.declared.answer.Form.{Form}
 use Rattle.toml_span_check.specs.declared.answer.Task.{Task}
 use Rattle.toml_span_check.specs.declared.answer.Task.TheVariants.{Check, Show}
+use Rattle.toml_span_check.specs.declared.fixable.Count.{Count}
 use Rattle.toml_span_check.specs.declared.formats.Format.{Format}
 use Rattle.toml_span_check.specs.declared.formats.Format.TheVariants.{Text, Sarif}
 use Rattle.toml_span_check.specs.declared.run.Tally.{Tally}
@@ -76,10 +78,10 @@ complaint name reason = codes "error: cannot read `" ++ visible name ++ codes "`
 
 -- no errors
 abbrev pub none_wrong : Tally
-none_wrong = record { files = 0; errors = 0 }
+none_wrong = record { files = 0; count = no_error }
 
-abbrev pub counted : Tally → ℕ → Tally
-counted wrong errors = record { files = wrong.files + min errors 1; errors = wrong.errors + errors }
+abbrev pub counted : Tally → Count → Tally
+counted wrong count = record { files = wrong.files + min count.errors 1; count = plus wrong.count count }
 
 -- the exit status for a file with this many errors, and this complaint about its schema
 abbrev pub status_of : ℕ → List ℕ → ℕ
@@ -95,11 +97,11 @@ pub data Gathered (says : Says) (format : Format) (task : Task) (pointer : List 
       (answer : Answer)
       → Gathered says format task pointer rs out errors status wrong → IsAnswer says format task pointer name bytes answer
       → Gathered says format task pointer (rs ++ (name, Ok bytes) ∷ []) (out ++ answer.1) (errors ++ answer.2)
-      (max status (status_of answer.0 answer.2)) (counted wrong answer.0)
+      (max status (status_of answer.0.errors answer.2)) (counted wrong answer.0)
   unread : (rs : List Reading) (out errors : List ℕ) (status : ℕ) (wrong : Tally) (name reason : List ℕ)
       → Gathered says format task pointer rs out errors status wrong
       → Gathered says format task pointer (rs ++ (name, Err reason) ∷ []) out
-      (errors ++ complaint (shown_word name) reason) 2 (counted wrong 1)
+      (errors ++ complaint (shown_word name) reason) 2 (counted wrong one_error)
 
 -- The files `names` were read in order. `out`, `errors`, `status` and `wrong` are the output, the exit status and the
 -- counts for them.
@@ -114,19 +116,31 @@ pub record Collects (says : Says) (format : Format) (task : Task) (pointer : Lis
 abbrev pub number_of : ℕ → List ℕ → List ℕ
 number_of n word = decimal n ++ word ++ (if n == 1 then [] else codes "s")
 
+-- how many errors have safe fixes, and how many more have fixes
+abbrev pub fixable_with : ℕ → ℕ → List ℕ
+fixable_with safe more =
+    if safe == 0
+    then (if more == 0 then [] else codes ", " ++ decimal more ++ codes " fixable with `--fix --unsafe-fixes`")
+    else (if more == 0 then codes ", " ++ decimal safe ++ codes " fixable with `--fix`"
+    else codes ", " ++ decimal safe ++ codes " fixable with `--fix`, " ++ decimal more
+    ++ codes " more with `--unsafe-fixes`")
+
+unfoldable pub fixable : Count → List ℕ
+fixable count = fixable_with count.safe_fixes count.unsafe_fixes
+
 unfoldable pub found_errors : ℕ → Tally → List ℕ
 found_errors files wrong =
-    number_of wrong.errors (codes " error") ++ codes " in " ++ decimal wrong.files ++ codes " of "
-    ++ number_of files (codes " file") ++ codes "\n"
+    number_of wrong.count.errors (codes " error") ++ codes " in " ++ decimal wrong.files ++ codes " of "
+    ++ number_of files (codes " file") ++ fixable wrong.count ++ codes "\n"
 
 unfoldable pub found_none : ℕ → List ℕ
 found_none files = number_of files (codes " file") ++ codes " checked\n"
 
--- the last line of a check that prints text: `3 errors in 2 of 5 files` or, without errors and on a terminal, `5 files
--- checked`
+-- the last line of a check that prints text: ``3 errors in 2 of 5 files, 2 fixable with `--fix` `` or, without errors
+-- and on a terminal, `5 files checked`
 abbrev pub summary : Format → Task → Bool → ℕ → Tally → List ℕ
 summary (Text style) (Check version chooser) is_watched files wrong =
-    if nat_lt 0 wrong.errors then found_errors files wrong else if is_watched then found_none files else []
+    if nat_lt 0 wrong.count.errors then found_errors files wrong else if is_watched then found_none files else []
 summary _ _ is_watched files wrong = []
 
 -- the output of a check of all files: in the format SARIF, the document with these results

@@ -1,11 +1,13 @@
 -- The reports of a run as one document in the Static Analysis Results Interchange Format (SARIF), version 2.1.0. Its
 -- rules are a constant text. Each report is a result, on a separate line.
-use Rattle.std.specs.Prelude.{ℕ, ◌/◌, ◌%◌, ◌-◌, max, min, Bool, ◌==◌, ◌&&◌, ◌||◌, nat_le}
-use Rattle.std.specs.Prelude.{List, [], ◌∷◌, ◌++◌, codes, length, if◌then◌else◌}
+use Rattle.std.specs.Prelude.{ℕ, ◌/◌, ◌%◌, ◌-◌, Bool, ◌==◌, ◌&&◌, ◌||◌, nat_le}
+use Rattle.std.specs.Prelude.{List, [], ◌∷◌, ◌++◌, codes, if◌then◌else◌}
 use Rattle.std.specs.Fmt.{decimal}
 use Rattle.std.specs.List.{flat_map}
 use Rattle.toml_span_lex.specs.declared.span.Span.{Span}
 use Rattle.toml_span_lines.specs.Lines.{hex_digit}
+use Rattle.toml_span_report.specs.JsonLine.{clipped_json}
+use Rattle.toml_span_report.specs.Places.{clipped_span}
 use Rattle.toml_span_report.specs.Report.{ReportLabel, Repair, ReportContent}
 use Rattle.toml_span_report.specs.declared.report.Severity.{Severity}
 use Rattle.toml_span_report.specs.declared.report.Severity.TheVariants.{Error, Warning, Note}
@@ -56,18 +58,25 @@ unfoldable pub bytes : ℕ → ℕ → List ℕ
 bytes start end =
     codes ",\"byteOffset\":" ++ decimal start ++ codes ",\"byteLength\":" ++ decimal (end - start) ++ codes "}"
 
--- the region between two offsets, which are at most the length of the source
-abbrev pub within : List ℕ → ℕ → ℕ → List ℕ
-within text start end =
-    lines (line_column text start) (line_column text (max end start)) ++ bytes start (max end start)
+-- the region of a span in the source, in whole characters
+abbrev pub within : List ℕ → Span → List ℕ
+within text span = lines (line_column text span.start) (line_column text span.end) ++ bytes span.start span.end
 
 abbrev pub region : List ℕ → Span → List ℕ
-region text span = within text (min span.start (length text)) (min span.end (length text))
+region text span = within text (clipped_span text span)
+
+-- the message of a label, if it has one
+unfoldable pub message : List ℕ → List ℕ
+message text = codes ",\"message\":{\"text\":" ++ clipped_json text ++ codes "}"
+
+abbrev pub label_message : List ℕ → List ℕ
+label_message [] = []
+label_message (c ∷ cs) = message (c ∷ cs)
 
 unfoldable pub location : List ℕ → List ℕ → ReportLabel → List ℕ
 location name text label =
-    codes "{\"physicalLocation\":" ++ artifact name ++ codes ",\"region\":" ++ region text label.span
-    ++ codes "},\"message\":{\"text\":" ++ quoted label.message ++ codes "}}"
+    codes "{\"physicalLocation\":" ++ artifact name ++ codes ",\"region\":" ++ region text label.span ++ codes "}"
+    ++ label_message label.message ++ codes "}"
 
 unfoldable pub file_alone : List ℕ → List ℕ
 file_alone name = codes "{\"physicalLocation\":" ++ artifact name ++ codes "}}"
@@ -118,7 +127,7 @@ fixes name text (first ∷ more) = change name text first more
 unfoldable pub front : ReportContent → List ℕ
 front r =
     codes ",\n{\"ruleId\":" ++ quoted r.code ++ codes ",\"level\":\"" ++ level_of r.severity
-    ++ codes "\",\"message\":{\"text\":" ++ quoted r.message ++ codes "}"
+    ++ codes "\",\"message\":{\"text\":" ++ clipped_json r.message ++ codes "}"
 
 -- a report as a result, after a comma and a line feed
 abbrev pub sarif : ReportContent → List ℕ → List ℕ → List ℕ

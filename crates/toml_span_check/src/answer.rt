@@ -8,10 +8,13 @@ ghost use Rattle.toml_span_report.specs.Report.{report_content};
 ghost use Rattle.toml_span_tree.specs.Value.{view};
 ghost use Rattle.toml_span_check.specs.Answer as spec;
 ghost use Rattle.toml_span_check.specs.code.Judged.{Judges, JudgesText};
+ghost use Rattle.toml_span_check.specs.Fixable.{one_error};
+ghost use Rattle.toml_span_check.specs.declared.fixable.Count.{Count};
 
 use crate::encoding::not_utf8;
 use crate::every::errors_from;
-use crate::formats::{Format, formatted_report};
+use crate::fixable::{Count, count_of};
+use crate::formats::{Format, fixable_report, formatted_report};
 use crate::newer::{Version, version_reports};
 use crate::schemas::{Chooser, Schemas, complaint_weight, with_errors};
 use crate::sums::sum_of;
@@ -46,23 +49,23 @@ pub enum Task {
     Show(Form),
 }
 
-/// The number of errors of a file, and the complaint about its schema.
+/// The numbers of errors of a file, and the complaint about its schema.
 #[derive(Drop)]
 pub(crate) struct Verdict {
-    /// The number of errors. A complaint counts as one error.
-    pub(crate) errors: usize,
+    /// The numbers of errors. A complaint counts as one error.
+    pub(crate) count: Count,
     /// The lines of `SchemaReports::complaint`, for standard error. Empty if no schema check was attempted, since the
     /// file has errors.
     pub(crate) complaint: String,
 }
 
 impl Verdict {
-    /// Returns the verdict on a file with this number of errors and no complaint.
-    pub(crate) fn plain(alloc: Global, errors: usize) -> Verdict
-        ensures { ◌≡◌ {A = ℕ × List ℕ} (result.errors, string_bytes result.complaint) (errors, []) }
+    /// Returns the verdict on a file with these numbers of errors and no complaint.
+    pub(crate) fn plain(alloc: Global, count: Count) -> Verdict
+        ensures { ◌≡◌ {A = Count × List ℕ} (result.count, string_bytes result.complaint) (count, []) }
     {
         Verdict {
-            errors,
+            count,
             complaint: String::new(alloc),
         }
     }
@@ -83,26 +86,48 @@ fn plain_fault(
     Ok(formatted_report(alloc, format, &report, name, "")?.into_bytes())
 }
 
-/// Appends the text of each report in this format. `text` is the source of the file `name`.
+/// Returns the text of a report in this format. `text` is the source of the file `name`. If `is_fixable`, `--fix` may
+/// apply the fix of the report, and the text is that of `fixable_report`.
+fn report_text(
+    alloc: Global,
+    format: Format,
+    is_fixable: bool,
+    report: &Report,
+    name: &str,
+    text: &str,
+) -> Result<String, AllocError>
+    ensures { IfOk result (λ out. string_bytes out
+        ≡ spec.report_text format is_fixable name.now text.now (report_content report.now)) }
+{
+    if is_fixable {
+        fixable_report(alloc, format, report, name, text)
+    } else {
+        formatted_report(alloc, format, report, name, text)
+    }
+}
+
+/// Appends the text of each report in this format. `text` is the source of the file `name`. If `are_fixable`, `--fix`
+/// may apply the fixes of the reports, and `fixable_report` returns their texts.
 fn push_reports(
     alloc: Global,
     out: &mut String,
     format: Format,
+    are_fixable: bool,
     reports: &[Report],
     name: &str,
     text: &str,
 ) -> Result<(), AllocError>
     ensures { OnOk result (string_bytes out.new ≡ string_bytes out.old
-        ++ spec.reports_text format name.now text.now (map report_content reports.now)) }
+        ++ spec.reports_text format are_fixable name.now text.now (map report_content reports.now)) }
 {
     for report in reports {
-        let next = formatted_report(alloc, format, report, name, text)?;
+        let next = report_text(alloc, format, are_fixable, report, name, text)?;
         out.push_str(next.as_str())?;
     }
     Ok(())
 }
 
-/// Returns the number and the text of the reports that `every::check` returns for the source `text`. `error` is the
+/// Returns the numbers and the text of the reports that `every::check` returns for the source `text`. `error` is the
 /// error that `parse` returns for `text`.
 fn errors_text(
     alloc: Global,
@@ -110,14 +135,23 @@ fn errors_text(
     error: &Error<'_>,
     name: &str,
     text: &str,
-) -> Result<(usize, Vec<u8>), AllocError>
+) -> Result<(Count, Vec<u8>), AllocError>
     requires { IsRefusal text.now depth_limit (Fault error.now) }
     ensures { IfOk result (λ out. spec.AreReported format name.now text.now (out.0, out.1.items, [])) }
 {
     let reports = errors_from(alloc, text, error)?;
+    let count = count_of(reports.as_slice());
     let mut out = String::new(alloc);
-    push_reports(alloc, &mut out, format, reports.as_slice(), name, text)?;
-    Ok((reports.len(), out.into_bytes()))
+    push_reports(
+        alloc,
+        &mut out,
+        format,
+        true,
+        reports.as_slice(),
+        name,
+        text,
+    )?;
+    Ok((count, out.into_bytes()))
 }
 
 /// Returns the verdict on the source `text`, whose tree is `root`, and the text of its reports: first those of
@@ -133,24 +167,34 @@ fn document_text<S: Schemas>(
     schemas: &mut S,
 ) -> Result<(Verdict, Vec<u8>), AllocError>
     ensures { IfOk result (λ out. spec.AreChecked S.says format version chooser name.now text.now (view root.now)
-        (out.0.errors, out.1.items, string_bytes out.0.complaint)) }
+        (out.0.count, out.1.items, string_bytes out.0.complaint)) }
 {
     let reports = version_reports(alloc, text, version, name)?;
     let found = schemas.check(alloc, chooser, name, text, root)?;
-    let errors = with_errors(reports.len(), found.reports.as_slice())?;
+    let count = count_of(reports.as_slice());
+    let errors = with_errors(count.errors, found.reports.as_slice())?;
     let errors = sum_of(errors, complaint_weight(found.complaint.as_str()))?;
     let mut out = String::new(alloc);
-    push_reports(alloc, &mut out, format, reports.as_slice(), name, text)?;
     push_reports(
         alloc,
         &mut out,
         format,
+        true,
+        reports.as_slice(),
+        name,
+        text,
+    )?;
+    push_reports(
+        alloc,
+        &mut out,
+        format,
+        false,
         found.reports.as_slice(),
         name,
         text,
     )?;
     let verdict = Verdict {
-        errors,
+        count: Count { errors, ..count },
         complaint: found.complaint,
     };
     Ok((verdict, out.into_bytes()))
@@ -163,7 +207,7 @@ pub(crate) fn nothing_there(
     pointer: &str,
     name: &str,
 ) -> Result<Vec<u8>, AllocError>
-    ensures { IfOk result (λ out. (1, out.items, []) ≡ spec.nothing_there format pointer.now name.now) }
+    ensures { IfOk result (λ out. (one_error, out.items, []) ≡ spec.nothing_there format pointer.now name.now) }
 {
     let mut message = String::from_str(alloc, "no value at `")?;
     message.push_str(pointer)?;
@@ -173,7 +217,7 @@ pub(crate) fn nothing_there(
 
 /// Returns the text of the report that the file `name` is longer than 16 MiB.
 fn too_long(alloc: Global, format: Format, name: &str) -> Result<Vec<u8>, AllocError>
-    ensures { IfOk result (λ out. (1, out.items, []) ≡ spec.too_long format name.now) }
+    ensures { IfOk result (λ out. (one_error, out.items, []) ≡ spec.too_long format name.now) }
 {
     plain_fault(
         alloc,
@@ -253,14 +297,17 @@ pub(crate) fn judge<'t, S: Schemas>(
     ensures { IfOk result (λ a. (pointer : List ℕ) → Judges S.says format task pointer name.now bytes.now a) }
 {
     if bytes.len() > BOUND {
-        return Ok(Judged::Text(Verdict::plain(alloc, 1), too_long(alloc, format, name)?));
+        return Ok(Judged::Text(
+            Verdict::plain(alloc, Count::one()),
+            too_long(alloc, format, name)?,
+        ));
     }
     match str::from_utf8(bytes) {
         Ok(text) => judge_text(alloc, format, task, name, text, schemas),
         Err(error) => {
             let at = error.valid_up_to();
             let text = not_utf8_fault(alloc, format, name, bytes, at)?;
-            Ok(Judged::Text(Verdict::plain(alloc, 1), text))
+            Ok(Judged::Text(Verdict::plain(alloc, Count::one()), text))
         }
     }
 }

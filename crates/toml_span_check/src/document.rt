@@ -6,6 +6,7 @@ ghost use Rattle.toml_span_tree.specs.Value.{view};
 ghost use Rattle.toml_span_check.specs.Answer.{formed, found};
 
 use crate::answer::{Form, nothing_there};
+use crate::fixable::Count;
 use crate::formats::Format;
 use crate::shown::{raw, to_json};
 use std::alloc::{AllocError, Global};
@@ -63,7 +64,7 @@ pub(crate) fn place_of<'v, 'de>(
 }
 
 /// Prints `place`, the value at the path `pointer`, as `write_value` does. If `place` is `None`, writes nothing, and
-/// appends to `held` the report that `pointer` names no value. Returns the number of errors, 0 or 1. Fails if a write
+/// appends to `held` the report that `pointer` names no value. Returns the numbers of errors. Fails if a write
 /// fails.
 pub(crate) fn show<W: Sink>(
     alloc: Global,
@@ -74,7 +75,7 @@ pub(crate) fn show<W: Sink>(
     place: Option<&Value<'_>>,
     held: &mut Vec<u8>,
     writer: &mut W,
-) -> Result<usize, Unwritten>
+) -> Result<Count, Unwritten>
     requires { W.failed writer.old ≡ false }
     ensures count { IfOk result (λ s. s
         ≡ (found format form pointer.now name.now (option_map (λ v. view v.now) place.entry)).0) }
@@ -85,12 +86,12 @@ pub(crate) fn show<W: Sink>(
     match place {
         Some(value) => {
             write_value(alloc, form, value, held, writer)?;
-            Ok(0)
+            Ok(Count::none())
         }
         None => {
             let mut text = nothing_there(alloc, format, pointer, name)?;
             held.append(&mut text)?;
-            Ok(1)
+            Ok(Count::one())
         }
     }
 }

@@ -8,6 +8,7 @@ ghost use Rattle.toml_span_check.specs.Every as spec;
 ghost use Rattle.toml_span_check.specs.Every.{Adds, AddsReport, Checks, Finds, IsBlanked};
 ghost use Rattle.toml_span_check.specs.code.Every.{IsErrorOf, IsNextError, progress};
 
+use crate::fixable::settled;
 use crate::statements::{Statement, is_clash, statement_of};
 use std::alloc::{AllocError, Global};
 use toml_span::Error;
@@ -75,8 +76,9 @@ fn error_at(
     ensures { IfOk result (IsErrorOf text.now error.now) }
 {
     let place = error.span.start;
+    let report = Report::from_error(alloc, error, text)?;
     Ok(ErrorAt {
-        report: Report::from_error(alloc, error, text)?,
+        report: settled(alloc, text, report)?,
         place,
         is_clash: is_clash(&error.kind),
         statement: statement_of(text, from, place, is_clash(&error.kind)),
@@ -224,6 +226,9 @@ pub(crate) fn errors_from(
 /// Only the first side of a merge conflict is read. Then the statements with errors are replaced with spaces, and the
 /// rest is parsed as a whole. If two keys or headers clash, the later one is reported. Its statement is then replaced
 /// with spaces as well, a header together with its section. This is repeated until the rest is valid.
+///
+/// The replacements of a report are marked as safe only if `with_fixes` makes them at `FixLevel::Safe`: if it fixes the
+/// statement that contains the error.
 ///
 /// No offset is reported twice. At most 100 errors are looked for. In a text of more than 1.28 MiB, the number is
 /// lower: 128 MiB divided by the length of the text, but at least one. If there are more errors, the last report has

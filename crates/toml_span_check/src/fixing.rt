@@ -1,19 +1,46 @@
-//! Fixes errors with the safe replacements of their reports.
-ghost use Rattle.std.specs.Prelude.{◌≡◌, ◌+◌, ◌++◌, IfOk, OnOk, map, option_map, string_bytes};
+//! Fixes errors with the replacements of their reports.
+ghost use Rattle.std.specs.Prelude.{◌≡◌, ◌++◌, IfOk, IfSome, OnOk, map, option_map, string_bytes};
+ghost use Rattle.std.specs.Bool.{OnTrue};
+ghost use Rattle.std.specs.Str.{bytes_eq};
 ghost use Rattle.toml_span_tree.specs.Error.{content_of};
 ghost use Rattle.toml_span_places.specs.Replace.{edit_of};
 ghost use Rattle.toml_span_report.specs.Report.{repair_of};
+ghost use Rattle.toml_span_safety.specs.Drafts as drafts;
 ghost use Rattle.toml_span_check.specs.Fixing as spec;
-ghost use Rattle.toml_span_check.specs.Fixing.{Fixes, FixesError, Improves, NextFix};
+ghost use Rattle.toml_span_check.specs.Safety as safety;
 
 use std::alloc::{AllocError, Global};
 use toml_span::de::parse;
 use toml_span::{Error, Stop};
+use toml_span_lex::span::Span;
 use toml_span_places::{Replacement, replace_all};
 use toml_span_report::{Replacement as Repair, Report};
+use toml_span_safety::bytes::bytes_in;
+use toml_span_safety::comments::comments;
+use toml_span_safety::drafts::{Draft, Reading, empty, is_right, push, read};
+use toml_span_safety::quotes::quotes_value;
+use toml_span_syntax::pieces::{Kind, Piece};
+use toml_span_syntax::statements::Statement;
 
-/// The maximum number of errors to fix in a source.
+/// The maximum number of errors to fix in a statement.
 const MOST: usize = 100;
+
+/// Which replacements fix errors.
+#[derive(Clone, Copy, PartialEq, Eq, Debug)]
+pub enum FixLevel {
+    /// Replacements that a program may make without asking.
+    Safe,
+    /// Also those that a person should review.
+    Unsafe,
+}
+
+/// How errors are fixed.
+#[derive(Clone, Copy)]
+struct Way {
+    level: FixLevel,
+    /// Whether lines end with CRLF.
+    is_crlf: bool,
+}
 
 /// A source in which errors have been fixed or newer syntax has been replaced, with the number of changes.
 #[derive(Drop)]
@@ -21,39 +48,6 @@ pub struct Fixed {
     pub text: String,
     /// The number of errors fixed or, from `with_older_forms`, the number of replacements.
     pub count: usize,
-}
-
-/// Returns whether all the replacements are safe.
-fn all_safe(repairs: &[Repair]) -> bool
-    ensures { result ≡ spec.all_safe (map repair_of repairs.now) }
-{
-    for repair in repairs {
-        if !repair.is_safe {
-            return false;
-        }
-    }
-    true
-}
-
-/// Returns whether there are replacements and all of them are safe.
-fn is_safe(repairs: &[Repair]) -> bool
-    ensures { result ≡ spec.is_safe (map repair_of repairs.now) }
-{
-    match repairs {
-        [] => false,
-        [_, ..] => all_safe(repairs),
-    }
-}
-
-/// Returns the start of the first replacement and the length of its new text, in bytes. Returns zeros if the list is
-/// empty.
-fn first_place(repairs: &[Repair]) -> (usize, usize)
-    ensures { result.0 + result.1 ≡ spec.reach (map repair_of repairs.now) }
-{
-    match repairs.first() {
-        Some(first) => (first.span.start, first.text.len()),
-        None => (0, 0),
-    }
 }
 
 /// Appends the replacements of a report, converted for `replace_all`, to `edits`.
@@ -73,117 +67,581 @@ pub(crate) fn push_edits<'r>(
     Ok(())
 }
 
-/// Converts the replacements of a report to those that `replace_all` takes.
-fn edits_of<'r>(alloc: Global, repairs: &'r [Repair]) -> Result<Vec<Replacement<'r>>, AllocError>
-    ensures { IfOk result (λ edits. map edit_of edits.items ≡ spec.edits (map repair_of repairs.now)) }
+// ---- the replacements of a statement
+
+/// Returns whether all the replacements are safe in kind.
+fn all_safe(repairs: &[Repair]) -> bool
+    ensures { result ≡ safety.all_safe (map repair_of repairs.now) }
+{
+    for repair in repairs {
+        if !repair.is_safe {
+            return false;
+        }
+    }
+    true
+}
+
+/// Returns whether the quotes that each replacement adds to a statement enclose a whole value.
+fn quote_values(statement: &str, edits: &[Replacement<'_>]) -> bool
+    ensures { result ≡ safety.quote_values statement.now (map edit_of edits.now) }
+{
+    for edit in edits {
+        if !quotes_value(statement, edit.span, edit.text) {
+            return false;
+        }
+    }
+    true
+}
+
+/// Returns whether the replacements may be made in a statement. `edits` are these replacements, converted for
+/// `replace_all`.
+fn may_be_made(
+    statement: &str,
+    repairs: &[Repair],
+    edits: &[Replacement<'_>],
+    level: FixLevel,
+) -> bool
+    ensures { result ≡ safety.may_be_made statement.now (map repair_of repairs.now) (map edit_of edits.now) level }
+{
+    match level {
+        FixLevel::Safe => all_safe(repairs) && quote_values(statement, edits),
+        FixLevel::Unsafe => true,
+    }
+}
+
+/// Returns the text, or CRLF if it is a line feed and lines end with CRLF.
+fn line_ended(text: &str, is_crlf: bool) -> &str
+    ensures { result.now ≡ safety.line_ended text.now is_crlf }
+{
+    if is_crlf && text == "\n" {
+        "\r\n"
+    } else {
+        text
+    }
+}
+
+/// Converts a replacement of a report to one that `replace_all` takes in the part of the text that begins at `start`.
+fn edit_in(repair: &Repair, start: usize, is_crlf: bool) -> Replacement<'_>
+    ensures { edit_of result ≡ safety.edit_in start is_crlf (repair_of repair.now) }
+{
+    Replacement {
+        span: Span {
+            start: repair.span.start.saturating_sub(start),
+            end: repair.span.end.saturating_sub(start),
+        },
+        text: line_ended(repair.text.as_str(), is_crlf),
+    }
+}
+
+/// Converts the replacements of a report to those that `replace_all` takes in the part of the text that begins at
+/// `start`.
+fn edits_of<'r>(
+    alloc: Global,
+    repairs: &'r [Repair],
+    start: usize,
+    is_crlf: bool,
+) -> Result<Vec<Replacement<'r>>, AllocError>
+    ensures { IfOk result (λ edits. map edit_of edits.items ≡ safety.edits start is_crlf (map repair_of repairs.now)) }
 {
     let mut edits = Vec::new(alloc);
-    push_edits(repairs, &mut edits)?;
+    for repair in repairs {
+        edits.push(edit_in(repair, start, is_crlf))?;
+    }
     Ok(edits)
 }
 
-/// Returns whether a source has no error, or its first error starts late enough: at or after `from + length`, and fewer
-/// than `left` bytes before the end.
-#[tactic(auto, unfolding(crate::specs::Fixing::Improves))]
-fn improves(
+/// Returns the statement with these replacements made, whose spans are offsets in a text in which the statement begins
+/// at `start`. Returns `None` if there are no replacements, if they may not be made, or if they do not fit the
+/// statement.
+fn repaired(
     alloc: Global,
-    text: &str,
-    from: usize,
-    length: usize,
-    left: usize,
-) -> Result<bool, AllocError>
-    ensures { IfOk result (Improves text.now (from + length) left) }
+    statement: &str,
+    start: usize,
+    repairs: &[Repair],
+    way: Way,
+) -> Result<Option<String>, AllocError>
+    ensures { IfOk result (λ new. option_map string_bytes new
+        ≡ safety.repaired statement.now start (map repair_of repairs.now) way) }
 {
-    match parse(alloc, text) {
-        Ok(_) => Ok(true),
+    let edits = edits_of(alloc, repairs, start, way.is_crlf)?;
+    if repairs.is_empty() {
+        return Ok(None);
+    }
+    if !may_be_made(statement, repairs, edits.as_slice(), way.level) {
+        return Ok(None);
+    }
+    match replace_all(alloc, statement, edits.as_slice()) {
+        Ok(new) => Ok(Some(new)),
+        Err(Stop::Fault(_)) => Ok(None),
+        Err(Stop::Memory(error)) => Err(error),
+    }
+}
+
+// ---- the errors of a statement
+
+/// Returns the statement with the replacements of this error's report made, as `repaired` does.
+fn with_error_fixed(
+    alloc: Global,
+    statement: &str,
+    error: &Error<'_>,
+    way: Way,
+) -> Result<Option<String>, AllocError>
+    ensures { IfOk result (λ new. spec.FixesError statement.now (content_of error.now) way
+        (option_map string_bytes new)) }
+{
+    let report = Report::from_error(alloc, error, statement)?;
+    let new = repaired(alloc, statement, 0, report.replacements.as_slice(), way)?;
+    Ok(new)
+}
+
+/// What comes of the first error of a statement.
+#[derive(Drop)]
+enum Step {
+    /// There is no error.
+    Valid,
+    /// It can't be fixed.
+    Stuck,
+    /// The statement with the error fixed.
+    Fixed(String),
+}
+
+/// Fixes the first error of a statement.
+fn next_fix(alloc: Global, statement: &str, way: Way) -> Result<Step, AllocError>
+    ensures { IfOk result (λ step. spec.NextFix statement.now way step) }
+{
+    match parse(alloc, statement) {
+        Ok(_) => Ok(Step::Valid),
         Err(stop) => {
             let error = stop.fault()?;
-            let start = error.span.start;
-            drop(error);
-            let is_further = text.len().saturating_sub(start) < left;
-            Ok(from <= start && length <= start - from && is_further)
+            let new = with_error_fixed(alloc, statement, &error, way)?;
+            match new {
+                Some(new) => Ok(Step::Fixed(new)),
+                None => Ok(Step::Stuck),
+            }
         }
     }
 }
 
-/// Makes the replacements of `report`, and returns the new source. Returns `None` if `report` has no replacements, or
-/// if one of them is not safe or does not fit the source. Returns `None` also if the new source has an error that
-/// starts too early. Its first error must start after the text that the first replacement inserted, and fewer than
-/// `left` bytes before the end.
-fn repaired(
+/// Returns the statement with all its errors fixed, and their number. Returns `None` if one of them can't be fixed, or
+/// if there are more than `MOST`.
+fn mended(alloc: Global, statement: &str, way: Way) -> Result<Option<Fixed>, AllocError>
+    ensures { IfOk result (λ made. spec.Mends statement.now way (option_map spec.fixed made)) }
+{
+    let mut text = String::from_str(alloc, statement)?;
+    for count in 0..MOST {
+        match next_fix(alloc, text.as_str(), way)? {
+            Step::Valid => return Ok(Some(Fixed { text, count })),
+            Step::Stuck => return Ok(None),
+            Step::Fixed(new) => text = new,
+        }
+    }
+    Ok(None)
+}
+
+// ---- the statements of a text
+
+/// Returns whether the first line end among the pieces is CRLF.
+#[tactic(auto, unfolding(crate::specs::Safety::uses_crlf))]
+fn uses_crlf(pieces: &[Piece]) -> bool
+    ensures { result ≡ safety.uses_crlf pieces.now }
+{
+    for piece in pieces {
+        if matches!(piece.kind, Kind::LineEnd) {
+            return piece.end.saturating_sub(piece.start) == 2;
+        }
+    }
+    false
+}
+
+/// Returns the offset of the piece at the position `index`, or the length of the text after the last piece.
+fn offset_of(text: &str, pieces: &[Piece], index: usize) -> usize
+    ensures { result ≡ safety.offset_of text.now pieces.now index }
+{
+    match pieces.get(index) {
+        Some(piece) => piece.start,
+        None => text.len(),
+    }
+}
+
+/// Returns the pieces of a statement.
+fn own_pieces(pieces: &[Piece], statement: Statement) -> &[Piece]
+    ensures { result.now ≡ safety.own_pieces pieces.now statement }
+{
+    let end = statement.end.min(pieces.len());
+    if statement.first < end {
+        &pieces[statement.first..end]
+    } else {
+        &[]
+    }
+}
+
+/// Returns the bytes of a statement.
+fn own_bytes<'a>(text: &'a str, pieces: &[Piece], statement: Statement) -> &'a [u8]
+    ensures { result.now ≡ safety.own_bytes text.now pieces.now statement }
+{
+    let start = offset_of(text, pieces, statement.first);
+    let end = offset_of(text, pieces, statement.end);
+    bytes_in(text.as_bytes(), start, end)
+}
+
+/// Returns whether the bytes are the same.
+fn is_same(bytes: &[u8], others: &[u8]) -> bool
+    ensures { result ≡ bytes_eq bytes.now others.now }
+{
+    bytes == others
+}
+
+/// Returns whether the pieces of a text have the same comments as those of another text.
+fn same_comments(
     alloc: Global,
     text: &str,
-    report: &Report,
-    left: usize,
-) -> Result<Option<String>, AllocError>
-    ensures { IfOk result (λ new. spec.Repairs text.now (map repair_of report.now.replacements.items) left
-        (option_map string_bytes new)) }
+    pieces: &[Piece],
+    new: &str,
+    others: &[Piece],
+) -> Result<bool, AllocError>
+    ensures { IfOk result (λ same. same ≡ safety.same_comments text.now pieces.now new.now others.now) }
 {
-    let repairs = report.replacements.as_slice();
-    if !is_safe(repairs) {
+    let before = comments(alloc, text, pieces)?;
+    let after = comments(alloc, new, others)?;
+    Ok(is_same(before.as_slice(), after.as_slice()))
+}
+
+/// A statement with its errors fixed.
+#[derive(Drop)]
+struct Fix {
+    new: Fixed,
+    reading: Reading,
+}
+
+/// Returns a new text for a statement with its reading. Returns `None` if there were no errors to fix, or if the new
+/// text has other comments than the statement.
+fn checked(alloc: Global, text: &str, own: &[Piece], new: Fixed) -> Result<Option<Fix>, AllocError>
+    ensures { IfOk result (λ fix. spec.Checks text.now own.now (spec.fixed new) (option_map spec.fix fix)) }
+{
+    if new.count == 0 {
         return Ok(None);
     }
-    let edits = edits_of(alloc, repairs)?;
-    let new = match replace_all(alloc, text, edits.as_slice()) {
-        Ok(new) => new,
-        Err(Stop::Fault(_)) => return Ok(None),
-        Err(Stop::Memory(error)) => return Err(error),
-    };
-    let (from, length) = first_place(repairs);
-    if improves(alloc, new.as_str(), from, length, left)? {
-        Ok(Some(new))
+    let reading = read(alloc, new.text.as_str())?;
+    let others = reading.pieces.as_slice();
+    if same_comments(alloc, text, own, new.text.as_str(), others)? {
+        Ok(Some(Fix { new, reading }))
     } else {
         Ok(None)
     }
 }
 
-/// Returns the source with this error fixed, or `None` if the error can't be fixed.
-fn with_error_fixed(
+/// Returns the statement with its errors fixed. Returns `None` if there are no errors, or if they can't be fixed.
+fn fix_of(
     alloc: Global,
     text: &str,
-    error: &Error<'_>,
-) -> Result<Option<String>, AllocError>
-    ensures { IfOk result (λ new. FixesError text.now (content_of error.now) (option_map string_bytes new)) }
+    pieces: &[Piece],
+    statement: Statement,
+    way: Way,
+) -> Result<Option<Fix>, AllocError>
+    ensures { IfOk result (λ fix. spec.FixOf text.now pieces.now statement way (option_map spec.fix fix)) }
 {
-    let report = Report::from_error(alloc, error, text)?;
-    let left = text.len().saturating_sub(error.span.start);
-    let new = repaired(alloc, text, &report, left)?;
-    Ok(new)
+    let Ok(old) = str::from_utf8(own_bytes(text, pieces, statement)) else {
+        return Ok(None);
+    };
+    match mended(alloc, old, way)? {
+        Some(new) => checked(alloc, text, own_pieces(pieces, statement), new),
+        None => Ok(None),
+    }
 }
 
-/// Returns the source with its first error fixed. Returns `None` if the source has no error, or if the first one can't
-/// be fixed.
-fn next_fix(alloc: Global, text: &str) -> Result<Option<String>, AllocError>
-    ensures { IfOk result (λ new. NextFix text.now (option_map string_bytes new)) }
+/// Appends a new text for a statement to the draft.
+fn push_fix(draft: &mut Draft, fix: &Fix) -> Result<(), AllocError>
+    ensures { OnOk result (drafts.draft draft.new ≡ spec.mended (drafts.draft draft.old) (spec.fix fix.now)) }
 {
-    match parse(alloc, text) {
-        Ok(_) => Ok(None),
-        Err(stop) => {
-            let error = stop.fault()?;
-            let new = with_error_fixed(alloc, text, &error)?;
-            Ok(new)
+    push(
+        draft,
+        fix.new.text.as_bytes(),
+        fix.reading.pieces.as_slice(),
+        fix.reading.statements.as_slice(),
+    )
+}
+
+/// Appends a statement to the draft as it is.
+fn push_kept(
+    draft: &mut Draft,
+    text: &str,
+    pieces: &[Piece],
+    statement: Statement,
+) -> Result<(), AllocError>
+    ensures { OnOk result (drafts.draft draft.new
+        ≡ safety.kept (drafts.draft draft.old) text.now pieces.now statement) }
+{
+    push(
+        draft,
+        own_bytes(text, pieces, statement),
+        own_pieces(pieces, statement),
+        &[statement],
+    )
+}
+
+/// Appends a statement to the draft, with its errors fixed if they can be. Returns the number of errors fixed.
+fn push_fixed(
+    alloc: Global,
+    draft: &mut Draft,
+    text: &str,
+    pieces: &[Piece],
+    statement: Statement,
+    way: Way,
+) -> Result<usize, AllocError>
+    ensures { IfOk result (λ count. spec.AddsStatement text.now pieces.now statement way (drafts.draft draft.old) count
+        (drafts.draft draft.new)) }
+{
+    match fix_of(alloc, text, pieces, statement, way)? {
+        Some(fix) => {
+            push_fix(draft, &fix)?;
+            Ok(fix.new.count)
+        }
+        None => {
+            push_kept(draft, text, pieces, statement)?;
+            Ok(0)
         }
     }
 }
 
-/// Fixes errors of a source, one after the other. Returns the new source with the number of fixes.
-///
-/// An error is fixed if its report has replacements, and all of them are safe. The first error of the new source, if
-/// there is one, must then start after the text that the first replacement inserts. It must also start nearer to the
-/// end of the source than the old error. Stops at the first error that can't be fixed, or after 100 fixes. Each fix
-/// takes time linear in the length of the source. Fails if an allocation fails.
-pub fn with_fixes(alloc: Global, text: &str) -> Result<Fixed, AllocError>
-    ensures { IfOk result (λ made. Fixes text.now made.count (string_bytes made.text)) }
+/// A new text in the making, with the number of errors fixed.
+#[derive(Drop)]
+struct Work {
+    draft: Draft,
+    count: usize,
+}
+
+/// Returns a draft of all the statements, each with its errors fixed if they can be.
+fn drafted(
+    alloc: Global,
+    text: &str,
+    pieces: &[Piece],
+    statements: &[Statement],
+    way: Way,
+) -> Result<Work, AllocError>
+    ensures { IfOk result (λ work. spec.Drafts text.now pieces.now way statements.now work.count
+        (drafts.draft work.draft)) }
 {
-    let mut new = String::from_str(alloc, text)?;
-    for count in 0..MOST {
-        match next_fix(alloc, new.as_str())? {
-            Some(next) => new = next,
-            None => return Ok(Fixed { text: new, count }),
+    let mut draft = empty(alloc);
+    let mut count = 0usize;
+    for statement in statements {
+        let more = push_fixed(alloc, &mut draft, text, pieces, *statement, way)?;
+        count = count.saturating_add(more);
+    }
+    Ok(Work { draft, count })
+}
+
+/// Returns the text of the draft if it has the pieces and statements that it must have. Returns `None` if there are no
+/// fixes, or if it has others.
+fn finished(alloc: Global, work: &Work) -> Result<Option<Fixed>, AllocError>
+    ensures { IfOk result (λ made. spec.Finishes work.now.count (drafts.draft work.now.draft)
+        (option_map spec.fixed made)) }
+{
+    let Ok(new) = str::from_utf8(work.draft.text.as_slice()) else {
+        return Ok(None);
+    };
+    if work.count == 0 {
+        return Ok(None);
+    }
+    if is_right(alloc, new, &work.draft)? {
+        Ok(Some(Fixed {
+            text: String::from_str(alloc, new)?,
+            count: work.count,
+        }))
+    } else {
+        Ok(None)
+    }
+}
+
+/// Returns whether a multi-line string among the pieces is not closed.
+pub(crate) fn has_open_string(pieces: &[Piece]) -> bool
+    ensures { result ≡ safety.has_open_string pieces.now }
+{
+    for piece in pieces {
+        if matches!(piece.kind, Kind::Open(true)) {
+            return true;
+        }
+    }
+    false
+}
+
+/// Returns a text that is not valid with its errors fixed. Returns `None` if there are no fixes, or if a multi-line
+/// string is not closed, since any line may then be a part of a string.
+fn with_statements_fixed(
+    alloc: Global,
+    text: &str,
+    level: FixLevel,
+) -> Result<Option<Fixed>, AllocError>
+    ensures { IfOk result (λ made. spec.FixesStatements text.now level (option_map spec.fixed made)) }
+{
+    let reading = read(alloc, text)?;
+    let pieces = reading.pieces.as_slice();
+    if has_open_string(pieces) {
+        return Ok(None);
+    }
+    let way = Way {
+        level,
+        is_crlf: uses_crlf(pieces),
+    };
+    let work = drafted(alloc, text, pieces, reading.statements.as_slice(), way)?;
+    finished(alloc, &work)
+}
+
+/// Fixes errors of a source. Returns the new source with the number of errors fixed.
+///
+/// Each statement of the source (a header, an assignment, or a line that is neither) is fixed by itself. As long as it
+/// has an error, the replacements of the first error's report are made. Either all its errors are fixed, at most 100,
+/// or the statement stays as it is. The statements around it stay the same, and are read as before. If the new source
+/// had other statements than these, the source is returned unchanged.
+///
+/// At `FixLevel::Safe`, all replacements are safe, and the quotes that they add enclose a whole value. At either level,
+/// a statement keeps its comments, except that the markers `//` and `;` of comments become `#`. Takes time linear in
+/// the length of the source and, for each statement with errors, in its length times their number. Fails if an
+/// allocation fails.
+pub fn with_fixes(alloc: Global, text: &str, level: FixLevel) -> Result<Fixed, AllocError>
+    ensures { IfOk result (λ made. spec.Fixes text.now level (spec.fixed made)) }
+{
+    if parse(alloc, text).is_err() {
+        if let Some(made) = with_statements_fixed(alloc, text, level)? {
+            return Ok(made);
         }
     }
     Ok(Fixed {
-        text: new,
-        count: MOST,
+        text: String::from_str(alloc, text)?,
+        count: 0,
     })
+}
+
+// ---- one fix
+
+/// Returns the position of the last statement that begins at or before the offset `place`, or 0.
+fn position_of(text: &str, pieces: &[Piece], statements: &[Statement], place: usize) -> usize {
+    let mut found = 0;
+    for (index, statement) in statements.iter().enumerate() {
+        if offset_of(text, pieces, statement.first) <= place {
+            found = index;
+        }
+    }
+    found
+}
+
+/// Returns whether `with_fixes` at `FixLevel::Safe` fixes the last statement that begins at or before the offset `place`.
+pub(crate) fn is_fixable(alloc: Global, text: &str, place: usize) -> Result<bool, AllocError>
+    ensures { IfOk result (λ fixes. OnTrue fixes (spec.HasFix text.now)) }
+{
+    let reading = read(alloc, text)?;
+    let pieces = reading.pieces.as_slice();
+    let statements = reading.statements.as_slice();
+    let at = position_of(text, pieces, statements, place);
+    if has_open_string(pieces) || at >= statements.len() {
+        return Ok(false);
+    }
+    let way = Way {
+        level: FixLevel::Safe,
+        is_crlf: uses_crlf(pieces),
+    };
+    match fix_of(alloc, text, pieces, statements[at], way)? {
+        Some(_) => Ok(true),
+        None => Ok(false),
+    }
+}
+
+/// Appends the statements to the draft as they are.
+#[tactic(auto, unfolding(crate::specs::Safety::all_kept))]
+fn push_all(
+    draft: &mut Draft,
+    text: &str,
+    pieces: &[Piece],
+    statements: &[Statement],
+) -> Result<(), AllocError>
+    ensures { OnOk result (drafts.draft draft.new
+        ≡ safety.all_kept text.now pieces.now (drafts.draft draft.old) statements.now) }
+{
+    for statement in statements {
+        push_kept(draft, text, pieces, *statement)?;
+    }
+    Ok(())
+}
+
+/// Returns the statement with these replacements made, whose spans are offsets in the text. Returns `None` if they may
+/// not be made, if the statement then has an error, or if its comments change.
+fn fix_with(
+    alloc: Global,
+    text: &str,
+    pieces: &[Piece],
+    statement: Statement,
+    repairs: &[Repair],
+    way: Way,
+) -> Result<Option<Fix>, AllocError>
+    ensures { IfOk result (λ fix. IfSome fix (λ f. spec.IsMade text.now pieces.now statement
+        (map repair_of repairs.now) way (spec.fix f))) }
+{
+    let Ok(old) = str::from_utf8(own_bytes(text, pieces, statement)) else {
+        return Ok(None);
+    };
+    let start = offset_of(text, pieces, statement.first);
+    let Some(new) = repaired(alloc, old, start, repairs, way)? else {
+        return Ok(None);
+    };
+    if parse(alloc, new.as_str()).is_err() {
+        return Ok(None);
+    }
+    let made = Fixed {
+        text: new,
+        count: 1,
+    };
+    checked(alloc, text, own_pieces(pieces, statement), made)
+}
+
+/// Returns whether a text with these replacements made is the text of the draft.
+fn makes(
+    alloc: Global,
+    text: &str,
+    repairs: &[Repair],
+    is_crlf: bool,
+    draft: &Draft,
+) -> Result<bool, AllocError>
+    ensures { IfOk result (λ same. OnTrue same (spec.Makes text.now (map repair_of repairs.now) is_crlf
+        (drafts.draft draft.now))) }
+{
+    let edits = edits_of(alloc, repairs, 0, is_crlf)?;
+    match replace_all(alloc, text, edits.as_slice()) {
+        Ok(new) => Ok(
+            is_same(new.as_bytes(), draft.text.as_slice()) && is_right(alloc, new.as_str(), draft)?,
+        ),
+        Err(Stop::Fault(_)) => Ok(false),
+        Err(Stop::Memory(error)) => Err(error),
+    }
+}
+
+/// Returns whether the replacements of a report are a safe fix by themselves: they are safe in kind and within one
+/// statement, which has no error afterwards, and they keep what `with_fixes` keeps at `FixLevel::Safe`. Takes time
+/// linear in the length of the text. Fails if an allocation fails.
+pub fn is_safe_fix(alloc: Global, text: &str, replacements: &[Repair]) -> Result<bool, AllocError>
+    ensures { IfOk result (λ safe. OnTrue safe (spec.IsSafeFix text.now (map repair_of replacements.now))) }
+{
+    let reading = read(alloc, text)?;
+    let pieces = reading.pieces.as_slice();
+    let statements = reading.statements.as_slice();
+    if has_open_string(pieces) {
+        return Ok(false);
+    }
+    let [first, ..] = replacements else {
+        return Ok(false);
+    };
+    let at = position_of(text, pieces, statements, first.span.start);
+    if at >= statements.len() {
+        return Ok(false);
+    }
+    let way = Way {
+        level: FixLevel::Safe,
+        is_crlf: uses_crlf(pieces),
+    };
+    let Some(fix) = fix_with(alloc, text, pieces, statements[at], replacements, way)? else {
+        return Ok(false);
+    };
+    let mut draft = empty(alloc);
+    push_all(&mut draft, text, pieces, &statements[..at])?;
+    push_fix(&mut draft, &fix)?;
+    push_all(&mut draft, text, pieces, &statements[at + 1..])?;
+    makes(alloc, text, replacements, way.is_crlf, &draft)
 }

@@ -57,6 +57,15 @@ pub fn is_folder(rt: &HostRuntime, name: &str) -> bool {
     }
 }
 
+/// Returns whether there is a pipe, a device or a socket, or a link to one, at the path `name`: anything but a regular
+/// file or a directory. To open a pipe would be to wait for a writer. Returns `false` if the system reports an error.
+pub fn is_special(rt: &HostRuntime, name: &str) -> bool {
+    match fs::metadata(rt, name) {
+        Ok(found) => !found.is_dir() && !found.is_file(),
+        Err(_) => false,
+    }
+}
+
 /// Returns whether there is a file, or a link to one, at `path`. Returns `true` if the system reports an error.
 fn may_be_file(rt: &HostRuntime, path: &str) -> bool {
     match fs::metadata(rt, path) {
@@ -98,9 +107,12 @@ fn path_of(alloc: Global, folder: &str, name: &[u8]) -> Result<String, AllocErro
     Ok(path)
 }
 
-/// Returns the text of a file, up to `BOUND + 1` bytes. Returns an empty string if the file can't be read or is not
-/// valid UTF-8.
+/// Returns the text of a file, up to `BOUND + 1` bytes. Returns an empty string if the file can't be read, is not a
+/// regular file or is not valid UTF-8.
 fn text_of(rt: &HostRuntime, alloc: Global, path: &str) -> Result<String, AllocError> {
+    if is_special(rt, path) {
+        return Ok(String::new(alloc));
+    }
     let Ok(file) = File::open(rt, path) else {
         return Ok(String::new(alloc));
     };

@@ -10,7 +10,7 @@ use std::alloc::{AllocError, Global};
 use std::fmt::Write;
 use toml_span::{Label, Span};
 use toml_span_report::visible::push_visible;
-use toml_span_report::{Report, Severity, line_column};
+use toml_span_report::{Report, Severity, clipped_span, clipped_text, line_column};
 
 /// Returns the workflow command, such as `::error`, for a severity.
 fn command_of(severity: Severity) -> &'static str
@@ -68,11 +68,12 @@ fn escaped_property(alloc: Global, text: &str) -> Result<String, AllocError>
     Ok(out)
 }
 
-/// Appends a message with the escapes of a workflow command and of `push_visible`.
+/// Appends a message, cut as `clipped_text` cuts it, with the escapes of a workflow command and of `push_visible`.
 fn push_message(alloc: Global, out: &mut String, text: &str) -> Result<(), AllocError>
     ensures { OnOk result (string_bytes out.new ≡ string_bytes out.old ++ spec.message text.now) }
 {
-    let escaped = escaped_message(alloc, text)?;
+    let text = clipped_text(alloc, text)?;
+    let escaped = escaped_message(alloc, text.as_str())?;
     push_visible(out, escaped.as_str())
 }
 
@@ -137,10 +138,11 @@ fn push_lines(
     push_columns(out, start, end)
 }
 
-/// Appends the line numbers of a span in the source `text` and, if the span is on one line, its columns.
+/// Appends the line numbers of a span in the source `text` (`clipped_span`) and, if the span is on one line, its columns.
 fn push_region(out: &mut String, text: &str, span: Span) -> Result<(), AllocError>
     ensures { OnOk result (string_bytes out.new ≡ string_bytes out.old ++ spec.region_properties text.now span) }
 {
+    let span = clipped_span(text, span);
     let start = line_column(text, span.start);
     let end = line_column(text, marked_end(text, span));
     push_lines(out, start, end)

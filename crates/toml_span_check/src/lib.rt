@@ -6,6 +6,7 @@ mod dates;
 mod document;
 pub mod encoding;
 pub mod every;
+mod fixable;
 pub mod fixing;
 pub mod folder;
 pub mod formats;

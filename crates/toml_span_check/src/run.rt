@@ -7,6 +7,7 @@ ghost use Rattle.toml_span_check.specs.code.Collected.{CollectsOne};
 
 use crate::answer::{Judged, Task, Verdict, judge};
 use crate::document::{place_of, show};
+use crate::fixable::Count;
 use crate::formats::Format;
 use crate::input::Inputs;
 use crate::sarif::document;
@@ -22,12 +23,12 @@ use toml_span_lines::sink::Sink;
 use toml_span_lines::tracked::Tracked;
 use toml_span_report::visible::push_visible;
 
-/// The number of files that have errors or can't be read, and the number of errors. A file that can't be read counts as
-/// one error.
+/// The number of files that have errors or can't be read, and the numbers of errors. A file that can't be read counts
+/// as one error.
 #[derive(Clone, Copy, Drop)]
 struct Tally {
     files: usize,
-    errors: usize,
+    count: Count,
 }
 
 /// The results for the files so far: output that has not been written yet, the exit status, and counts.
@@ -43,13 +44,13 @@ struct Collected {
 }
 
 impl Collected {
-    /// Counts a file with this many errors. Fails if a sum overflows.
-    fn count(&mut self, errors: usize) -> Result<(), AllocError>
-        ensures { OnOk result (self.new ≡ record self.old { wrong = spec.counted self.old.wrong errors }) }
+    /// Counts a file with these errors. Fails if a sum overflows.
+    fn count(&mut self, count: Count) -> Result<(), AllocError>
+        ensures { OnOk result (self.new ≡ record self.old { wrong = spec.counted self.old.wrong count }) }
     {
-        let files = sum_of(self.wrong.files, errors.min(1))?;
-        let errors = sum_of(self.wrong.errors, errors)?;
-        self.wrong = Tally { files, errors };
+        let files = sum_of(self.wrong.files, count.errors.min(1))?;
+        let count = self.wrong.count.plus(count)?;
+        self.wrong = Tally { files, count };
         Ok(())
     }
 }
@@ -103,8 +104,8 @@ fn collect_bytes<S: Schemas, O: Sink>(
         }
         Judged::Document(form, root) => {
             let place = place_of(alloc, pointer, &root)?;
-            let errors = show(alloc, format, form, pointer, name, place, held, out)?;
-            Ok(Verdict::plain(alloc, errors))
+            let count = show(alloc, format, form, pointer, name, place, held, out)?;
+            Ok(Verdict::plain(alloc, count))
         }
     }
 }
@@ -145,14 +146,16 @@ fn collect_one<S: Schemas, O: Sink>(
             )?;
             let complaint = found.complaint.as_str();
             collected.errors.push_str(complaint)?;
-            collected.status = collected.status.max(status_of(found.errors, complaint));
-            collected.count(found.errors)?;
+            collected.status = collected
+                .status
+                .max(status_of(found.count.errors, complaint));
+            collected.count(found.count)?;
         }
         Err(reason) => {
             let name = shown_word(alloc, name)?;
             push_complaint(&mut collected.errors, name.as_str(), reason.as_str())?;
             collected.status = 2;
-            collected.count(1)?;
+            collected.count(Count::one())?;
         }
     }
     Ok(())
@@ -200,7 +203,7 @@ fn collect<I: Inputs, S: Schemas, O: Sink>(
         status: 0,
         wrong: Tally {
             files: 0,
-            errors: 0,
+            count: Count::none(),
         },
     };
     for name in names {
@@ -233,16 +236,35 @@ fn push_number(out: &mut String, number: usize, word: &str) -> Result<(), AllocE
     Ok(())
 }
 
-/// Appends the line that counts errors, such as `3 errors in 2 of 5 files`. `files` is the number of all files.
+/// Appends how many errors have fixes, such as ``, 2 fixable with `--fix` ``. Appends nothing if no error has a fix.
+#[tactic(auto, unfolding(crate::specs::Run::fixable))]
+fn push_fixable(out: &mut String, count: Count) -> Result<(), AllocError>
+    ensures { OnOk result (string_bytes out.new ≡ string_bytes out.old ++ spec.fixable count) }
+{
+    let (safe, more) = (count.safe_fixes, count.unsafe_fixes);
+    match (safe, more) {
+        (0, 0) => Ok(()),
+        (_, 0) => write!(out, ", {safe} fixable with `--fix`"),
+        (0, _) => write!(out, ", {more} fixable with `--fix --unsafe-fixes`"),
+        _ => write!(
+            out,
+            ", {safe} fixable with `--fix`, {more} more with `--unsafe-fixes`"
+        ),
+    }
+}
+
+/// Appends the line that counts errors, such as ``3 errors in 2 of 5 files, 2 fixable with `--fix` ``. `files` is the
+/// number of all files.
 #[tactic(auto, unfolding(crate::specs::Run::found_errors))]
 fn push_errors(out: &mut String, files: usize, wrong: Tally) -> Result<(), AllocError>
     ensures { OnOk result (string_bytes out.new ≡ string_bytes out.old ++ spec.found_errors files wrong) }
 {
-    push_number(out, wrong.errors, " error")?;
+    push_number(out, wrong.count.errors, " error")?;
     out.push_str(" in ")?;
     write!(out, "{}", wrong.files)?;
     out.push_str(" of ")?;
     push_number(out, files, " file")?;
+    push_fixable(out, wrong.count)?;
     out.push_str("\n")
 }
 
@@ -270,7 +292,9 @@ fn push_summary(
         ++ spec.summary format task is_watched files wrong) }
 {
     match (format, task) {
-        (Format::Text(_), Task::Check(_, _)) if wrong.errors > 0 => push_errors(out, files, wrong),
+        (Format::Text(_), Task::Check(_, _)) if wrong.count.errors > 0 => push_errors(
+            out, files, wrong,
+        ),
         (Format::Text(_), Task::Check(_, _)) if is_watched => push_checked(out, files),
         _ => Ok(()),
     }

@@ -11,7 +11,7 @@ use crate::github::push_number;
 use std::alloc::{AllocError, Global};
 use toml_span::{Label, Span};
 use toml_span_report::visible::push_quoted;
-use toml_span_report::{Replacement, Report, Severity, line_column};
+use toml_span_report::{Replacement, Report, Severity, clipped_span, line_column, push_clipped};
 
 /// The start of the document, before the results, with a rule for each code that `check` reports.
 const HEAD: &str = r#"{
@@ -183,14 +183,33 @@ fn push_bytes(out: &mut String, start: usize, end: usize) -> Result<(), AllocErr
     out.push_str("}")
 }
 
-/// Appends the region of a span, cut at the end of the source `text`.
+/// Appends the region of a span in the source `text` (`clipped_span`).
 fn push_region(out: &mut String, text: &str, span: Span) -> Result<(), AllocError>
     ensures { OnOk result (string_bytes out.new ≡ string_bytes out.old ++ spec.region text.now span) }
 {
-    let start = span.start.min(text.len());
-    let end = span.end.min(text.len()).max(start);
+    let Span { start, end } = clipped_span(text, span);
     push_lines(out, line_column(text, start), line_column(text, end))?;
     push_bytes(out, start, end)
+}
+
+/// Appends the member `message` of a location.
+fn push_message(alloc: Global, out: &mut String, message: &str) -> Result<(), AllocError>
+    ensures { OnOk result (string_bytes out.new ≡ string_bytes out.old ++ spec.message message.now) }
+{
+    out.push_str(",\"message\":{\"text\":")?;
+    push_clipped(alloc, out, message)?;
+    out.push_str("}")?;
+    Ok(())
+}
+
+/// Appends the message of a label, or nothing if it is empty.
+fn push_label_message(alloc: Global, out: &mut String, message: &str) -> Result<(), AllocError>
+    ensures { OnOk result (string_bytes out.new ≡ string_bytes out.old ++ spec.label_message message.now) }
+{
+    if message.is_empty() {
+        return Ok(());
+    }
+    push_message(alloc, out, message)
 }
 
 /// Appends the location and the message of a label. `text` is the source of the file `name`.
@@ -208,9 +227,9 @@ fn push_location(
     push_artifact(out, name)?;
     out.push_str(",\"region\":")?;
     push_region(out, text, label.span)?;
-    out.push_str("},\"message\":{\"text\":")?;
-    push_quoted(alloc, out, label.message.as_str())?;
-    out.push_str("}}")?;
+    out.push_str("}")?;
+    push_label_message(alloc, out, label.message.as_str())?;
+    out.push_str("}")?;
     Ok(())
 }
 
@@ -292,7 +311,7 @@ fn push_front(alloc: Global, out: &mut String, report: &Report) -> Result<(), Al
     out.push_str(",\"level\":\"")?;
     out.push_str(level_of(report.severity))?;
     out.push_str("\",\"message\":{\"text\":")?;
-    push_quoted(alloc, out, report.message.as_str())?;
+    push_clipped(alloc, out, report.message.as_str())?;
     out.push_str("}")?;
     Ok(())
 }

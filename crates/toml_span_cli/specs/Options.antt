@@ -1,6 +1,6 @@
 -- The arguments of `check` and `get`. The crate `clap` parses them, as its definitions `matches_of` and `fault_of`
 -- state.
-use Rattle.std.specs.Prelude.{◌≡◌, ◌==◌, ◌&&◌, ℕ, Bool, true, false, List, [], ◌∷◌, length, Option, Some, None, codes}
+use Rattle.std.specs.Prelude.{◌≡◌, ◌==◌, ◌&&◌, ◌||◌, not, ℕ, Bool, true, false, List, [], ◌∷◌, length, Option, Some, None, codes}
 use Rattle.std.specs.Prelude.{unwrap_or, if◌then◌else◌, Result, Ok, Err}
 use Rattle.std.specs.Str.{bytes_eq}
 use Rattle.clap.specs.Lexer.{usize_max}
@@ -9,17 +9,21 @@ use Rattle.clap.specs.Faults.{fault_of}
 use Rattle.clap.specs.Words.{App, Row, Rule, all_of, first_of, matches_of, new_app, new_rule, with_rule}
 use Rattle.clap.specs.declared.builder.action.ArgAction.TheVariants.{Append, SetTrue}
 use Rattle.clap.specs.declared.error.kind.ErrorKind.{ErrorKind}
-use Rattle.clap.specs.declared.error.kind.ErrorKind.TheVariants.{ArgumentConflict, InvalidValue}
+use Rattle.clap.specs.declared.error.kind.ErrorKind.TheVariants.{ArgumentConflict, InvalidValue, MissingRequiredArgument}
 use Rattle.toml_span_check.specs.declared.answer.Task.{Task}
 use Rattle.toml_span_check.specs.declared.answer.Task.TheVariants.{Check, Show}
 use Rattle.toml_span_check.specs.declared.answer.Form.{Form}
 use Rattle.toml_span_check.specs.declared.answer.Form.TheVariants as form
+use Rattle.toml_span_check.specs.declared.fixing.FixLevel.{FixLevel}
+use Rattle.toml_span_check.specs.declared.fixing.FixLevel.TheVariants.{Safe, Unsafe}
 use Rattle.toml_span_check.specs.declared.formats.Format.{Format}
 use Rattle.toml_span_check.specs.declared.formats.Format.TheVariants.{Text, Short, Json, Github, Sarif}
 use Rattle.toml_span_check.specs.declared.newer.Version.{Version}
 use Rattle.toml_span_check.specs.declared.newer.Version.TheVariants as version
 use Rattle.toml_span_check.specs.declared.schemas.Chooser.{Chooser}
 use Rattle.toml_span_check.specs.declared.schemas.Chooser.TheVariants.{Files, Arguments}
+use Rattle.toml_span_cli.specs.declared.options.Fixing.{Fixing}
+use Rattle.toml_span_cli.specs.declared.options.Fixing.TheVariants as fixings
 use Rattle.toml_span_cli.specs.declared.options.Mistake.{Mistake}
 use Rattle.toml_span_cli.specs.declared.options.Mistake.TheVariants as mistake
 use Rattle.toml_span_cli.specs.declared.options.Query.{Query}
@@ -47,11 +51,11 @@ several name = record (new_rule name) { long = Some name; action = Some Append }
 abbrev pub optional : List ℕ → Rule
 optional name = record (new_rule name) { long = Some name }
 
--- any number of names; without a name, `-`
+-- any number of names; without a name, `.`
 abbrev pub files : Rule
 files = record (new_rule (codes "FILE")) {
   range = Some (record { start_inclusive = 0; end_inclusive = usize_max });
-  defaults = codes "-" ∷ [];
+  defaults = codes "." ∷ [];
 }
 
 -- a required argument
@@ -74,11 +78,14 @@ schemas =
     with_rule (with_rule (with_rule (with_rule common (optional (codes "schema"))) (optional (codes "catalog")))
     (several (codes "schema-map"))) (flag (codes "no-formats"))
 
--- `check [..] [--quiet] [--fix] [--toml VERSION] [--exclude GLOB].. [FILE..]`, with the options for schemas
+-- `check [..] [--quiet] [--fix] [--unsafe-fixes] [--diff] [--toml VERSION] [--exclude GLOB].. [--stdin-name NAME]
+-- [FILE..]`, with the options for schemas
 unfoldable pub check : App
 check =
-    with_rule (with_rule (with_rule (with_rule (with_rule schemas (flag (codes "quiet"))) (flag (codes "fix")))
-    (with_default (codes "toml") (codes "auto"))) (several (codes "exclude"))) files
+    with_rule (with_rule (with_rule (with_rule (with_rule (with_rule (with_rule (with_rule schemas
+    (flag (codes "quiet"))) (flag (codes "fix"))) (flag (codes "unsafe-fixes"))) (flag (codes "diff")))
+    (with_default (codes "toml") (codes "auto"))) (several (codes "exclude")))
+    (with_default (codes "stdin-name") (codes "-"))) files
 
 -- `[--format FORMAT] [--color WHEN] [--json] [--raw] [--toml] [--tagged] [--items]`
 unfoldable pub forms : App
@@ -165,11 +172,27 @@ unfoldable pub are_maps : List (List ℕ) → Bool
 are_maps [] = true
 are_maps (m ∷ ms) = if has 61 m then are_maps ms else false
 
+abbrev pub level_of : List Row → FixLevel
+level_of rows = if is_given rows (codes "unsafe-fixes") then Unsafe else Safe
+
+-- what to do with the fixes of errors
+abbrev pub fixing_of : List Row → Fixing
+fixing_of rows =
+    if is_given rows (codes "fix")
+    then (if is_given rows (codes "diff") then fixings.Diff (level_of rows) else fixings.Write (level_of rows))
+    else fixings.No
+
+-- whether there is an option that needs `--fix`, but not `--fix`
+abbrev pub lacks_fix : List Row → Bool
+lacks_fix rows =
+    not (is_given rows (codes "fix")) && (is_given rows (codes "diff") || is_given rows (codes "unsafe-fixes"))
+
 -- the task, or the mistake in the arguments
 abbrev pub task_of : Query → List Row → Result Task Mistake
 task_of queries.Check rows =
     if are_maps (values_of rows (codes "schema-map"))
-    then checks (version_named (value_of rows (codes "toml"))) (chooser_of rows)
+    then (if lacks_fix rows then Err mistake.Fix
+    else checks (version_named (value_of rows (codes "toml"))) (chooser_of rows))
     else Err mistake.Map
 task_of queries.Get rows =
     if is_bytes (value_of rows (codes "PATH")) then Err mistake.Path
@@ -202,15 +225,15 @@ unfoldable pub options : Query → List (List ℕ) → List Row
 options query words = matches_of (program query) words
 
 -- What the arguments `words` mean, if they are right: the format and the task, the path of the value to print, the
--- patterns of files to leave out, the names of the files, whether to print nothing, and whether to fix errors.
+-- patterns of files to leave out, the names of the files, whether to print nothing, and what to do with fixes.
 pub record Asks (query : Query) (words : List (List ℕ)) (auto_is_coloured : Bool) (format : Format) (task : Task)
-    (pointer : List ℕ) (excludes names : List (List ℕ)) (is_quiet is_fixing : Bool) : Type 0 where
+    (pointer : List ℕ) (excludes names : List (List ℕ)) (is_quiet : Bool) (fixing : Fixing) : Type 0 where
   pub what : asked query (options query words) auto_is_coloured ≡ Ok (format, task)
   pub place : pointer ≡ value_of (options query words) (codes "PATH")
   pub left_out : excludes ≡ unwrap_or (all_of (codes "exclude") (options query words)) []
   pub files : names ≡ unwrap_or (all_of (codes "FILE") (options query words)) []
   pub quiet : is_quiet ≡ is_given (options query words) (codes "quiet")
-  pub fixing : is_fixing ≡ is_given (options query words) (codes "fix")
+  pub fixes : fixing ≡ fixing_of (options query words)
 
 -- ---- mistakes in the options
 
@@ -222,6 +245,7 @@ kind_of mistake.Forms = ArgumentConflict
 kind_of mistake.Path = InvalidValue
 kind_of mistake.Sarif = ArgumentConflict
 kind_of mistake.Map = InvalidValue
+kind_of mistake.Fix = MissingRequiredArgument
 
 abbrev pub mistake_kinds : Result (Format × Task) Mistake → Kinds
 mistake_kinds (Ok what) = []

@@ -14,6 +14,7 @@ use Rattle.toml_span_check.specs.Schemas.{Says}
 use Rattle.toml_span_places.specs.Dotted.{IsPath}
 use Rattle.toml_span_places.specs.declared.dotted.PathError.{PathError}
 use Rattle.toml_span_cli.specs.declared.help.TheConstants.{CHECK, GET, VERSION}
+use Rattle.toml_span_cli.specs.declared.options.Fixing.{Fixing}
 use Rattle.toml_span_cli.specs.declared.options.Query.{Query}
 use Rattle.toml_span_cli.specs.declared.options.Query.TheVariants as queries
 use Rattle.toml_span_check.specs.declared.answer.Task.{Task}
@@ -47,17 +48,17 @@ abbrev pub Starts : Says → Query → List (List ℕ) → Bool → Bool → Opt
     → Option (List ℕ) → Option (List ℕ) → Bool → Option (List ℕ) → Option (List ℕ) → Bool → ℕ → Type 0
 Starts says query words auto_is_coloured is_watched old new stdout stdout' out_failed stderr stderr' err_failed status =
     ((format : Format) × (task : Task) × (pointer : List ℕ) × (excludes names : List (List ℕ))
-    × (is_quiet is_fixing : Bool)
+    × (is_quiet : Bool) × (fixing : Fixing)
     × (faults query words auto_is_coloured ≡ [])
-    × Asks query words auto_is_coloured format task pointer excludes names is_quiet is_fixing
+    × Asks query words auto_is_coloured format task pointer excludes names is_quiet fixing
     × ((segments : List (List ℕ)) × IsPath pointer (Ok segments))
     × Runs says format task pointer excludes names is_watched is_quiet old new stdout stdout' out_failed stderr stderr'
     err_failed status)
     ⊎ ((kind : ErrorKind) × ((kind ≡ OutOfMemory) ⊎ IsAmong kind (faults query words auto_is_coloured)) × (new ≡ old)
     × Refuses query kind stdout stdout' out_failed stderr stderr' err_failed status)
     ⊎ ((format : Format) × (task : Task) × (pointer : List ℕ) × (excludes names : List (List ℕ))
-    × (is_quiet is_fixing : Bool)
+    × (is_quiet : Bool) × (fixing : Fixing)
     × (faults query words auto_is_coloured ≡ [])
-    × Asks query words auto_is_coloured format task pointer excludes names is_quiet is_fixing
+    × Asks query words auto_is_coloured format task pointer excludes names is_quiet fixing
     × ((e : PathError) × IsPath pointer (Err e)) × (new ≡ old) × Keeps stdout stdout'
     × ((message : List ℕ) × Prints stderr stderr' err_failed (visible_lines message) 2 status))

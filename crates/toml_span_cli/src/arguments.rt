@@ -1,12 +1,27 @@
 //! The arguments of the commands that edit a file.
 use crate::commands::Command;
-use crate::say::quoted_word;
+use crate::files::set_write_option;
+use crate::say::unexpected;
 use std::alloc::{AllocError, Global};
 use toml_span::Stop;
 use toml_span_files::Options;
 
 /// The maximum value of `--wait`: a day, in seconds.
 const MOST_WAIT: u64 = 86_400;
+
+/// The options of the commands that edit a file.
+const OPTIONS: [&str; 10] = [
+    "--help",
+    "--dry-run",
+    "--diff",
+    "--string",
+    "--replace-table",
+    "--force",
+    "--change-owner",
+    "--in-place",
+    "--wait",
+    "-e",
+];
 
 /// What to do with the result of the edits.
 #[derive(Clone, Copy, PartialEq, Eq)]
@@ -30,6 +45,8 @@ pub(crate) struct Arguments<'w> {
     pub(crate) show: Show,
     /// Whether values are the content of strings rather than TOML.
     pub(crate) is_string: bool,
+    /// Whether a value may replace a table or array that headers or dotted keys define.
+    pub(crate) replaces_tables: bool,
     pub(crate) is_help: bool,
 }
 
@@ -56,7 +73,7 @@ struct Reading<'w> {
 }
 
 /// Parses a number of seconds. Fails with a message if `word` is not a number from 0 to `MOST_WAIT`.
-fn seconds(alloc: Global, word: &str) -> Result<u64, Stop<String>> {
+pub(crate) fn seconds(alloc: Global, word: &str) -> Result<u64, Stop<String>> {
     match word.parse::<u64>() {
         Ok(number) if number <= MOST_WAIT => Ok(number),
         _ => Err(Stop::Fault(format!(in alloc;
@@ -68,20 +85,20 @@ fn seconds(alloc: Global, word: &str) -> Result<u64, Stop<String>> {
 impl<'w> Reading<'w> {
     /// Always fails, with a message that the argument `word` is unexpected.
     fn unexpected(&self, word: &str) -> Result<(), Stop<String>> {
-        let word = quoted_word(self.alloc, word)?;
-        Err(Stop::Fault(format!(in self.alloc;
-            "unexpected argument {word}; to pass it as a value, write `--` before all values"
-        )?))
+        let note = "; to pass it as a value, write `--` before all values";
+        Err(Stop::Fault(unexpected(self.alloc, word, note, &OPTIONS)?))
     }
 
     /// Stores the argument `word`, which begins with a dash. Fails with a message if it is an unknown option with two
     /// dashes, or if VALUE in `--wait=VALUE` is wrong. Any other unknown argument, such as `-1`, is not an option.
     fn option(&mut self, word: &'w str) -> Result<(), Stop<String>> {
+        if set_write_option(&mut self.asked.options, word) {
+            return Ok(());
+        }
         match word {
             "-h" | "--help" => self.asked.is_help = true,
-            "--force" => self.asked.options.is_forced = true,
-            "--in-place" => self.asked.options.is_in_place = true,
             "--string" => self.asked.is_string = true,
+            "--replace-table" => self.asked.replaces_tables = true,
             "--dry-run" => self.asked.show = Show::Text,
             "--diff" => self.asked.show = Show::Diff,
             "--wait" => self.waiting = Waiting::Wait,
@@ -133,6 +150,7 @@ pub(crate) fn arguments_asked<'w>(
             options: Options::USUAL,
             show: Show::No,
             is_string: false,
+            replaces_tables: false,
             is_help: false,
         },
         waiting: Waiting::No,

@@ -1,32 +1,56 @@
 //! The command `check`.
-ghost use Rattle.std.specs.Prelude.{◌≡◌, ⊤, IfOk, MatchOption, false, map, string_bytes};
-ghost use Rattle.toml_span_cli.specs.Check.{AsksForFixing, PerformsCheck, ChecksFixed};
+ghost use Rattle.std.specs.Prelude.{◌≡◌, ◌≤◌, ⊤, IfOk, MatchOption, None, false, map, string_bytes};
+ghost use Rattle.toml_span_cli.specs.Check.{AsksForFixing, ChecksFixed, PerformsCheck, ShowsChanges};
 
-use crate::answers::Answer;
+use crate::answers::{Answer, failed};
+use crate::edit::escaped;
 use crate::files::{read_file, replace};
-use crate::options::{Options, Query, options_of};
+use crate::options::{Fixing, Options, Query, options_of};
 use crate::say::say;
 use crate::schemas::FileSchemas;
 use crate::start::start;
 use std::alloc::{AllocError, Global};
+use std::io::IsTerminal;
 use toml_span_check::answer::Task;
-use toml_span_check::fixing::{Fixed, with_fixes};
+use toml_span_check::fixing::{FixLevel, Fixed, with_fixes};
 use toml_span_check::input::{Host, Inputs};
 use toml_span_check::newer::with_older_forms;
+use toml_span_check::words::shown_word;
+use toml_span_files::unified;
 use toml_span_lines::run::BOUND;
 use toml_span_lines::sink::Sink;
+use toml_span_report::visible::visible;
 
-/// The number of fixes, and the number of files with fixes.
-#[derive(Clone, Copy, Drop)]
-struct Count {
+/// The fixes of the files so far.
+#[derive(Drop)]
+struct Fixes {
+    level: FixLevel,
+    /// Whether to print what the fixes would change, and to write no file.
+    is_diff: bool,
+    /// The number of fixes.
     errors: usize,
+    /// The number of files with fixes.
     files: usize,
+    /// What the fixes would change, for standard output. Empty unless `is_diff`.
+    changes: String,
+    /// The lines for standard error.
+    lines: String,
+    /// The exit status: 3 if a file can't be written. With `is_diff`, 2 if a file can't be read, and 1 if one would
+    /// change.
+    status: u8,
+    ghost small: { status ≤ 3 },
 }
 
 /// Fixes errors of `text` as `with_fixes` does, and then replaces syntax that the version of TOML in `task` lacks.
 /// Returns the new text with the number of fixes and replacements. `name` is the name of the file.
-fn fixed(alloc: Global, text: &str, task: Task, name: &str) -> Result<Fixed, AllocError> {
-    let made = with_fixes(alloc, text)?;
+fn fixed(
+    alloc: Global,
+    text: &str,
+    task: Task,
+    level: FixLevel,
+    name: &str,
+) -> Result<Fixed, AllocError> {
+    let made = with_fixes(alloc, text, level)?;
     let Task::Check(version, _) = task else {
         return Ok(made);
     };
@@ -37,89 +61,182 @@ fn fixed(alloc: Global, text: &str, task: Task, name: &str) -> Result<Fixed, All
     })
 }
 
-/// Fixes errors of a file as `fixed` does, and writes the file if there were fixes. Returns the number of fixes, or the
-/// answer for a file that was not written.
-///
-/// Returns 0 for standard input, and for a file that can't be read, is larger than 16 MiB or is not valid UTF-8. The
-/// check that follows reports what is wrong with them.
-fn fix_file(
-    alloc: Global,
-    host: &mut Host,
-    task: Task,
-    name: &str,
-) -> Result<Result<usize, Answer>, AllocError> {
-    if name == "-" {
-        return Ok(Ok(0));
+impl Fixes {
+    /// Adds the line and the status of the answer for a file that can't be read or written.
+    fn fail(&mut self, answer: &Answer) -> Result<(), AllocError> {
+        self.lines.push_str(answer.errors.as_str())?;
+        self.status = self.status.max(answer.status.min(3));
+        Ok(())
     }
-    let Ok(bytes) = read_file(alloc, host, name)? else {
-        return Ok(Ok(0));
-    };
-    if bytes.len() > BOUND {
-        return Ok(Ok(0));
-    }
-    let Ok(text) = str::from_utf8(bytes.as_slice()) else {
-        return Ok(Ok(0));
-    };
-    let made = fixed(alloc, text, task, name)?;
-    if made.count == 0 {
-        return Ok(Ok(0));
-    }
-    match replace(alloc, &host.rt, name, bytes.as_slice(), made.text.as_str())? {
-        None => Ok(Ok(made.count)),
-        Some(answer) => Ok(Err(answer)),
-    }
-}
 
-/// The text for standard error after fixing, and whether all fixes were written.
-#[derive(Drop)]
-struct Outcome {
-    line: String,
-    is_written: bool,
-}
+    /// Writes the fixed text of the file `name` or, if `is_diff`, adds what would change. `text` is the text of the
+    /// file, and `shown` its name in reports.
+    fn put(
+        &mut self,
+        alloc: Global,
+        host: &Host,
+        name: &str,
+        shown: &str,
+        text: &str,
+        made: &Fixed,
+    ) -> Result<(), AllocError> {
+        let new = made.text.as_str();
+        if self.is_diff {
+            let shown = shown_word(alloc, shown)?;
+            let shown = visible(alloc, shown.as_str())?;
+            let changes = unified(alloc, shown.as_str(), text, new)?;
+            self.changes.push_str(changes.as_str())?;
+            self.status = self.status.max(1);
+        } else if let Some(answer) = replace(alloc, &host.rt, name, text.as_bytes(), new)? {
+            return self.fail(&answer);
+        }
+        self.errors = self.errors.saturating_add(made.count);
+        self.files = self.files.saturating_add(1);
+        Ok(())
+    }
 
-/// Returns the outcome of fixes that were all written. Its line says how many fixes were made in how many files. The
-/// line is empty without fixes, or if `is_quiet`.
-fn counted(alloc: Global, count: Count, is_quiet: bool) -> Result<Outcome, AllocError> {
-    let (errors, files) = (count.errors, count.files);
-    let mut line = String::new(alloc);
-    if errors > 0 && !is_quiet {
+    /// Fixes errors of a file as `fixed` does, and calls `put` if there were fixes. `shown` is the name of the file in
+    /// reports: that of standard input if `name` is `-`.
+    ///
+    /// A file that can't be read, is larger than 16 MiB or is not valid UTF-8 has no fixes. The check that follows
+    /// reports what is wrong with it. If `is_diff`, no check follows, and a line says why a file can't be read.
+    /// Standard input is only read if `is_diff`.
+    fn add_file(
+        &mut self,
+        alloc: Global,
+        host: &mut Host,
+        task: Task,
+        name: &str,
+        shown: &str,
+    ) -> Result<(), AllocError> {
+        if name == "-" && !self.is_diff {
+            return Ok(());
+        }
+        let bytes = match read_file(alloc, host, name)? {
+            Ok(bytes) => bytes,
+            Err(reason) if self.is_diff => {
+                return self.fail(&failed(alloc, "error: cannot read ", name, reason.as_str(), 2)?);
+            }
+            Err(_) => return Ok(()),
+        };
+        if bytes.len() > BOUND {
+            return Ok(());
+        }
+        let Ok(text) = str::from_utf8(bytes.as_slice()) else {
+            return Ok(());
+        };
+        let made = fixed(alloc, text, task, self.level, shown)?;
+        if made.count == 0 {
+            return Ok(());
+        }
+        self.put(alloc, host, name, shown, text, &made)
+    }
+
+    /// Calls `add_file` for the file `name` or, if it is a directory, for each file found below it.
+    fn add_named(
+        &mut self,
+        alloc: Global,
+        host: &mut Host,
+        options: &Options<'_>,
+        name: &str,
+    ) -> Result<(), AllocError> {
+        let files = host.find(alloc, options.excludes.as_slice(), name)?;
+        for file in &files {
+            let file = file.as_str();
+            let shown = if file == "-" {
+                options.stdin_name
+            } else {
+                file
+            };
+            self.add_file(alloc, host, options.task, file, shown)?;
+        }
+        Ok(())
+    }
+
+    /// Removes what would be printed.
+    fn silence(&mut self, alloc: Global) {
+        self.changes = String::new(alloc);
+        self.lines = String::new(alloc);
+    }
+
+    /// Adds the line that says how many errors were fixed, or would be fixed, in how many files. Adds nothing without
+    /// fixes.
+    fn add_total(&mut self, alloc: Global) -> Result<(), AllocError> {
+        let (errors, files) = (self.errors, self.files);
+        if errors == 0 {
+            return Ok(());
+        }
+        let verb = if self.is_diff { "would fix" } else { "fixed" };
         let error_word = if errors == 1 { "error" } else { "errors" };
         let file_word = if files == 1 { "file" } else { "files" };
-        line = format!(in alloc; "fixed {errors} {error_word} in {files} {file_word}\n")?;
+        let line = format!(in alloc; "{verb} {errors} {error_word} in {files} {file_word}\n")?;
+        self.lines.push_str(line.as_str())
     }
-    Ok(Outcome {
-        line,
-        is_written: true,
-    })
 }
 
-/// Calls `fix_file` for each file that `options` names, and for each file found below a directory that `options` names.
-/// Stops at the first file that can't be written. Returns the outcome.
-fn fix_files(alloc: Global, options: &Options<'_>, host: &mut Host) -> Result<Outcome, AllocError> {
-    let mut count = Count {
+/// Fixes each file that `options` names, and each file found below a directory that `options` names (see `add_file`).
+/// With `--quiet`, there is nothing to print.
+fn fix_files(
+    alloc: Global,
+    options: &Options<'_>,
+    level: FixLevel,
+    is_diff: bool,
+    host: &mut Host,
+) -> Result<Fixes, AllocError> {
+    let mut fixes = Fixes {
+        level,
+        is_diff,
         errors: 0,
         files: 0,
+        changes: String::new(alloc),
+        lines: String::new(alloc),
+        status: 0,
     };
     for name in options.names.as_slice() {
-        let files = host.find(alloc, options.excludes.as_slice(), *name)?;
-        for file in files.as_slice() {
-            let file = file.as_str();
-            match fix_file(alloc, host, options.task, file)? {
-                Ok(0) => {}
-                Ok(made) => {
-                    count.errors = count.errors.saturating_add(made);
-                    count.files = count.files.saturating_add(1);
-                }
-                Err(answer) => {
-                    return Ok(Outcome {
-                        line: answer.errors,
-                        is_written: false,
-                    });
-                }
-            }
+        fixes.add_named(alloc, host, options, *name)?;
+    }
+    fixes.add_total(alloc)?;
+    if options.is_quiet {
+        fixes.silence(alloc);
+    }
+    Ok(fixes)
+}
+
+/// Files, and standard input, which has a name of its own.
+#[derive(Drop)]
+struct NamedInputs {
+    host: Host,
+    stdin_name: String,
+    /// Whether standard input has been found, and not read yet.
+    is_waiting: bool,
+}
+
+impl Inputs for NamedInputs {
+    ghost log = { λ _. None };
+
+    fn find(
+        &mut self,
+        alloc: Global,
+        excludes: &[&str],
+        name: &str,
+    ) -> Result<Vec<String>, AllocError> {
+        if name == "-" {
+            self.is_waiting = true;
+            let mut found = Vec::new(alloc);
+            found.push(String::from_str(alloc, self.stdin_name.as_str())?)?;
+            return Ok(found);
+        }
+        self.host.find(alloc, excludes, name)
+    }
+
+    fn read(&mut self, alloc: Global, name: &str) -> Result<Result<Vec<u8>, String>, AllocError> {
+        if self.is_waiting && name == self.stdin_name.as_str() {
+            self.is_waiting = false;
+            self.host.read(alloc, "-")
+        } else {
+            self.host.read(alloc, name)
         }
     }
-    counted(alloc, count, options.is_quiet)
 }
 
 /// Returns the `FileSchemas` for the options about schemas in `words`. If the arguments `words` are wrong, returns the
@@ -132,33 +249,81 @@ fn file_schemas(alloc: Global, words: &[String], host: &Host) -> Result<FileSche
     }
 }
 
-/// Carries out `--fix`. Returns `None` if the arguments don't have this option, or are wrong. `words` are the name of
-/// the command, or of the program, and the arguments.
+/// Returns the name that the arguments `words` give standard input: `-` if they give none, or are wrong.
+fn stdin_name(alloc: Global, words: &[String]) -> Result<String, AllocError> {
+    match options_of(alloc, Query::Check, words, false) {
+        Ok(options) => String::from_str(alloc, options.stdin_name),
+        Err(error) if error.kind() == clap::error::ErrorKind::OutOfMemory => Err(AllocError),
+        Err(_) => String::from_str(alloc, "-"),
+    }
+}
+
+/// Carries out `--fix`. Returns the fixes, and whether `--diff` is given. Returns `None` if the arguments don't have the
+/// option `--fix`, or are wrong. `words` are the name of the command, or of the program, and the arguments.
 fn fix(
     alloc: Global,
     words: &[String],
     is_coloured: bool,
     host: &mut Host,
-) -> Result<Option<Outcome>, AllocError>
-    ensures { IfOk result (λ made. MatchOption made ⊤ (λ outcome.
-        AsksForFixing (map (λ w. string_bytes w) words.now) is_coloured)) }
+) -> Result<Option<(bool, Fixes)>, AllocError>
+    ensures { IfOk result (λ made. MatchOption made ⊤ (λ fixes.
+        AsksForFixing (map (λ w. string_bytes w) words.now) is_coloured fixes.0)) }
 {
     match options_of(alloc, Query::Check, words, is_coloured) {
-        Ok(options) if options.is_fixing => Ok(Some(fix_files(alloc, &options, host)?)),
+        Ok(options) => match options.fixing {
+            Fixing::No => Ok(None),
+            Fixing::Write(level) => {
+                let fixes = fix_files(alloc, &options, level, false, host)?;
+                Ok(Some((false, fixes)))
+            }
+            Fixing::Diff(level) => {
+                let fixes = fix_files(alloc, &options, level, true, host)?;
+                Ok(Some((true, fixes)))
+            }
+        },
         Err(error) if error.kind() == clap::error::ErrorKind::OutOfMemory => Err(AllocError),
-        _ => Ok(None),
+        Err(_) => Ok(None),
     }
 }
 
-/// Prints the line of `outcome` and, if all fixes were written, checks the files. Returns the exit status of the check,
-/// or 3 if a fix or the line was not written.
+/// Prints the lines of `fixes`, and then what they would change. Returns the exit status.
+fn show_changes<O: Sink, E: Sink>(
+    alloc: Global,
+    fixes: Fixes,
+    host: &Host,
+    out: &mut O,
+    errors: &mut E,
+) -> Result<u8, AllocError>
+    requires out { O.failed out.old ≡ false }
+    requires errors { E.failed errors.old ≡ false }
+    ensures { IfOk result (ShowsChanges (O.contents out.old) (O.contents out.new)
+        (E.contents errors.old) (E.contents errors.new)) }
+{
+    let Fixes {
+        level: _,
+        is_diff: _,
+        errors: _,
+        files: _,
+        changes,
+        lines,
+        status,
+    } = fixes;
+    let changes = escaped(alloc, changes, host.rt.stdout().is_terminal())?;
+    match say(errors, lines.as_str(), 0) {
+        0 => Ok(say(out, changes.as_str(), status)),
+        _ => Ok(3),
+    }
+}
+
+/// Prints the lines of `fixes`, and then checks the files. Returns the exit status of the check, but at least the
+/// status of `fixes`, and 3 if the lines can't be written.
 fn check_fixed<O: Sink, E: Sink>(
     alloc: Global,
-    outcome: &Outcome,
+    fixes: &Fixes,
     words: &[String],
     is_coloured: bool,
     is_watched: bool,
-    host: &mut Host,
+    inputs: &mut NamedInputs,
     schemas: &mut FileSchemas,
     out: &mut O,
     errors: &mut E,
@@ -169,23 +334,22 @@ fn check_fixed<O: Sink, E: Sink>(
         (O.contents out.old) (O.contents out.new) (O.failed out.new)
         (E.contents errors.old) (E.contents errors.new) (E.failed errors.new) result }
 {
-    let line = outcome.line.as_str();
-    if !outcome.is_written {
-        return say(errors, line, 3);
-    }
-    match say(errors, line, 0) {
-        0 => start(
-            alloc,
-            Query::Check,
-            words,
-            is_coloured,
-            is_watched,
-            host,
-            schemas,
-            out,
-            errors,
-        ),
-        status => status,
+    match say(errors, fixes.lines.as_str(), 0) {
+        0 => {
+            let checked = start(
+                alloc,
+                Query::Check,
+                words,
+                is_coloured,
+                is_watched,
+                inputs,
+                schemas,
+                out,
+                errors,
+            );
+            checked.max(fixes.status)
+        }
+        _ => 3,
     }
 }
 
@@ -197,6 +361,7 @@ fn check_with<O: Sink, E: Sink>(
     is_coloured: bool,
     is_watched: bool,
     host: &mut Host,
+    inputs: &mut NamedInputs,
     schemas: &mut FileSchemas,
     out: &mut O,
     errors: &mut E,
@@ -208,13 +373,14 @@ fn check_with<O: Sink, E: Sink>(
         (E.contents errors.old) (E.contents errors.new) (E.failed errors.new) status) }
 {
     match fix(alloc, words, is_coloured, host)? {
-        Some(outcome) => Ok(check_fixed(
+        Some((true, fixes)) => show_changes(alloc, fixes, host, out, errors),
+        Some((false, fixes)) => Ok(check_fixed(
             alloc,
-            &outcome,
+            &fixes,
             words,
             is_coloured,
             is_watched,
-            host,
+            inputs,
             schemas,
             out,
             errors,
@@ -225,7 +391,7 @@ fn check_with<O: Sink, E: Sink>(
             words,
             is_coloured,
             is_watched,
-            host,
+            inputs,
             schemas,
             out,
             errors,
@@ -233,7 +399,8 @@ fn check_with<O: Sink, E: Sink>(
     }
 }
 
-/// Checks files. With `--fix`, first fixes their errors. Returns the exit status.
+/// Checks files. With `--fix`, first fixes their errors, or prints with `--diff` what this would change, and checks
+/// nothing. Returns the exit status.
 ///
 /// `words` are the name of the command, or of the program, and the arguments. `is_coloured` says whether `--color auto`
 /// means colors, and `is_watched` whether standard error is a terminal.
@@ -253,12 +420,18 @@ pub(crate) fn check<O: Sink, E: Sink>(
         (E.contents errors.old) (E.contents errors.new) (E.failed errors.new) status) }
 {
     let mut schemas = file_schemas(alloc, words, host)?;
+    let mut inputs = NamedInputs {
+        host: Host { rt: host.rt },
+        stdin_name: stdin_name(alloc, words)?,
+        is_waiting: false,
+    };
     check_with(
         alloc,
         words,
         is_coloured,
         is_watched,
         host,
+        &mut inputs,
         &mut schemas,
         out,
         errors,

@@ -7,7 +7,7 @@ use crate::changes::{PathEdit, change_of, count_of, option_changes, script_chang
 use crate::commands::{Command, help_of};
 use crate::files::{read_file, unedited};
 use crate::help::EDITING;
-use crate::making::new_text;
+use crate::making::{Refusal, new_text};
 use crate::say::misuse_text;
 use std::alloc::{AllocError, Global};
 use std::io::IsTerminal;
@@ -38,10 +38,17 @@ pub(crate) fn escaped(
     Ok(out)
 }
 
-/// Returns the answer for edits that were refused with the message in `stop`. Fails if `stop` is `Stop::Memory`.
-fn refused(alloc: Global, file: &str, stop: Stop<String>) -> Result<Answer, AllocError> {
-    let reason = stop.fault()?;
-    failed(alloc, "error: cannot edit ", file, reason.as_str(), 1)
+/// Returns the answer for edits that were refused for the reason in `stop`. Fails if `stop` is `Stop::Memory`.
+fn refused(alloc: Global, file: &str, stop: Stop<Refusal>) -> Result<Answer, AllocError> {
+    let refusal = stop.fault()?;
+    let reason = refusal.message.as_str();
+    let mut answer = failed(alloc, "error: cannot edit ", file, reason, 1)?;
+    if refusal.is_table {
+        answer
+            .errors
+            .push_str("help: `--replace-table` replaces all of it\n")?;
+    }
+    Ok(answer)
 }
 
 /// Makes edits without replacing the file. Returns the answer, which prints the result or, with `--diff`, how the
@@ -59,13 +66,13 @@ fn show(
             return failed(alloc, "error: cannot read ", file, reason.as_str(), 2);
         }
     };
-    let is_forced = asked.options.is_forced;
-    let new = match new_text(alloc, bytes.as_slice(), changes, asked.is_string, is_forced) {
+    let (is_string, replaces_tables) = (asked.is_string, asked.replaces_tables);
+    let new = match new_text(alloc, bytes.as_slice(), changes, is_string, replaces_tables) {
         Ok(new) => new,
         Err(stop) => return refused(alloc, file, stop),
     };
     if new.len() > LIMIT {
-        return unedited(alloc, file, &Failure::ResultTooLong, true);
+        return unedited(alloc, file, &Failure::ResultTooLong, Some(asked.options));
     }
     if asked.show != Show::Diff {
         return Ok(printed(alloc, escaped(alloc, new, host.rt.stdout().is_terminal())?));
@@ -84,14 +91,12 @@ fn write(
     asked: &Arguments<'_>,
     host: &mut Host,
 ) -> Result<Answer, AllocError> {
-    let (is_string, is_forced) = (asked.is_string, asked.options.is_forced);
-    let make = |bytes: &[u8]| new_text(alloc, bytes, changes, is_string, is_forced);
+    let (is_string, replaces_tables) = (asked.is_string, asked.replaces_tables);
+    let make = |bytes: &[u8]| new_text(alloc, bytes, changes, is_string, replaces_tables);
     match edit_file(&host.rt, file, asked.options, make) {
         Ok(_) => Ok(printed(alloc, String::new(alloc))),
         Err(Failed::Edit(stop)) => refused(alloc, file, stop),
-        Err(Failed::File(failure)) => {
-            unedited(alloc, file, &failure, !asked.options.is_in_place)
-        }
+        Err(Failed::File(failure)) => unedited(alloc, file, &failure, Some(asked.options)),
     }
 }
 

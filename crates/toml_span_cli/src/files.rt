@@ -1,4 +1,4 @@
-//! Reads and replaces single files, and reports files that were not edited.
+//! Reads and replaces single files, with options of the command line, and reports files that were not edited.
 ghost use Rattle.std.specs.Prelude.{◌≤◌};
 
 use crate::answers::{Answer, failed};
@@ -8,8 +8,20 @@ use toml_span_check::input::Host;
 use toml_span_files::{Failure, Options, put_file};
 use toml_span_lookup::disk::Disk;
 
+/// Stores an option that says how to write a file, and that has no value: `--force`, `--change-owner` or `--in-place`.
+/// Returns whether `word` is one of these.
+pub(crate) fn set_write_option(options: &mut Options, word: &str) -> bool {
+    match word {
+        "--force" => options.is_forced = true,
+        "--change-owner" => options.may_change_owner = true,
+        "--in-place" => options.is_in_place = true,
+        _ => return false,
+    }
+    true
+}
+
 /// Returns the bytes of a file, or of standard input for `-`, but at most one byte more than 16 MiB. Returns a message
-/// if they can't be read, or if `name` is a directory.
+/// if they can't be read, or if `name` is a directory, a pipe, a device or a socket, which are not opened.
 pub(crate) fn read_file(
     alloc: Global,
     host: &mut Host,
@@ -41,17 +53,24 @@ fn reason_of(alloc: Global, failure: &Failure) -> Result<String, AllocError> {
     }
 }
 
-/// Returns a line of help with the option to use after a failure, or an empty text if no option helps.
-fn hint(failure: &Failure) -> &'static str {
-    match failure {
-        Failure::ReadOnly => "help: `--force` edits it all the same\n",
-        Failure::Linked =>
-            "help: `--in-place` writes into the file itself, which keeps its names\n",
-        Failure::Owner(_) =>
-            "help: `--in-place` keeps them; `--force` edits the file without keeping them\n",
-        Failure::Busy(_) => "help: `--wait SECONDS` waits longer\n",
-        Failure::Unwritten(error) => match error.kind() {
-            ErrorKind::PermissionDenied | ErrorKind::ResourceBusy => {
+/// Returns a line of help on what to do after a failure of an edit with these options, or an empty text if there is
+/// nothing to say. `None` means that the command has no such options.
+fn hint(failure: &Failure, options: Option<Options>) -> &'static str {
+    match (failure, options) {
+        (Failure::Taken(_), _) => {
+            "help: the result is first written to a file of that name; rename or remove yours\n"
+        }
+        (_, None) => "",
+        (Failure::ReadOnly, _) => "help: `--force` edits it all the same\n",
+        (Failure::Linked, _) => {
+            "help: `--in-place` writes into the file itself, which keeps its names\n"
+        }
+        (Failure::Owner(_), _) => {
+            "help: `--in-place` keeps them; `--change-owner` edits the file without keeping them\n"
+        }
+        (Failure::Busy(_), _) => "help: `--wait SECONDS` waits longer\n",
+        (Failure::Unwritten(error), Some(options)) => match error.kind() {
+            ErrorKind::PermissionDenied | ErrorKind::ResourceBusy if !options.is_in_place => {
                 "help: `--in-place` writes into the file itself, not beside it\n"
             }
             _ => "",
@@ -60,13 +79,13 @@ fn hint(failure: &Failure) -> &'static str {
     }
 }
 
-/// Returns the answer for a file that was not edited. If `has_options`, the answer also names the option that helps, if
-/// there is one. Fails if `failure` is `Memory`.
+/// Returns the answer for a file that was not edited with these options, or by a command that has no such options
+/// (`None`). The answer also says what helps, if anything does. Fails if `failure` is `Memory`.
 pub(crate) fn unedited(
     alloc: Global,
     file: &str,
     failure: &Failure,
-    has_options: bool,
+    options: Option<Options>,
 ) -> Result<Answer, AllocError> {
     if let Failure::Memory = failure {
         return Err(AllocError);
@@ -74,14 +93,12 @@ pub(crate) fn unedited(
     let (front, status) = beginning(failure);
     let reason = reason_of(alloc, failure)?;
     let mut answer = failed(alloc, front, file, reason.as_str(), status)?;
-    if has_options {
-        answer.errors.push_str(hint(failure))?;
-    }
+    answer.errors.push_str(hint(failure, options))?;
     Ok(answer)
 }
 
-/// Replaces the content of the file `name` with `text`, if the content is still `bytes`. Returns `None` on success,
-/// otherwise the answer for a file that was not written.
+/// Replaces the content of the file `name` with `text`, as `replace_with` does, for a command that has no options about
+/// how files are written.
 pub(crate) fn replace(
     alloc: Global,
     rt: &HostRuntime,
@@ -89,8 +106,22 @@ pub(crate) fn replace(
     bytes: &[u8],
     text: &str,
 ) -> Result<Option<Answer>, AllocError> {
-    match put_file(rt, name, Options::USUAL, bytes, text) {
+    replace_with(alloc, rt, name, None, bytes, text)
+}
+
+/// Replaces the content of the file `name` with `text`, if the content is still `bytes`. Returns `None` on success,
+/// otherwise the answer for a file that was not written. `options` is `None` if the command has no options about how
+/// files are written.
+pub(crate) fn replace_with(
+    alloc: Global,
+    rt: &HostRuntime,
+    name: &str,
+    options: Option<Options>,
+    bytes: &[u8],
+    text: &str,
+) -> Result<Option<Answer>, AllocError> {
+    match put_file(rt, name, options.unwrap_or(Options::USUAL), bytes, text) {
         Ok(()) => Ok(None),
-        Err(failure) => Ok(Some(unedited(alloc, name, &failure, false)?)),
+        Err(failure) => Ok(Some(unedited(alloc, name, &failure, options)?)),
     }
 }

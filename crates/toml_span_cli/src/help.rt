@@ -39,7 +39,8 @@ Usage: toml-span check [OPTION].. [FILE|DIRECTORY|-]..
 
 Directories are searched recursively for `*.toml`. The search skips hidden
 directories, `target`, `node_modules`, and what `.gitignore` files in these
-directories list. Without a file, and for `-`, standard input is read.
+directories list. Without a file, the current directory is searched. For `-`,
+standard input is read.
 
 Options:
   --format FORMAT  how to report errors [default: text]
@@ -52,6 +53,9 @@ Options:
                    terminal, unless NO_COLOR or CLICOLOR_FORCE is set
   --fix            first apply the safe fixes that reports show, and rewrite the
                    files; standard input is only checked
+  --unsafe-fixes   with --fix, also apply the unsafe fixes that reports show;
+                   they may differ from what was meant
+  --diff           with --fix, write and check no file; print what would change
   --toml VERSION   1.0, 1.1 or auto [default: auto]; auto means 1.0 for files
                    named `pyproject.toml`, which pip reads, and 1.1 for others
   --schema FILE    check against this JSON Schema; without this option, a
@@ -65,15 +69,18 @@ Options:
   --no-formats     ignore the keyword `format` of schemas
   --exclude GLOB   skip matching files and directories in a search; GLOB is
                    written as in a `.gitignore` file; can be repeated
+  --stdin-name NAME
+                   the name of standard input in reports, which also says where
+                   its schema is and which version of TOML it has [default: -]
   --quiet          print nothing; only the exit status shows the result
   --               treat all later arguments as files
   -h, --help       print this help
 
 Exit status:
-  0  all files are valid
-  1  a file has an error
+  0  all files are valid, or with --diff: no file would change
+  1  a file has an error, or with --diff: a file would change
   2  a file or a schema can't be read, or the arguments are wrong
-  3  output can't be written
+  3  output, or a fixed file, can't be written
   4  out of memory
 ";
 
@@ -157,15 +164,24 @@ Directories are searched recursively for `*.toml`. Without a file, the current
 directory is formatted. For `-`, standard input is formatted to standard output.
 
 Options:
-  --check      write no file; print the names of files that would change
-  --diff       write no file; print what would change
-  --sort-keys  sort the keys of each group of lines without a blank line between
-               them; comments move with their keys
-  --stdin      the same as `-`
-  --width N    maximum width of an array on one line, in columns [default: 80]
-  --indent N   spaces before an element on a line of its own [default: 4]
-  --           treat all later arguments as files
-  -h, --help   print this help
+  --check         write no file; print the names of files that would change
+  --diff          write no file; print what would change
+  --sort-keys     sort the keys of each group of lines without a blank line
+                  between them; comments move with their keys
+  --stdin         the same as `-`
+  --width N       maximum width of an array on one line [default: 80 columns]
+  --indent N      spaces before an element on a line of its own [default: 4]
+  --exclude GLOB  skip matching files and directories in a search; GLOB is
+                  written as in a `.gitignore` file; can be repeated
+  --quiet         print no summary and, with --check, no names
+  --force         write read-only files too
+  --change-owner  write files whose owner or group can't be kept too
+  --in-place      write into the files themselves, which keeps their owner, hard
+                  links and attributes; a run that is killed may leave half a
+                  file
+  --wait SECONDS  how long to wait for another edit of a file [default: 5]
+  --              treat all later arguments as files
+  -h, --help      print this help
 
 Exit status:
   0  done, or with --check or --diff: no file would change
@@ -207,7 +223,7 @@ Usage: toml-span set [OPTION].. FILE PATH VALUE
 PATH is a dotted key such as server.ports[0], or a pointer such as
 /server/ports/0; positions in arrays count from 0. VALUE is TOML, so a string
 needs its quotes: '\"text\"'. A table or array that headers or dotted keys define
-is replaced only with --force.
+is replaced only with --replace-table.
 
   toml-span set Cargo.toml package.version '\"1.3.0\"'
 ";
@@ -310,16 +326,18 @@ changes. For `-`, standard input is read, and the result is written to standard
 output.
 
 Options:
-  --dry-run       print the result, and leave the file as it is
-  --diff          print what would change, and leave the file as it is
-  --string        take VALUE as plain text, which needs no quotes
-  --force         edit the file even if it is read-only, or its owner can't be
-                  kept
-  --in-place      write into the file itself, which keeps its owner, hard links
-                  and attributes; a run that is killed may leave half a file
-  --wait SECONDS  how long to wait for another edit of the file [default: 5]
-  --              treat no later argument as an option
-  -h, --help      print this help
+  --dry-run        print the result, and leave the file as it is
+  --diff           print what would change, and leave the file as it is
+  --string         take VALUE as plain text, which needs no quotes
+  --replace-table  let `set` replace a table or array that headers or dotted
+                   keys define
+  --force          edit the file even if it is read-only
+  --change-owner   edit the file even if its owner or group can't be kept
+  --in-place       write into the file itself, which keeps its owner, hard links
+                   and attributes; a run that is killed may leave half a file
+  --wait SECONDS   how long to wait for another edit of the file [default: 5]
+  --               treat no later argument as an option
+  -h, --help       print this help
 
 Exit status:
   0  done

@@ -24,6 +24,14 @@ enum Kind {
     Move,
 }
 
+/// Why edits were refused.
+#[derive(Drop)]
+pub(crate) struct Refusal {
+    pub(crate) message: String,
+    /// Whether the edit would be made if it were allowed to replace a table or array that headers or dotted keys define.
+    pub(crate) is_table: bool,
+}
+
 /// A change with the segments of its paths.
 #[derive(Drop)]
 struct Located<'w> {
@@ -171,60 +179,60 @@ fn finished<'w>(
     edits.finish()
 }
 
-/// Returns the message for a refused edit. If `count`, the number of edits, is above 1, the message begins with the
-/// number of the edit.
-fn message_of(alloc: Global, error: &EditError, count: usize) -> Result<String, AllocError> {
+/// Returns whether the edit that was refused with `error` is a `Set` at a table or array that headers or dotted keys
+/// define.
+fn sets_table(list: &[Prepared<'_>], error: &EditError) -> bool {
+    match (&error.reason, list.get(error.edit)) {
+        (Reason::NotLiteral, Some(prepared)) => matches!(prepared.kind, Kind::Set),
+        _ => false,
+    }
+}
+
+/// Returns why an edit in `list` was refused. If there are several edits, the message begins with the number of the
+/// edit.
+fn refusal_of(
+    alloc: Global,
+    list: &[Prepared<'_>],
+    error: &EditError,
+) -> Result<Refusal, AllocError> {
     let mut message = String::new(alloc);
-    if count > 1 {
+    if list.len() > 1 {
         write!(message, "edit {}: ", error.edit.saturating_add(1))?;
     }
     message.push_str(error.reason.text())?;
     message.push_str(error.reason.detail())?;
-    Ok(message)
+    Ok(Refusal {
+        message,
+        is_table: sets_table(list, error),
+    })
 }
 
-/// Changes the edit that was refused with `error` from `Set` to `SetForced`. Does so only if the edit is a `Set`, and
-/// the reason for the refusal is `NotLiteral`. Returns whether the edit was changed.
-fn force(list: &mut [Prepared<'_>], error: &EditError) -> bool {
-    let Reason::NotLiteral = error.reason else {
-        return false;
-    };
-    match list.get_mut(error.edit) {
-        Some(prepared) => match prepared.kind {
-            Kind::Set => {
-                prepared.kind = Kind::SetForced;
-                true
-            }
-            _ => false,
-        },
-        None => false,
-    }
-}
-
-/// Makes prepared edits, and returns the new text. If `is_forced`, an edit that sets a value may replace a table or
-/// array that headers or dotted keys define. Fails with a message if an edit is refused.
-fn forced(
+/// Makes prepared edits, and returns the new text. If `replaces_tables`, an edit that sets a value may replace a table
+/// or array that headers or dotted keys define. Fails if an edit is refused.
+fn made(
     alloc: Global,
     text: &str,
     mut list: Vec<Prepared<'_>>,
-    is_forced: bool,
-) -> Result<String, Stop<String>> {
-    let count = list.len();
+    replaces_tables: bool,
+) -> Result<String, Stop<Refusal>> {
     // Each edit is changed at most once.
-    for _ in 0..count {
+    for _ in 0..list.len() {
         let error = match finished(alloc, text, list.as_slice()) {
             Ok(new) => return Ok(new),
             Err(stop) => stop.fault()?,
         };
-        if !is_forced || !force(list.as_mut_slice(), &error) {
-            return Err(Stop::Fault(message_of(alloc, &error, count)?));
+        if !replaces_tables || !sets_table(list.as_slice(), &error) {
+            return Err(Stop::Fault(refusal_of(alloc, list.as_slice(), &error)?));
+        }
+        if let Some(prepared) = list.as_mut_slice().get_mut(error.edit) {
+            prepared.kind = Kind::SetForced;
         }
     }
     match finished(alloc, text, list.as_slice()) {
         Ok(new) => Ok(new),
         Err(stop) => {
             let error = stop.fault()?;
-            Err(Stop::Fault(message_of(alloc, &error, count)?))
+            Err(Stop::Fault(refusal_of(alloc, list.as_slice(), &error)?))
         }
     }
 }
@@ -241,22 +249,25 @@ fn not_text(alloc: Global, bytes: &[u8], at: usize) -> Result<String, AllocError
 }
 
 /// Makes edits in the bytes of a file, and returns the new text. If `is_string`, values are the content of strings
-/// rather than TOML. If `is_forced`, an edit that sets a value may replace a table or array that headers or dotted keys
-/// define. Fails with a message if the file is not valid UTF-8 or an edit is refused.
+/// rather than TOML. If `replaces_tables`, an edit that sets a value may replace a table or array that headers or dotted
+/// keys define. Fails if the file is not valid UTF-8 or an edit is refused.
 pub(crate) fn new_text(
     alloc: Global,
     bytes: &[u8],
     changes: &[PathEdit<'_>],
     is_string: bool,
-    is_forced: bool,
-) -> Result<String, Stop<String>> {
+    replaces_tables: bool,
+) -> Result<String, Stop<Refusal>> {
     let text = match str::from_utf8(bytes) {
         Ok(text) => text,
         Err(error) => {
-            return Err(Stop::Fault(not_text(alloc, bytes, error.valid_up_to())?));
+            return Err(Stop::Fault(Refusal {
+                message: not_text(alloc, bytes, error.valid_up_to())?,
+                is_table: false,
+            }));
         }
     };
     let located = locate_all(alloc, changes)?;
     let list = prepare_all(alloc, located.as_slice(), is_string)?;
-    forced(alloc, text, list, is_forced)
+    made(alloc, text, list, replaces_tables)
 }

@@ -11,6 +11,7 @@ use clap::error::ErrorKind;
 use clap::{Arg, ArgAction, ArgMatches, Command, Error};
 use std::alloc::{AllocError, Global};
 use toml_span_check::answer::{Form, Task};
+use toml_span_check::fixing::FixLevel;
 use toml_span_check::formats::Format;
 use toml_span_check::newer::Version;
 use toml_span_check::schemas::Chooser;
@@ -26,6 +27,17 @@ pub(crate) enum Query {
     Get,
 }
 
+/// What `check` does with the fixes of errors.
+#[derive(Clone, Copy, PartialEq, Eq)]
+pub(crate) enum Fixing {
+    /// Nothing.
+    No,
+    /// Applies the fixes of this level, and writes the files.
+    Write(FixLevel),
+    /// Prints what the fixes of this level would change.
+    Diff(FixLevel),
+}
+
 /// The parsed arguments of `check` or `get`.
 #[derive(Drop)]
 pub(crate) struct Options<'w> {
@@ -36,10 +48,11 @@ pub(crate) struct Options<'w> {
     /// The patterns of files and directories to leave out of a search.
     pub(crate) excludes: Vec<&'w str>,
     pub(crate) names: Vec<&'w str>,
+    /// The name of standard input in reports. For `get`, it is empty.
+    pub(crate) stdin_name: &'w str,
     /// Whether to print nothing.
     pub(crate) is_quiet: bool,
-    /// Whether to fix errors first.
-    pub(crate) is_fixing: bool,
+    pub(crate) fixing: Fixing,
     pub(crate) schemas: SchemaOptions<'w>,
 }
 
@@ -60,6 +73,8 @@ enum Mistake {
     Sarif,
     /// A value of `--schema-map` has no `=`.
     Map,
+    /// `--diff` or `--unsafe-fixes` is given without `--fix`.
+    Fix,
 }
 
 /// Returns a flag, which is an option without a value.
@@ -99,7 +114,7 @@ fn files<'w>(alloc: Global) -> Arg<'w>
     ensures rule { rule_of result ≡ spec.files }
     ensures own { result.global ≡ false }
 {
-    Arg::new(alloc, "FILE").num_args(0..).default_value("-")
+    Arg::new(alloc, "FILE").num_args(0..).default_value(".")
 }
 
 /// Returns an argument that is required.
@@ -141,8 +156,11 @@ fn check_command<'w>(alloc: Global) -> Result<Command<'w>, AllocError>
     schema_command(alloc)?
         .arg(flag(alloc, "quiet"))?
         .arg(flag(alloc, "fix"))?
+        .arg(flag(alloc, "unsafe-fixes"))?
+        .arg(flag(alloc, "diff"))?
         .arg(with_default(alloc, "toml", "auto"))?
         .arg(several(alloc, "exclude"))?
+        .arg(with_default(alloc, "stdin-name", "-"))?
         .arg(files(alloc))
 }
 
@@ -291,12 +309,44 @@ fn chooser_of(matches: &ArgMatches<'_>) -> Chooser
     }
 }
 
+/// Returns the level of the fixes to apply: `Unsafe` with `--unsafe-fixes`.
+fn level_of(matches: &ArgMatches<'_>) -> FixLevel
+    ensures { result ≡ spec.level_of (rows_of (found_of matches.now)) }
+{
+    if is_given(matches, "unsafe-fixes") {
+        FixLevel::Unsafe
+    } else {
+        FixLevel::Safe
+    }
+}
+
+/// Returns what to do with the fixes of errors.
+fn fixing_of(matches: &ArgMatches<'_>) -> Fixing
+    ensures { result ≡ spec.fixing_of (rows_of (found_of matches.now)) }
+{
+    if !is_given(matches, "fix") {
+        Fixing::No
+    } else if is_given(matches, "diff") {
+        Fixing::Diff(level_of(matches))
+    } else {
+        Fixing::Write(level_of(matches))
+    }
+}
+
+/// Returns whether `--diff` or `--unsafe-fixes` is given without `--fix`.
+fn lacks_fix(matches: &ArgMatches<'_>) -> bool
+    ensures { result ≡ spec.lacks_fix (rows_of (found_of matches.now)) }
+{
+    !is_given(matches, "fix") && (is_given(matches, "diff") || is_given(matches, "unsafe-fixes"))
+}
+
 /// Returns what to do with the files. Fails with a `Mistake` if the arguments are wrong.
 fn task_of(query: Query, matches: &ArgMatches<'_>) -> Result<Task, Mistake>
     ensures { result ≡ spec.task_of query (rows_of (found_of matches.now)) }
 {
     match query {
         Query::Check if !has_maps(matches) => Err(Mistake::Map),
+        Query::Check if lacks_fix(matches) => Err(Mistake::Fix),
         Query::Check => match version_named(value_of(matches, "toml")) {
             Some(version) => Ok(Task::Check(version, chooser_of(matches))),
             None => Err(Mistake::Version),
@@ -347,6 +397,7 @@ fn kind_of(mistake: Mistake) -> ErrorKind
         Mistake::Format | Mistake::Color | Mistake::Version | Mistake::Path | Mistake::Map =>
             ErrorKind::InvalidValue,
         Mistake::Forms | Mistake::Sarif => ErrorKind::ArgumentConflict,
+        Mistake::Fix => ErrorKind::MissingRequiredArgument,
     }
 }
 
@@ -361,6 +412,7 @@ fn message_of(mistake: Mistake) -> &'static str {
         Mistake::Path => "the path is not valid UTF-8",
         Mistake::Map => "the value of '--schema-map' must be URL=FILE",
         Mistake::Sarif => "'--format sarif' can only be used with `check`",
+        Mistake::Fix => "'--diff' and '--unsafe-fixes' can only be used with '--fix'",
     }
 }
 
@@ -375,7 +427,7 @@ pub(crate) fn options_of<'w>(
 ) -> Result<Options<'w>, Error>
     ensures ok { IfOk result (λ o. spec.Asks query (map (λ w. string_bytes w) words.entry.now) auto_is_coloured
         o.format o.task o.pointer.now (map (λ pattern. pattern.now) o.excludes.items)
-        (map (λ name. name.now) o.names.items) o.is_quiet o.is_fixing) }
+        (map (λ name. name.now) o.names.items) o.is_quiet o.fixing) }
     ensures fails { FailsBy (spec.faults query (map (λ w. string_bytes w) words.entry.now) auto_is_coloured) result }
 {
     let mut command = command(alloc, query)?;
@@ -387,8 +439,9 @@ pub(crate) fn options_of<'w>(
             pointer: value_of(&matches, "PATH"),
             excludes: Vec::from_slice(alloc, matches.get_strs("exclude").unwrap_or(&[]))?,
             names: Vec::from_slice(alloc, matches.get_strs("FILE").unwrap_or(&[]))?,
+            stdin_name: value_of(&matches, "stdin-name"),
             is_quiet: is_given(&matches, "quiet"),
-            is_fixing: is_given(&matches, "fix"),
+            fixing: fixing_of(&matches),
             schemas: SchemaOptions {
                 schema: value_of(&matches, "schema"),
                 catalog: value_of(&matches, "catalog"),

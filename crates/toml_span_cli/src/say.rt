@@ -8,6 +8,7 @@ use std::alloc::{AllocError, Global};
 use toml_span_check::words::shown_word;
 use toml_span_lines::run::write_bytes;
 use toml_span_lines::sink::Sink;
+use toml_span_report::nearest;
 use toml_span_report::visible::{push_visible, visible_lines};
 
 /// Writes a text. Returns `status`, or 3 if the write fails.
@@ -29,6 +30,24 @@ pub(crate) fn quoted_word(alloc: Global, word: &str) -> Result<String, AllocErro
     push_visible(&mut out, word.as_str())?;
     out.push('`')?;
     Ok(out)
+}
+
+/// Returns the message that an argument is unexpected, followed by `note` and, if one of the options `names` is similar,
+/// by a line that names it.
+pub(crate) fn unexpected(
+    alloc: Global,
+    word: &str,
+    note: &str,
+    names: &[&str],
+) -> Result<String, AllocError> {
+    let shown = quoted_word(alloc, word)?;
+    let mut message = format!(in alloc; "unexpected argument {shown}{note}")?;
+    if let Some(name) = nearest(alloc, word, names)? {
+        message.push_str("\n\n  tip: a similar argument exists: `")?;
+        message.push_str(name)?;
+        message.push('`')?;
+    }
+    Ok(message)
 }
 
 /// Returns a text about wrong arguments, escaped for a terminal. The text has `message`, which says what is wrong, and

@@ -4,7 +4,8 @@ ghost use Rattle.std.specs.Prelude.{◌≡◌, ◌++◌, IfOk, codes, string_byt
 use crate::reason::Reason;
 use std::alloc::{AllocError, Global};
 use toml_span::Stop;
-use toml_span_places::{quote_key, quote_string};
+pub(crate) use toml_span_places::quote_key as key_text;
+pub use toml_span_places::quote_string as string_text;
 use toml_span_read::{Section, read_sections};
 
 /// The text that `probe_text` writes before a value to make a document.
@@ -74,51 +75,4 @@ pub(crate) fn no_value(alloc: Global, value: &str) -> Result<Reason, AllocError>
     }
     let string = string_text(alloc, value)?;
     Ok(Reason::NoValue(Some(format!(in alloc; "'{string}'?")?)))
-}
-
-/// Returns `text`, a basic string, with the escapes `\e` and `\xHH`, which TOML 1.1 added, replaced with escapes of
-/// TOML 1.0.
-fn older(alloc: Global, text: &str) -> Result<String, AllocError> {
-    let mut out = String::new(alloc);
-    let mut escaped = false;
-    let mut digits: usize = 0;
-    for c in text.chars() {
-        match (escaped, c) {
-            (true, 'e') => out.push_str("\\u001B")?,
-            (true, 'x') => out.push_str("\\u00")?,
-            (true, _) => {
-                out.push('\\')?;
-                out.push(c)?;
-            }
-            (false, '\\') => {}
-            (false, _) if digits > 0 => out.push(c.to_ascii_uppercase())?,
-            (false, _) => out.push(c)?,
-        }
-        digits = if escaped && c == 'x' {
-            2
-        } else {
-            digits.saturating_sub(1)
-        };
-        escaped = !escaped && c == '\\';
-    }
-    Ok(out)
-}
-
-/// Returns `name` as a key: bare if possible, otherwise in quotes, with only escapes of TOML 1.0.
-pub(crate) fn key_text(alloc: Global, name: &str) -> Result<String, AllocError> {
-    let text = quote_key(alloc, name)?;
-    if text.starts_with('"') {
-        return older(alloc, text.as_str());
-    }
-    Ok(text)
-}
-
-/// Returns `text` as a TOML string on one line, quotes included, with only escapes of TOML 1.0. Fails if an allocation
-/// fails.
-pub fn string_text(alloc: Global, text: &str) -> Result<String, AllocError> {
-    let text = quote_string(alloc, text)?;
-    if text.starts_with('"') {
-        return older(alloc, text.as_str());
-    }
-    Ok(text)
 }

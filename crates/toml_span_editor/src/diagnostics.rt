@@ -15,7 +15,7 @@ use std::alloc::{AllocError, Global};
 use toml_span::de::parse;
 use toml_span::{Stop, Value};
 use toml_span_check::every::check;
-use toml_span_check::fixing::with_fixes;
+use toml_span_check::fixing::{FixLevel, with_fixes};
 use toml_span_check::newer::{Version, version_reports, with_older_forms};
 use toml_span_check::schemas::{Chooser, SchemaReports, Schemas};
 use toml_span_lex::span::Span;
@@ -356,7 +356,7 @@ pub fn all_repairs(
     name: &str,
 ) -> Result<Vec<Edit>, AllocError> {
     let fixed = match document {
-        None => with_fixes(alloc, text)?.text,
+        None => with_fixes(alloc, text, FixLevel::Safe)?.text,
         Some(_) => String::from_str(alloc, text)?,
     };
     let made = with_older_forms(alloc, fixed.as_str(), version, name)?;

@@ -2,6 +2,7 @@
 //! more.
 #![tactic(auto)]
 
+mod aligned;
 pub mod changes;
 mod comments;
 pub mod completion;

@@ -1,5 +1,6 @@
 //! Reads and replaces a file of the file system.
 ghost use Rattle.std.specs.Prelude.{None};
+ghost use Rattle.toml_span_files.specs.Past.{Past};
 
 use crate::LIMIT;
 use crate::beside::{Beside, is_same, lock, waited};
@@ -17,8 +18,11 @@ use std::{fs, io};
 pub struct Options {
     /// How many seconds to wait for another run that edits the same file.
     pub wait: u64,
-    /// Whether to edit a read-only file, and a file whose owner or group can't be kept.
+    /// Whether to edit a read-only file.
     pub is_forced: bool,
+    /// Whether to replace a file whose owner or group can't be kept. The new file then belongs to the user and the group
+    /// of this program.
+    pub may_change_owner: bool,
     /// Whether to write into the file itself. The file then keeps its owner, its hard links, its access control list
     /// and its extended attributes, and its directory need not be writable. But a run that is killed while it writes
     /// may leave a part of the old text and a part of the new text.
@@ -26,10 +30,11 @@ pub struct Options {
 }
 
 impl Options {
-    /// Waits up to 5 seconds. Neither `is_forced` nor `is_in_place` is set.
+    /// Waits up to 5 seconds. The other options are not set.
     pub const USUAL: Options = Options {
         wait: 5,
         is_forced: false,
+        may_change_owner: false,
         is_in_place: false,
     };
 }
@@ -52,6 +57,10 @@ pub struct Disk<'r> {
     open: Option<File>,
     /// The new text, if the file is to be written in place.
     ready: Vec<u8>,
+    /// Whether the file is locked against other runs.
+    is_locked: bool,
+    /// Whether the file has been read since the new text was prepared.
+    is_fresh: bool,
 }
 
 /// Checks that `found` is the metadata of a regular file. Fails with `Directory` or `NotRegular` if not.
@@ -109,9 +118,9 @@ fn beside_or_none(
 }
 
 /// Gives the new file `file` the owner and group of the old file, whose metadata is `found`. Returns the mode for the
-/// new file. If the owner or group can't be kept, fails with `Owner` or, if `is_forced` is set, returns only the
-/// permission bits of the mode, without set-id bits. Fails with `Unwritten` if the metadata of `file` can't be read.
-fn keep_owner(file: &File, found: &Metadata, is_forced: bool) -> Result<u32, Failure> {
+/// new file. If the owner or group can't be kept, fails with `Owner` or, if `may_change_owner` is set, returns only
+/// the permission bits of the mode, without set-id bits. Fails with `Unwritten` if the metadata of `file` can't be read.
+fn keep_owner(file: &File, found: &Metadata, may_change_owner: bool) -> Result<u32, Failure> {
     let new = file.metadata().map_err(unwritten)?;
     let mode = found.permissions().mode();
     if new.uid() == found.uid() && new.gid() == found.gid() {
@@ -119,7 +128,7 @@ fn keep_owner(file: &File, found: &Metadata, is_forced: bool) -> Result<u32, Fai
     }
     match fchown(file, Some(found.uid()), Some(found.gid())) {
         Ok(()) => Ok(mode),
-        Err(_) if is_forced => Ok(mode & 0o777),
+        Err(_) if may_change_owner => Ok(mode & 0o777),
         Err(error) => Err(Failure::Owner(error)),
     }
 }
@@ -127,10 +136,15 @@ fn keep_owner(file: &File, found: &Metadata, is_forced: bool) -> Result<u32, Fai
 /// Writes the text to a new file, and gives it the owner, group and mode of the old file, whose metadata is `found`.
 /// Fails with `Unwritten` if the file can't be written, and with `Owner` as `keep_owner` does. The file may then have a
 /// part of the text.
-fn fill(file: &mut File, found: &Metadata, text: &[u8], is_forced: bool) -> Result<(), Failure> {
+fn fill(
+    file: &mut File,
+    found: &Metadata,
+    text: &[u8],
+    may_change_owner: bool,
+) -> Result<(), Failure> {
     file.write_all(text).map_err(unwritten)?;
     file.sync_all().map_err(unwritten)?;
-    let mode = keep_owner(file, found, is_forced)?;
+    let mode = keep_owner(file, found, may_change_owner)?;
     file.set_permissions(Permissions::from_mode(mode))
         .map_err(unwritten)
 }
@@ -193,13 +207,15 @@ impl<'r> Disk<'r> {
             beside: None,
             open: None,
             ready: Vec::new(rt.alloc()),
+            is_locked: false,
+            is_fresh: false,
         })
     }
 
     /// Opens the file to write it in place, and locks it, since the new file, which is otherwise the lock, may not have
-    /// been created. Fails with `Unwritten` if the file can't be opened, and with `Busy` if another run keeps it
-    /// locked.
-    fn open_in_place(&mut self) -> Result<(), Failure> {
+    /// been created. Returns the open file. Fails with `Unwritten` if the file can't be opened, and with `Busy` if
+    /// another run keeps it locked.
+    fn open_in_place(&self) -> Result<File, Failure> {
         let mut options = OpenOptions::new();
         let open = options
             .read(true)
@@ -209,26 +225,29 @@ impl<'r> Disk<'r> {
         if !waited(self.rt, &file, self.options.wait) {
             return Err(Failure::Busy(String::from_str(self.rt.alloc(), self.place.as_str())?));
         }
-        self.open = Some(file);
-        Ok(())
+        Ok(file)
     }
 
-    /// Records `found`, the metadata of the file that was opened for reading. Fails if it is not a regular file, or
-    /// with `Changed` if another file was opened before.
-    fn recognize(&mut self, found: Metadata) -> Result<(), Failure> {
+    /// Opens the file for reading. Returns it with its metadata. Fails if it is not a regular file, or with `Changed`
+    /// if another file was opened before.
+    fn open_to_read(&self) -> Result<(File, Metadata), Failure> {
+        let place = self.place.as_str();
+        // (to open a pipe would be to wait for a writer)
+        check_kind(&fs::metadata(self.rt, place).map_err(unread)?)?;
+        let file = File::open(self.rt, place).map_err(unread)?;
+        let found = file.metadata().map_err(unread)?;
         check_kind(&found)?;
         if let Some(first) = &self.found
             && !is_same(first, &found)
         {
             return Err(Failure::Changed);
         }
-        self.found = Some(found);
-        Ok(())
+        Ok((file, found))
     }
 }
 
 impl Steps for Disk<'_> {
-    ghost past = { λ _. None };
+    ghost past = { λ disk. record { locked = disk.is_locked; fresh = disk.is_fresh; texts = None } };
 
     fn begin(&mut self) -> Result<(), Failure> {
         let found = fs::metadata(self.rt, self.place.as_str()).map_err(unread)?;
@@ -236,40 +255,48 @@ impl Steps for Disk<'_> {
         let name = beside(self.rt.alloc(), self.place.as_str())?;
         self.beside = beside_or_none(lock(self.rt, name, self.options.wait), self.options)?;
         if self.options.is_in_place {
-            self.open_in_place()?;
+            self.open = Some(self.open_in_place()?);
         }
+        self.is_locked = true;
         Ok(())
     }
 
     fn read(&mut self) -> Result<Vec<u8>, Failure> {
-        let mut file = File::open(self.rt, self.place.as_str()).map_err(unread)?;
-        self.recognize(file.metadata().map_err(unread)?)?;
-        front_of(self.rt.alloc(), &mut file)
+        let (mut file, found) = self.open_to_read()?;
+        self.found = Some(found);
+        let bytes = front_of(self.rt.alloc(), &mut file)?;
+        self.is_fresh = true;
+        Ok(bytes)
     }
 
     fn prepare(&mut self, text: &[u8]) -> Result<(), Failure> {
         if self.options.is_in_place {
             self.ready = Vec::from_slice(self.rt.alloc(), text)?;
-            return Ok(());
-        }
-        match (&mut self.beside, &self.found) {
-            (Some(beside), Some(found)) => {
-                fill(&mut beside.file, found, text, self.options.is_forced)
+        } else {
+            match (&mut self.beside, &self.found) {
+                (Some(beside), Some(found)) => {
+                    fill(&mut beside.file, found, text, self.options.may_change_owner)?;
+                }
+                _ => return Err(Failure::Changed),
             }
-            _ => Err(Failure::Changed),
         }
+        self.is_fresh = false;
+        Ok(())
     }
 
     fn replace(&mut self) -> Result<(), Failure> {
         if let Some(file) = &mut self.open {
             extend(file, self.ready.as_slice())?;
-            return overwrite(file, self.ready.as_slice()).map_err(Failure::Damaged);
+            overwrite(file, self.ready.as_slice()).map_err(Failure::Damaged)?;
+            self.is_fresh = false;
+            return Ok(());
         }
         let Some(beside) = &self.beside else {
             return Err(Failure::Changed);
         };
         fs::rename(self.rt, beside.name.as_str(), self.place.as_str()).map_err(unwritten)?;
         self.beside = None;
+        self.is_fresh = false;
         // (the file has been replaced at this point, whether or not its directory can be synced)
         if let Ok(open) = File::open(self.rt, folder(self.place.as_str())) {
             let _synced = open.sync_all();
@@ -283,5 +310,6 @@ impl Steps for Disk<'_> {
             let _removed = fs::remove_file(self.rt, beside.name.as_str());
         }
         self.open = None;
+        self.is_locked = false;
     }
 }

@@ -1,7 +1,7 @@
 //! Edits a file step by step.
 ghost use Rattle.std.specs.Prelude.{IfOk, OnOk, OnErr, None};
 ghost use Rattle.std.specs.Fn.{FnOnceReturnsAt};
-ghost use Rattle.toml_span_files.specs.Past.{Edits, Keeps, Replaces};
+ghost use Rattle.toml_span_files.specs.Past.{Edits, IsLocked, Keeps, Replaces};
 
 use crate::LIMIT;
 use crate::disk::{Disk, Options};
@@ -11,8 +11,9 @@ use crate::steps::Steps;
 /// Replaces the content of a file with `text`. Fails with `Changed` if the content is not `bytes`, or with the failure
 /// of a step.
 fn replace<S: Steps>(steps: &mut S, bytes: &[u8], text: &[u8]) -> Result<(), Failure>
-    ensures ok { OnOk result (Replaces (S.past steps.old) (S.past steps.new) bytes.now text.now) }
-    ensures err { OnErr result (Keeps (S.past steps.old) (S.past steps.new)) }
+    requires locked { IsLocked (S.past steps.old) }
+    ensures ok { OnOk result (Replaces (S.past steps.old).texts (S.past steps.new).texts bytes.now text.now) }
+    ensures err { OnErr result (Keeps (S.past steps.old).texts (S.past steps.new).texts) }
 {
     steps.prepare(text)?;
     let now = steps.read()?;
@@ -28,10 +29,11 @@ fn attempt<S: Steps, X, F: FnOnce(&[u8]) -> Result<String, X>>(
     steps: &mut S,
     make: F,
 ) -> Result<bool, Failed<X>>
-    requires { F.IsAlwaysCallable make }
+    requires callable { F.IsAlwaysCallable make }
+    requires locked { IsLocked (S.past steps.old) }
     ensures ok { IfOk result (λ is_changed. Edits (FnOnceReturnsAt F.FnOnce make) is_changed
-        (S.past steps.old) (S.past steps.new)) }
-    ensures err { OnErr result (Keeps (S.past steps.old) (S.past steps.new)) }
+        (S.past steps.old).texts (S.past steps.new).texts) }
+    ensures err { OnErr result (Keeps (S.past steps.old).texts (S.past steps.new).texts) }
 {
     let bytes = steps.read()?;
     if bytes.len() > LIMIT {
@@ -55,8 +57,9 @@ fn attempt<S: Steps, X, F: FnOnce(&[u8]) -> Result<String, X>>(
 /// Replaces the content of a file with `text`, if the content is still `bytes`. Fails with `ResultTooLong` if `text` is
 /// longer than `LIMIT`, with `Changed` if the content is not `bytes`, or with the failure of a step.
 fn put_read<S: Steps>(steps: &mut S, bytes: &[u8], text: &str) -> Result<(), Failure>
-    ensures ok { OnOk result (Replaces (S.past steps.old) (S.past steps.new) bytes.now text.now) }
-    ensures err { OnErr result (Keeps (S.past steps.old) (S.past steps.new)) }
+    requires locked { IsLocked (S.past steps.old) }
+    ensures ok { OnOk result (Replaces (S.past steps.old).texts (S.past steps.new).texts bytes.now text.now) }
+    ensures err { OnErr result (Keeps (S.past steps.old).texts (S.past steps.new).texts) }
 {
     if text.len() > LIMIT {
         return Err(Failure::ResultTooLong);
@@ -84,8 +87,8 @@ pub fn edit<S: Steps, X, F: FnOnce(&[u8]) -> Result<String, X>>(
 ) -> Result<bool, Failed<X>>
     requires { F.IsAlwaysCallable make }
     ensures ok { IfOk result (λ is_changed. Edits (FnOnceReturnsAt F.FnOnce make) is_changed
-        (S.past steps.old) (S.past steps.new)) }
-    ensures err { OnErr result (Keeps (S.past steps.old) (S.past steps.new)) }
+        (S.past steps.old).texts (S.past steps.new).texts) }
+    ensures err { OnErr result (Keeps (S.past steps.old).texts (S.past steps.new).texts) }
 {
     if let Err(failure) = steps.begin() {
         steps.discard();
@@ -116,8 +119,8 @@ pub fn edit_file<X, F: FnOnce(&[u8]) -> Result<String, X>>(
 /// `Failure::Changed` if the file has other bytes now, with `Failure::ResultTooLong` if `text` is longer than `LIMIT`,
 /// or with the failure of a step. After an error the file is as before, except after `Failure::Damaged`.
 pub fn put<S: Steps>(steps: &mut S, bytes: &[u8], text: &str) -> Result<(), Failure>
-    ensures ok { OnOk result (Replaces (S.past steps.old) (S.past steps.new) bytes.now text.now) }
-    ensures err { OnErr result (Keeps (S.past steps.old) (S.past steps.new)) }
+    ensures ok { OnOk result (Replaces (S.past steps.old).texts (S.past steps.new).texts bytes.now text.now) }
+    ensures err { OnErr result (Keeps (S.past steps.old).texts (S.past steps.new).texts) }
 {
     if let Err(failure) = steps.begin() {
         steps.discard();

@@ -27,9 +27,11 @@ pub enum Failure {
     Owner(io::Error),
     /// After the time to wait, another run still has a lock on the file with this path.
     Busy(String),
-    /// The new file should be created at this path, but a file exists there. It is not clear whether a run has left
-    /// that file.
+    /// The new file should be created at this path, but another run has created a file there. It is not clear whether
+    /// that run has ended.
     Left(String),
+    /// The new file should be created at this path, but there is a file that no run has left.
+    Taken(String),
     /// Another program has changed the file in the meantime.
     Changed,
     /// The new file can't be created, written or renamed, or the file can't be opened or extended to be written in
@@ -103,6 +105,9 @@ impl Display for Failure {
                     f,
                     "`{name}` was left by another run: remove it if none is running"
                 )
+            }
+            Failure::Taken(name) => {
+                write!(f, "`{name}` already exists, and was not left by toml-span")
             }
             Failure::Changed => f.write_str("another program changed it in the meantime"),
             Failure::Unwritten(error) => write!(f, "{error}"),

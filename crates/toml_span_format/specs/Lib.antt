@@ -1,4 +1,6 @@
 pub mod Same
 pub mod Permuted
-pub mod Comments
+pub mod Tokens
+pub mod Entries
+pub mod Keys
 pub mod Document

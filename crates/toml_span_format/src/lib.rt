@@ -1,20 +1,22 @@
 //! Formats TOML documents.
 #![tactic(auto)]
 
-mod comments;
+mod compared;
 mod document;
+mod entries;
 mod errors;
-mod lines;
+mod items;
+mod keys;
 mod options;
 mod permuted;
-mod pieces;
 mod printer;
+mod read;
 mod reader;
 mod same;
 mod sorted;
+mod tokens;
 
-pub use comments::comments_of;
-pub use document::format;
+pub use document::{format, same_document};
 pub use errors::FormatError;
 pub use options::Options;
 pub use sorted::{format_sorted, permuted_comments};

@@ -5,7 +5,7 @@ ghost use Rattle.toml_span_read.specs.Data.{parsed_section, parsed_assignment};
 ghost use Rattle.toml_span_format.specs.Same.{bare_assignment};
 ghost use Rattle.toml_span_format.specs.Permuted as spec;
 
-use crate::lines::names_of;
+use crate::keys::names_of;
 use crate::same::{same_keys, same_pair};
 use std::alloc::{AllocError, Global};
 use toml_span_read::{Assignment, Section};

@@ -1,6 +1,6 @@
-//! Prints pieces in their new layout.
+//! Prints items in their new layout.
+use crate::items::{Form, Gap, Item, Kind, columns};
 use crate::options::Options;
-use crate::pieces::{Form, Gap, Kind, Piece, columns};
 use std::alloc::{AllocError, Global};
 
 /// How an open array or inline table is being printed.
@@ -39,9 +39,11 @@ struct Printer {
     /// Whether the first line has begun.
     is_begun: bool,
     /// `is_after_open`: whether an array or inline table has been opened with one element per line, and no line has
-    /// begun since then. `is_after_equals`: whether the last piece is an equals sign.
+    /// begun since then. `is_after_equals`: whether a value has to follow an equals sign. `is_after_comment`: whether
+    /// the last item is a comment.
     is_after_open: bool,
     is_after_equals: bool,
+    is_after_comment: bool,
 }
 
 impl Printer {
@@ -65,6 +67,7 @@ impl Printer {
         }
         self.is_begun = true;
         self.is_after_open = false;
+        self.is_after_comment = false;
         // (at most the width, so that deep nesting does not make the output grow without limit)
         for _ in 0..self.spaces.min(self.options.width) {
             self.out.push(' ')?;
@@ -96,12 +99,21 @@ impl Printer {
         }
     }
 
+    /// Continues the line, after the text `between`. After a comment, begins a new line instead.
+    fn go_on(&mut self, between: &str) -> Result<(), AllocError> {
+        if self.is_after_comment {
+            self.begin_line(Gap::NextLine)
+        } else {
+            self.out.push_str(between)
+        }
+    }
+
     /// Begins a value. After an equals sign, the value continues the line; otherwise it is an element
     /// (`begin_element`).
     fn begin_value(&mut self, gap: Gap) -> Result<(), AllocError> {
         if self.is_after_equals {
             self.is_after_equals = false;
-            return Ok(());
+            return self.go_on(" ");
         }
         self.begin_element(gap)
     }
@@ -120,31 +132,32 @@ impl Printer {
     }
 
     /// Prints a comment, on its own line or at the end of the current line.
-    fn comment(&mut self, piece: &Piece<'_>) -> Result<(), AllocError> {
-        if piece.is_own_comment() {
-            self.begin_line(piece.gap)?;
+    fn comment(&mut self, item: &Item<'_>) -> Result<(), AllocError> {
+        if item.is_own_comment() {
+            self.begin_line(item.gap)?;
         } else {
             self.out.push(' ')?;
         }
-        self.out.push_str(piece.text.trim_ascii_end())
+        self.is_after_comment = true;
+        self.out.push_str(item.text.trim_ascii_end())
     }
 
     /// Prints the first part of a key.
-    fn key(&mut self, piece: &Piece<'_>) -> Result<(), AllocError> {
+    fn key(&mut self, item: &Item<'_>) -> Result<(), AllocError> {
         if self.open.is_empty() {
-            self.begin_line(piece.gap)?;
+            self.begin_line(item.gap)?;
         } else {
-            self.begin_element(piece.gap)?;
+            self.begin_element(item.gap)?;
         }
-        self.out.push_str(piece.text)
+        self.out.push_str(item.text)
     }
 
     /// Prints a string, number, date or boolean.
-    fn scalar(&mut self, piece: &Piece<'_>) -> Result<(), AllocError> {
-        self.begin_value(piece.gap)?;
+    fn scalar(&mut self, item: &Item<'_>) -> Result<(), AllocError> {
+        self.begin_value(item.gap)?;
         let start = self.out.len();
-        self.out.push_str(piece.text)?;
-        if let Some((lines, _)) = piece.text.rsplit_once('\n') {
+        self.out.push_str(item.text)?;
+        if let Some((lines, _)) = item.text.rsplit_once('\n') {
             self.counted = start.saturating_add(lines.len()).saturating_add(1);
             self.column = 0;
         }
@@ -173,8 +186,8 @@ impl Printer {
     }
 
     /// Prints an opening bracket or brace.
-    fn begin(&mut self, piece: &Piece<'_>, is_table: bool, form: Form) -> Result<(), AllocError> {
-        self.begin_value(piece.gap)?;
+    fn begin(&mut self, item: &Item<'_>, is_table: bool, form: Form) -> Result<(), AllocError> {
+        self.begin_value(item.gap)?;
         let mode = self.mode_of(form);
         let outer = match self.open.last() {
             Some(frame) => frame.reserved,
@@ -194,11 +207,11 @@ impl Printer {
             is_empty: true,
             reserved,
         })?;
-        self.out.push_str(piece.text)
+        self.out.push_str(item.text)
     }
 
     /// Prints a closing bracket or brace.
-    fn close(&mut self, piece: &Piece<'_>) -> Result<(), AllocError> {
+    fn close(&mut self, item: &Item<'_>) -> Result<(), AllocError> {
         match self.open.pop() {
             Some(frame) if frame.mode == Mode::Lines => {
                 self.spaces = self.spaces.saturating_sub(self.options.indent);
@@ -207,39 +220,43 @@ impl Printer {
             Some(frame) if frame.is_table && !frame.is_empty => self.out.push(' ')?,
             _ => (),
         }
-        self.out.push_str(piece.text)?;
+        self.out.push_str(item.text)?;
         self.end_element()
     }
 
-    /// Prints a piece.
-    fn piece(&mut self, piece: &Piece<'_>) -> Result<(), AllocError> {
-        match piece.kind {
+    /// Prints a item.
+    fn item(&mut self, item: &Item<'_>) -> Result<(), AllocError> {
+        match item.kind {
             Kind::Header => {
-                self.begin_line(piece.gap)?;
-                self.out.push_str(piece.text)
+                self.begin_line(item.gap)?;
+                self.out.push_str(item.text)
             }
-            Kind::Key => self.key(piece),
-            Kind::Part => self.out.push_str(piece.text),
+            Kind::Key => self.key(item),
+            Kind::Part => {
+                self.go_on("")?;
+                self.out.push_str(item.text)
+            }
             Kind::Equals => {
+                self.go_on(" ")?;
                 self.is_after_equals = true;
-                self.out.push_str(" = ")
+                self.out.push_str("=")
             }
-            Kind::Scalar => self.scalar(piece),
-            Kind::OpenArray(form) => self.begin(piece, false, form),
-            Kind::OpenTable(form) => self.begin(piece, true, form),
-            Kind::Close => self.close(piece),
-            Kind::Comment => self.comment(piece),
+            Kind::Scalar => self.scalar(item),
+            Kind::OpenArray(form) => self.begin(item, false, form),
+            Kind::OpenTable(form) => self.begin(item, true, form),
+            Kind::Close => self.close(item),
+            Kind::Comment => self.comment(item),
         }
     }
 }
 
-/// Returns the text of all pieces in their new layout. The text begins with `mark`, a byte order mark or an empty
+/// Returns the text of all items in their new layout. The text begins with `mark`, a byte order mark or an empty
 /// string. Its lines end with `line_end`, except inside strings.
 pub(crate) fn print(
     alloc: Global,
     mark: &str,
     line_end: &'static str,
-    pieces: &[Piece<'_>],
+    items: &[Item<'_>],
     options: Options,
 ) -> Result<String, AllocError> {
     let mut printer = Printer {
@@ -253,9 +270,10 @@ pub(crate) fn print(
         is_begun: false,
         is_after_open: false,
         is_after_equals: false,
+        is_after_comment: false,
     };
-    for piece in pieces {
-        printer.piece(piece)?;
+    for item in items {
+        printer.item(item)?;
     }
     if printer.is_begun {
         printer.end_line()?;

@@ -1,10 +1,7 @@
-//! Splits a document into pieces.
-use crate::pieces::{Form, Gap, Kind, Piece, columns};
+//! Splits a document into items.
+use crate::items::{Form, Gap, Item, Kind, columns};
 use std::alloc::{AllocError, Global};
-use toml_span_lex::span::Span;
-use toml_span_lex::stop::Stop;
-use toml_span_lex::tokenizer::Tokenizer;
-use toml_span_lex::tokens::{Error, Token};
+use toml_span_syntax::pieces::{Kind as PieceKind, Piece};
 
 /// The part of the document to which the next tokens belong.
 #[derive(Clone, Copy, PartialEq, Eq)]
@@ -20,7 +17,7 @@ enum Place {
 #[derive(Drop)]
 struct Frame {
     is_table: bool,
-    /// The position of the piece that opens the array or inline table.
+    /// The position of the item that opens the array or inline table.
     at: usize,
     /// The number of columns of the elements, with ` = ` in pairs, but without commas.
     width: usize,
@@ -62,42 +59,31 @@ impl Frame {
     }
 }
 
-/// The pieces read so far, and the open arrays and inline tables. If an allocation fails, all are dropped.
+/// The items read so far, and the open arrays and inline tables. If an allocation fails, all are dropped.
 #[derive(Drop)]
 struct Reader<'t> {
     text: &'t str,
-    pieces: Vec<Piece<'t>>,
-    /// The pieces of a key and its equals sign, until the value begins. Comments between the key and the value are
-    /// moved before the key.
-    key: Vec<Piece<'t>>,
+    items: Vec<Item<'t>>,
     open: Vec<Frame>,
     place: Place,
-    /// Whether the last piece is a scalar that the next token may continue.
+    /// Whether a key has begun, and its value has not.
+    in_key: bool,
+    /// Whether the last item is a scalar that the next token may continue.
     in_scalar: bool,
-    /// The gap between the last piece and the next token.
+    /// The gap between the last item and the next token.
     gap: Gap,
-    /// Whether there is a comma on the current line, after the last piece. A line with only a comma does not count as
+    /// Whether there is a comma on the current line, after the last item. A line with only a comma does not count as
     /// blank.
     has_comma: bool,
-    /// The first line end outside strings, or `None` before it has been read.
-    line_end: Option<&'static str>,
-}
-
-/// The pieces of a text.
-#[derive(Drop)]
-pub(crate) struct Pieces<'t> {
-    pub(crate) pieces: Vec<Piece<'t>>,
-    /// The first line end of the text outside strings, or LF if the text has none.
-    pub(crate) line_end: &'static str,
 }
 
 impl<'t> Reader<'t> {
-    /// Returns a piece that begins at the offset `start`, with the current gap before it. Starts a new gap.
-    fn piece(&mut self, kind: Kind, text: &'t str, start: usize) -> Piece<'t> {
+    /// Returns an item that begins at the offset `start`, with the current gap before it. Starts a new gap.
+    fn item(&mut self, kind: Kind, text: &'t str, start: usize) -> Item<'t> {
         let gap = self.gap;
         self.gap = Gap::SameLine;
         self.has_comma = false;
-        Piece {
+        Item {
             kind,
             text,
             start,
@@ -135,55 +121,43 @@ impl<'t> Reader<'t> {
         }
     }
 
-    /// Adds the line end with this span to the gap, and records it if it is the first. Sets `has_line_end` of the
-    /// innermost open array or inline table. If none is open, the next token begins a line.
-    fn line_end(&mut self, span: Span) {
+    /// Adds a line end to the gap. Sets `has_line_end` of the innermost open array or inline table. If none is open, the
+    /// next token begins a line.
+    fn line_end(&mut self) {
         self.gap = if self.has_comma {
             self.gap.on_new_line()
         } else {
             self.gap.with_line_end()
         };
         self.has_comma = false;
-        if self.line_end.is_none() {
-            self.line_end = Some(if span.end.saturating_sub(span.start) == 1 {
-                "\n"
-            } else {
-                "\r\n"
-            });
-        }
         match self.open.last_mut() {
             Some(frame) => frame.has_line_end = true,
             None => self.place = Place::Line,
         }
     }
 
-    /// Appends a comment to `pieces`. A comment between a key and its value thus moves to a line of its own, before the
-    /// key.
+    /// Appends a comment to `items`.
     fn comment(&mut self, text: &'t str, start: usize) -> Result<(), AllocError> {
-        let mut piece = self.piece(Kind::Comment, text, start);
-        if let Some(key) = self.key.first_mut() {
-            piece.gap = key.gap.on_new_line();
-            key.gap = Gap::NextLine;
-        }
+        let item = self.item(Kind::Comment, text, start);
         if let Some(frame) = self.open.last_mut() {
             frame.has_comment = true;
         }
-        self.pieces.push(piece)?;
+        self.items.push(item)?;
         Ok(())
     }
 
-    /// Appends the bracket that begins a header to `pieces`. Puts a blank line before the header and the comments
+    /// Appends the bracket that begins a header to `items`. Puts a blank line before the header and the comments
     /// directly above it, unless they begin the document.
     fn header(&mut self, start: usize) -> Result<(), AllocError> {
-        let piece = self.piece(Kind::Header, "[", start);
+        let item = self.item(Kind::Header, "[", start);
         self.place = Place::Header;
-        self.pieces.push(piece)?;
-        for at in (1..self.pieces.len()).rev() {
-            let is_attached = match self.pieces.get(at - 1) {
+        self.items.push(item)?;
+        for at in (1..self.items.len()).rev() {
+            let is_attached = match self.items.get(at - 1) {
                 Some(before) => before.is_own_comment(),
                 None => false,
             };
-            if let Some(first) = self.pieces.get_mut(at) {
+            if let Some(first) = self.items.get_mut(at) {
                 if first.gap == Gap::BlankLine {
                     break;
                 }
@@ -196,51 +170,50 @@ impl<'t> Reader<'t> {
         Ok(())
     }
 
-    /// Appends a dot or a part of a key to `key`. The first part counts as an element.
+    /// Appends a dot or a part of a key to `items`. The first part counts as an element.
     fn part(&mut self, text: &'t str, start: usize) -> Result<(), AllocError> {
         self.widen_by(text);
-        if self.key.is_empty() {
+        let kind = if self.in_key { Kind::Part } else { Kind::Key };
+        if !self.in_key {
             self.count();
-            self.place = Place::Key;
-            let piece = self.piece(Kind::Key, text, start);
-            self.key.push(piece)?;
-        } else {
-            let piece = self.piece(Kind::Part, text, start);
-            self.key.push(piece)?;
         }
+        self.place = Place::Key;
+        self.in_key = true;
+        let item = self.item(kind, text, start);
+        self.items.push(item)?;
         Ok(())
     }
 
-    /// Appends an equals sign to `key`. The next token begins a value.
+    /// Appends an equals sign to `items`. The next token begins a value.
     fn equals(&mut self, start: usize) -> Result<(), AllocError> {
         self.widen(3);
         self.place = Place::Value;
         self.in_scalar = false;
-        let piece = self.piece(Kind::Equals, "=", start);
-        self.key.push(piece)?;
+        let item = self.item(Kind::Equals, "=", start);
+        self.items.push(item)?;
         Ok(())
     }
 
-    /// Begins a value. Appends the pieces of its key or, if it has no key, counts it as an element.
-    fn begin_value(&mut self) -> Result<(), AllocError> {
-        if self.key.is_empty() {
+    /// Begins a value. A value without a key counts as an element.
+    fn begin_value(&mut self) {
+        if !self.in_key {
             self.count();
         }
-        self.pieces.append(&mut self.key)
+        self.in_key = false;
     }
 
-    /// Appends a scalar to `pieces`, or extends the last piece by a token that continues it.
+    /// Appends a scalar to `items`, or extends the last item by a token that continues it.
     fn scalar(&mut self, text: &'t str, start: usize) -> Result<(), AllocError> {
         if !self.in_scalar {
-            self.begin_value()?;
+            self.begin_value();
             self.widen_by(text);
-            let piece = self.piece(Kind::Scalar, text, start);
-            self.pieces.push(piece)?;
+            let item = self.item(Kind::Scalar, text, start);
+            self.items.push(item)?;
             self.in_scalar = true;
             return Ok(());
         }
         let end = start.saturating_add(text.len());
-        let Some(last) = self.pieces.last_mut() else {
+        let Some(last) = self.items.last_mut() else {
             return Ok(());
         };
         let before = last.text.len();
@@ -251,17 +224,17 @@ impl<'t> Reader<'t> {
         Ok(())
     }
 
-    /// Appends the opening bracket or brace at `start` to `pieces`, and opens the array or inline table.
+    /// Appends the opening bracket or brace at `start` to `items`, and opens the array or inline table.
     fn begin(&mut self, is_table: bool, start: usize) -> Result<(), AllocError> {
-        self.begin_value()?;
-        let at = self.pieces.len();
-        let piece = if is_table {
+        self.begin_value();
+        let at = self.items.len();
+        let item = if is_table {
             self.place = Place::Key;
-            self.piece(Kind::OpenTable(Form::Lines), "{", start)
+            self.item(Kind::OpenTable(Form::Lines), "{", start)
         } else {
-            self.piece(Kind::OpenArray(Form::Lines), "[", start)
+            self.item(Kind::OpenArray(Form::Lines), "[", start)
         };
-        self.pieces.push(piece)?;
+        self.items.push(item)?;
         self.open.push(Frame {
             is_table,
             at,
@@ -285,18 +258,18 @@ impl<'t> Reader<'t> {
         }
     }
 
-    /// Appends the closing bracket or brace `text` to `pieces`, closes the innermost array or inline table, and sets
+    /// Appends the closing bracket or brace `text` to `items`, closes the innermost array or inline table, and sets
     /// its form.
     fn close(&mut self, text: &'t str, start: usize) -> Result<(), AllocError> {
         self.in_scalar = false;
         self.place = Place::Value;
-        let piece = self.piece(Kind::Close, text, start);
-        self.pieces.push(piece)?;
+        let item = self.item(Kind::Close, text, start);
+        self.items.push(item)?;
         let Some(frame) = self.open.pop() else {
             return Ok(());
         };
         let form = frame.form();
-        if let Some(opening) = self.pieces.get_mut(frame.at) {
+        if let Some(opening) = self.items.get_mut(frame.at) {
             opening.kind = if frame.is_table {
                 Kind::OpenTable(form)
             } else {
@@ -324,8 +297,8 @@ impl<'t> Reader<'t> {
         match self.place {
             Place::Line | Place::Key => self.part(text, start),
             Place::Header => {
-                let piece = self.piece(Kind::Part, text, start);
-                self.pieces.push(piece)?;
+                let item = self.item(Kind::Part, text, start);
+                self.items.push(item)?;
                 Ok(())
             }
             Place::Value => self.scalar(text, start),
@@ -361,57 +334,60 @@ impl<'t> Reader<'t> {
         }
     }
 
-    /// Adds the next token of the text to the pieces, and updates the state of the reader. `span` is the token's span.
-    fn token(&mut self, span: Span, token: Token<'t>) -> Result<(), AllocError> {
-        let start = span.start;
-        match token {
-            Token::Whitespace(_) => Ok(()),
-            Token::Newline => {
-                self.line_end(span);
-                Ok(())
-            }
-            Token::Comment(text) => self.comment(text, start),
-            Token::Equals => self.equals(start),
-            Token::Period => self.word(".", start),
-            Token::Comma => {
+    /// Adds a mark, such as a comma or a bracket.
+    fn mark(&mut self, mark: u8, text: &'t str, start: usize) -> Result<(), AllocError> {
+        match mark {
+            b'=' => self.equals(start),
+            b',' => {
                 self.comma();
                 Ok(())
             }
-            Token::Colon => self.word(":", start),
-            Token::Plus => self.word("+", start),
-            Token::LeftBrace => self.begin(true, start),
-            Token::RightBrace => self.close("}", start),
-            Token::LeftBracket => self.left_bracket(start),
-            Token::RightBracket => self.right_bracket(start),
-            Token::Keylike(text) => self.word(text, start),
-            Token::String { src, multiline, .. } => self.string(src, start, multiline),
+            b'{' => self.begin(true, start),
+            b'}' => self.close(text, start),
+            b'[' => self.left_bracket(start),
+            b']' => self.right_bracket(start),
+            _ => self.word(text, start),
+        }
+    }
+
+    /// Adds the next piece of the text to the items, and updates the state of the reader.
+    fn piece(&mut self, piece: &Piece) -> Result<(), AllocError> {
+        let text = self.text.get(piece.start..piece.end).unwrap_or("");
+        match piece.kind {
+            PieceKind::Blank | PieceKind::ByteOrderMark => Ok(()),
+            PieceKind::LineEnd => {
+                self.line_end();
+                Ok(())
+            }
+            PieceKind::Comment => self.comment(text, piece.start),
+            PieceKind::Mark(mark) => self.mark(mark, text, piece.start),
+            PieceKind::String(is_multiline) => self.string(text, piece.start, is_multiline),
+            PieceKind::Bare | PieceKind::Faulty(_) | PieceKind::Open(_) | PieceKind::Invalid => {
+                self.word(text, piece.start)
+            }
         }
     }
 }
 
-/// Returns the pieces of a text, which must be readable as TOML. For any other text, the pieces are unspecified.
-pub(crate) fn pieces_of<'t>(alloc: Global, text: &'t str) -> Result<Pieces<'t>, AllocError> {
-    let mut tokenizer = Tokenizer::new(text);
+/// Returns the items of a text with these pieces, which must be readable as TOML. For any other text, the items are
+/// unspecified.
+pub(crate) fn items_of<'t>(
+    alloc: Global,
+    text: &'t str,
+    pieces: &[Piece],
+) -> Result<Vec<Item<'t>>, AllocError> {
     let mut reader = Reader {
         text,
-        pieces: Vec::new(alloc),
-        key: Vec::new(alloc),
+        items: Vec::new(alloc),
         open: Vec::new(alloc),
         place: Place::Line,
+        in_key: false,
         in_scalar: false,
         gap: Gap::NextLine,
         has_comma: false,
-        line_end: None,
     };
-    for _ in 0..text.len() {
-        match tokenizer.step(alloc) {
-            Ok(Some((span, token))) => reader.token(span, token)?,
-            Ok(None) | Err(Stop::Fault(_)) => break,
-            Err(Stop::Memory(error)) => return Err(error),
-        }
+    for piece in pieces {
+        reader.piece(piece)?;
     }
-    Ok(Pieces {
-        pieces: reader.pieces,
-        line_end: reader.line_end.unwrap_or("\n"),
-    })
+    Ok(reader.items)
 }

@@ -1,94 +1,156 @@
 //! Formats a document with its keys sorted.
-ghost use Rattle.std.specs.Prelude.{IfOk, IfSome, IsTrue, Ok, map};
-ghost use Rattle.toml_span_read.specs.Data.{parsed_section, depth_limit};
-ghost use Rattle.toml_span_read.specs.Read.{document};
+ghost use Rattle.std.specs.Prelude.{IfOk, IsTrue, map};
 ghost use Rattle.toml_span_format.specs.Document as spec;
+ghost use Rattle.toml_span_format.specs.Entries.{key_names};
 
-use crate::document::{comments_read, mark_of, same_texts, sections_of};
+use crate::compared::{is_sorted, same_entries, sorted};
+use crate::document::laid_out;
+use crate::entries::{Entry, begins_with_comment, entries_of};
 use crate::errors::FormatError;
-use crate::lines::sorted_lines;
+use crate::keys::keys_of;
 use crate::options::Options;
 use crate::permuted::permuted_sections;
-use crate::printer::print;
-use crate::reader::pieces_of;
+use crate::read::{Document, read, read_if_valid};
+use crate::tokens::{comments_among, is_layout, same_texts, tokens_of};
 use std::alloc::{AllocError, Global};
 use toml_span_lex::stop::Stop;
-use toml_span_read::Section;
+use toml_span_syntax::pieces::{Kind, Piece, pieces};
+use toml_span_syntax::statements::statements;
 
-/// Returns the text in its new layout, with its keys sorted. `sections` are the sections of the text.
-fn laid_out_sorted(
-    alloc: Global,
-    text: &str,
-    sections: &[Section<'_>],
-    options: Options,
-) -> Result<String, AllocError> {
-    let read = pieces_of(alloc, text)?;
-    let sorted = sorted_lines(alloc, sections, read.pieces.as_slice())?;
-    print(
-        alloc,
-        mark_of(text),
-        read.line_end,
-        sorted.as_slice(),
-        options,
-    )
-}
-
-/// Returns the comments of a text, sorted by their bytes, or `None` if the text can't be split into tokens.
-fn sorted_comments<'t>(alloc: Global, text: &'t str) -> Result<Option<Vec<&'t str>>, AllocError>
-    ensures { IfOk result (λ read. IfSome read (λ found.
-        spec.CommentsPermuted text.now (map (λ t. t.now) found.items))) }
+/// Returns the comments of a text, sorted by their bytes.
+fn sorted_comments<'t>(alloc: Global, text: &'t str) -> Result<Vec<&'t [u8]>, AllocError>
+    ensures { IfOk result (λ found. spec.CommentsPermuted text.now (map (λ t. t.now) found.items)) }
 {
-    let Some(mut found) = comments_read(alloc, text)? else {
-        return Ok(None);
-    };
+    let pieces = pieces(alloc, text)?;
+    let tokens = tokens_of(alloc, text.as_bytes(), pieces.as_slice())?;
+    let mut found = comments_among(alloc, tokens.as_slice())?;
     found.sort()?;
-    Ok(Some(found))
+    Ok(found)
 }
 
 /// Returns whether two texts have the same comments, in any order. Spaces and tabs at the end of a comment do not count
-/// as part of it. Returns `false` if a text can't be split into tokens. Fails if an allocation fails.
+/// as part of it. Fails if an allocation fails.
 pub fn permuted_comments(alloc: Global, old: &str, new: &str) -> Result<bool, AllocError>
     ensures { IfOk result (λ same. IsTrue same → spec.PermutedComments old.now new.now) }
 {
-    let Some(before) = sorted_comments(alloc, old)? else {
-        return Ok(false);
-    };
-    let Some(after) = sorted_comments(alloc, new)? else {
-        return Ok(false);
-    };
+    let before = sorted_comments(alloc, old)?;
+    let after = sorted_comments(alloc, new)?;
     Ok(same_texts(before.as_slice(), after.as_slice()))
 }
 
-/// Returns whether `new` has the sections and comments of `text`. Spans, the order of the assignments in a section, and
-/// the order of the comments may differ. `sections` are the sections of `text`. Returns `false` if `new` can't be read.
-fn is_permuted(
+/// Returns the entries of a document, in order. `is_headed`: whether comments at its top are comments on the whole
+/// document.
+fn entries_in(
     alloc: Global,
-    text: &str,
-    sections: &[Section<'_>],
+    document: &Document<'_>,
+    is_headed: bool,
+) -> Result<Vec<Entry>, AllocError>
+    ensures { IfOk result (λ found. spec.HasEntries document.now.text.now document.now.pieces.items is_headed
+        found.items) }
+{
+    let pieces = document.pieces.as_slice();
+    let statements = statements(alloc, pieces)?;
+    let text = document.text.as_bytes();
+    entries_of(alloc, text, pieces, is_headed, statements.as_slice())
+}
+
+/// Returns whether a blank line, or a line end at the start of the text, precedes the entry at the position `at`.
+fn is_apart(entries: &[Entry], at: usize) -> bool {
+    let above = match at.checked_sub(1) {
+        Some(above) => entries.get(above).map_or(0, |entry| entry.end),
+        None => 0,
+    };
+    entries.get(at).is_some_and(|entry| entry.first != above)
+}
+
+/// Returns whether these pieces are comments, apart from blanks, line ends and commas.
+fn has_only_comments(pieces: &[Piece]) -> bool {
+    pieces.iter().all(|piece| is_layout(piece.kind) || matches!(piece.kind, Kind::Comment))
+}
+
+/// Returns the pieces of a document in the order of its sorted entries. `entries` are the entries in the order of the
+/// document. A group after a blank line stays after a blank line. If an assignment moves to the top with its comments, a
+/// blank line separates them from comments on the whole document.
+fn ordered(
+    alloc: Global,
+    pieces: &[Piece],
+    entries: &[Entry],
+    sorted: &[Entry],
+) -> Result<Vec<Piece>, AllocError> {
+    let line_end = Piece {
+        kind: Kind::LineEnd,
+        start: 0,
+        end: 0,
+    };
+    let mut out = Vec::new(alloc);
+    let mut is_head = true;
+    for (at, entry) in sorted.iter().enumerate() {
+        let found = pieces.get(entry.first..entry.end).unwrap_or(&[]);
+        let is_next_to_head = is_head && at > 0 && begins_with_comment(found);
+        is_head = is_head && has_only_comments(found);
+        if entry.group == at && (is_apart(entries, at) || is_next_to_head && !is_head) {
+            out.push(line_end)?;
+        }
+        out.extend_from_slice(found)?;
+        match out.last() {
+            Some(
+                Piece {
+                    kind: Kind::LineEnd,
+                    ..
+                },
+            ) => (),
+            _ => out.push(line_end)?,
+        }
+    }
+    Ok(out)
+}
+
+/// Returns whether `new` has the sections and the entries of a document, each group of entries in the order of its keys.
+/// `entries` are the entries of the document in their new order, and `keys` its keys. Returns `false` if `new` can't be
+/// read.
+fn has_sorted(
+    alloc: Global,
+    old: &Document<'_>,
+    keys: &[Vec<&str>],
+    is_headed: bool,
+    entries: &[Entry],
     new: &str,
 ) -> Result<bool, AllocError>
-    requires { document text.now depth_limit (Ok (map parsed_section sections.now)) }
-    ensures { IfOk result (λ same. IsTrue same → spec.PermutedDocument text.now new.now) }
+    requires { spec.IsRead old.now }
+    ensures { IfOk result (λ same. IsTrue same
+        → spec.SortsEntries old.now (map key_names keys.now) is_headed entries.now new.now) }
 {
-    let read = match sections_of(alloc, new) {
-        Ok(read) => read,
-        Err(Stop::Memory(error)) => return Err(error),
-        Err(Stop::Fault(_)) => return Ok(false),
+    let Some(new) = read_if_valid(alloc, new)? else {
+        return Ok(false);
     };
-    if !permuted_sections(alloc, sections, read.as_slice())? {
+    let (before, after) = (old.sections.as_slice(), new.sections.as_slice());
+    if !is_sorted(keys, entries) || !permuted_sections(alloc, before, after)? {
         return Ok(false);
     }
-    permuted_comments(alloc, text, new)
+    let found = entries_in(alloc, &new, is_headed)?;
+    let new_keys = keys_of(alloc, after)?;
+    let same = same_entries(
+        alloc,
+        old,
+        keys,
+        entries,
+        &new,
+        new_keys.as_slice(),
+        found.as_slice(),
+    )?;
+    Ok(same)
 }
 
 /// Formats a document, sorts its keys, and returns the new text.
 ///
 /// In each section, the assignments between two blank lines are sorted by their keys: part by part, by the bytes of the
 /// names. Assignments with the same key keep their order. Comments on lines of their own move with the assignment right
-/// below them, and a comment at the end of a line moves with the line. Keys in inline tables, elements of arrays, and
-/// sections are not sorted.
+/// below them, and a comment at the end of a line moves with the line. But comments at the top of the document, up to the
+/// first blank line, header or assignment, stay there, and directives (comments that begin with `#:`) stay between the
+/// assignments that are before and after them. Keys in inline tables, elements of arrays, and sections are not sorted.
 ///
-/// The result has the same sections in the same order, the same assignments in each section, and the same comments.
+/// The result has the same sections in the same order, with the same assignments in each section. It has the same tokens
+/// and comments in the same order, except for the order of the assignments in each group.
 ///
 /// # Errors
 ///
@@ -101,9 +163,26 @@ pub fn format_sorted<'t>(
 ) -> Result<String, Stop<FormatError<'t>>>
     ensures { spec.FormatsSorted text.now result }
 {
-    let sections = sections_of(alloc, text)?;
-    let new = laid_out_sorted(alloc, text, sections.as_slice(), options)?;
-    if is_permuted(alloc, text, sections.as_slice(), new.as_str())? {
+    let document = read(alloc, text)?;
+    let keys = keys_of(alloc, document.sections.as_slice())?;
+    let is_headed = begins_with_comment(document.pieces.as_slice());
+    let entries = entries_in(alloc, &document, is_headed)?;
+    let sorted = sorted(alloc, keys.as_slice(), entries.as_slice())?;
+    let pieces = ordered(
+        alloc,
+        document.pieces.as_slice(),
+        entries.as_slice(),
+        sorted.as_slice(),
+    )?;
+    let new = laid_out(alloc, &document, pieces.as_slice(), options)?;
+    if has_sorted(
+        alloc,
+        &document,
+        keys.as_slice(),
+        is_headed,
+        sorted.as_slice(),
+        new.as_str(),
+    )? {
         Ok(new)
     } else {
         Err(Stop::Fault(FormatError::WouldDiffer))

@@ -244,7 +244,7 @@ fn content_span(multi: bool, at: usize, from: usize, to: usize) -> Span
 
 /// Returns the offset after the string whose opening quote is at `at`. Fails with the error, and the offset up to which
 /// the string was read. Does not allocate.
-pub(crate) fn scan_string(text: &str, at: usize) -> Result<usize, (Error, usize)>
+pub fn scan_string(text: &str, at: usize) -> Result<usize, (Error, usize)>
     requires within { at < length text.now }
     requires quote { IsQuote (slice_index text.now at) }
     ensures { code.ScanGives text.now at result }

@@ -1,22 +1,22 @@
 -- The results of checking documents against schemas in files.
-use Rattle.std.specs.Prelude.{◌≡◌, ◌==◌, ◌⊎◌, ℕ, List, [], ◌∷◌, ◌++◌, All, Some, None, codes, length}
-use Rattle.std.specs.Str.Pattern.{FindsText, HasMatch}
+use Rattle.std.specs.Prelude.{◌≡◌, ◌==◌, ◌⊎◌, ℕ, true, false, List, [], ◌∷◌, ◌++◌, All, Some, codes, length}
 use Rattle.toml_span_check.specs.Schemas.{Says, no_schema}
 use Rattle.toml_span_check.specs.declared.schemas.Chooser.{Chooser}
 use Rattle.toml_span_check.specs.declared.schemas.Chooser.TheVariants.{Files, Arguments}
+use Rattle.toml_span_lookup.specs.Directive.{names_schema}
 use Rattle.toml_span_report.specs.Report.{ReportContent}
 use Rattle.toml_span_report.specs.declared.report.Severity.TheVariants.{Warning}
 use Rattle.toml_span_schema.specs.Valid.{valid}
 use Rattle.toml_span_schema.specs.declared.schema.Schema.{Schema}
 use Rattle.toml_span_tree.specs.Node.{Node}
 
--- options may choose a schema, or `#:schema` occurs in the text
+-- options may choose a schema, or a comment before the first header or assignment begins with `#:schema`
 abbrev pub MayHaveSchema : Chooser → List ℕ → Type 0
-MayHaveSchema chooser text = (chooser ≡ Arguments) ⊎ HasMatch (FindsText (codes "#:schema")) text
+MayHaveSchema chooser text = (chooser ≡ Arguments) ⊎ (names_schema text ≡ true)
 
--- only directives choose a schema, and `#:schema` does not occur in the text
+-- only directives choose a schema, and no comment before the first header or assignment begins with `#:schema`
 abbrev pub HasNoSchema : Chooser → List ℕ → Type 0
-HasNoSchema chooser text = (chooser ≡ Files) × FindsText (codes "#:schema") text None
+HasNoSchema chooser text = (chooser ≡ Files) × (names_schema text ≡ false)
 
 -- The report is the warning that a schema is not fetched.
 abbrev pub IsNotFetched : ReportContent → Type 0

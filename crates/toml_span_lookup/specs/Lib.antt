@@ -1,1 +1,2 @@
+pub mod Directive
 pub mod Findings

@@ -1,5 +1,9 @@
 //! The directive `#:schema`, by which a file names its schema.
+ghost use Rattle.std.specs.Prelude.{◌≡◌, false};
+ghost use Rattle.toml_span_lookup.specs.Directive as spec;
+
 use toml_span::Span;
+use toml_span_report::bom_end;
 
 /// The beginning of the directive.
 pub const SCHEMA: &str = "#:schema";
@@ -34,6 +38,42 @@ fn directive_in<'t>(line: &'t str, start: usize) -> Option<Directive<'t>> {
             end,
         },
     })
+}
+
+/// Returns whether the byte may occur above the first header or assignment, outside a comment, or begins a comment.
+fn is_head(byte: u8) -> bool
+    ensures { result ≡ spec.is_head byte }
+{
+    matches!(byte, b' ' | b'\t' | b'\r' | b'\n' | b'#')
+}
+
+/// Returns whether a comment above the first header or assignment begins with `#:schema`. `bytes` are the text after a
+/// byte order mark.
+fn head_names(bytes: &[u8]) -> bool
+    ensures { result ≡ spec.head_names false bytes.now }
+{
+    let mut rest = bytes;
+    let mut in_comment = false;
+    while let Some((byte, more)) = rest.split_first() {
+        if !in_comment && rest.starts_with(SCHEMA.as_bytes()) {
+            return true;
+        }
+        if !in_comment && !is_head(*byte) {
+            return false;
+        }
+        in_comment = *byte != b'\n' && (in_comment || *byte == b'#');
+        rest = more;
+    }
+    false
+}
+
+/// Returns whether a comment above the first header or assignment of a file begins with `#:schema`. Without one, the
+/// file has no directive.
+#[tactic(auto, unfolding(crate::specs::Directive::names_schema))]
+pub fn names_schema(text: &str) -> bool
+    ensures { result ≡ spec.names_schema text.now }
+{
+    head_names(&text.as_bytes()[bom_end(text)..])
 }
 
 /// Returns the first directive above the first header or assignment of a file, or `None` if the file has no such

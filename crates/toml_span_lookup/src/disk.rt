@@ -2,7 +2,7 @@
 use std::alloc::{AllocError, Global};
 use std::fs;
 use std::time::SystemTime;
-use toml_span_check::folder::is_folder;
+use toml_span_check::folder::{is_folder, is_special};
 use toml_span_check::input::{Host, Inputs};
 
 /// When a file was last modified, and its length in bytes.
@@ -14,8 +14,8 @@ pub struct Stamp {
 
 /// The files from which schemas and catalogs are read.
 pub trait Disk {
-    /// Returns the bytes of a file, or a message that says why the file can't be read. A directory can't be read. Fails
-    /// if an allocation fails.
+    /// Returns the bytes of a file, or a message that says why the file can't be read. Directories, pipes, devices and
+    /// sockets can't be read, and are not opened. Fails if an allocation fails.
     fn read_file(
         &mut self,
         alloc: Global,
@@ -34,6 +34,9 @@ impl Disk for Host {
     ) -> Result<Result<Vec<u8>, String>, AllocError> {
         if path != "-" && is_folder(&self.rt, path) {
             return Ok(Err(String::from_str(alloc, "it is a directory")?));
+        }
+        if path != "-" && is_special(&self.rt, path) {
+            return Ok(Err(String::from_str(alloc, "it is not a regular file")?));
         }
         self.read(alloc, path)
     }

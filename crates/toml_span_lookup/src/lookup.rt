@@ -7,7 +7,7 @@ ghost use Rattle.toml_span_tree.specs.Value.{view};
 use crate::addresses::{folder_of, is_remote, joined, push_decoded};
 use crate::catalog::{Catalog, catalog_of};
 use crate::compiling::{Used, text_of, used_from};
-use crate::directive::{Directive, SCHEMA, directive_of};
+use crate::directive::{Directive, directive_of, names_schema};
 use crate::disk::{Disk, Stamp};
 use crate::findings::{findings, not_fetched};
 use crate::options::Options;
@@ -349,7 +349,7 @@ impl Lookup {
     }
 
     /// Checks a document against its schema, as `Schemas::check` does. Before that, reads the catalog and the schema if
-    /// they have not been read, unless `chooser` is `Files` and `text` does not contain `#:schema`. Fails if an
+    /// they have not been read, unless `chooser` is `Files` and `text` names no schema (`names_schema`). Fails if an
     /// allocation fails.
     pub fn check_reading<D: Disk>(
         &mut self,
@@ -363,7 +363,7 @@ impl Lookup {
         ensures { IfOk result (λ made. file_says chooser name.now text.now (view root.now)
             (map report_content made.reports.items) (string_bytes made.complaint)) }
     {
-        if chooser == Chooser::Files && !text.contains(SCHEMA) {
+        if chooser == Chooser::Files && !names_schema(text) {
             return Ok(SchemaReports {
                 reports: Vec::new(alloc),
                 complaint: String::new(alloc),
@@ -390,7 +390,7 @@ impl Schemas for Lookup {
         text: &str,
         root: &Value<'_>,
     ) -> Result<SchemaReports, AllocError> {
-        if chooser == Chooser::Files && !text.contains(SCHEMA) {
+        if chooser == Chooser::Files && !names_schema(text) {
             return Ok(SchemaReports {
                 reports: Vec::new(alloc),
                 complaint: String::new(alloc),

@@ -124,7 +124,7 @@ fn write_fix_all(
     if edits.is_empty() {
         return Ok(());
     }
-    let title = "Make all safe repairs";
+    let title = "Apply all safe fixes";
     write_action(out, uri, table, title, FIX_ALL, false, edits.as_slice())
 }
 

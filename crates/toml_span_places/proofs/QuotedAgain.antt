@@ -1,5 +1,5 @@
 -- The spellings of strings and keys are read again.
-use Rattle.toml_span_lex.proofs.Common.{◌≡◌, ℕ, ◌/◌, ◌%◌, ◌+◌, ◌-◌, ◌<◌, ◌≤◌, ◌⊎◌, Bool, true, false, cond, not, Option, Some, None, Result, Ok, Err, IfOk, String, string_bytes, List, [], ◌∷◌, ◌++◌, length, get_or, take, drop, arith, inl, inr, sym, ◌∙◌, refl, ap, subst, append-nil, append_assoc, encode_utf8, codes, chars, flat_map, IsUtf8, ◌==◌, ◌&&◌, slice_range, Global, list_all, list_any, digit_char, cases_lt, false≢true, and_parts, or_parts, true_from_ne_false, not-true, nat_tests, list_any_at, list_all_at, encodes-chars, length-encode, len_utf8_bounds, common_steps, encode_ascii, digit_value-digit_char, inside_one}
+use Rattle.toml_span_lex.proofs.Common.{◌≡◌, ℕ, ◌/◌, ◌%◌, ◌+◌, ◌-◌, ◌<◌, ◌≤◌, ◌⊎◌, Bool, true, false, cond, not, Option, Some, None, Result, Ok, Err, IfOk, String, string_bytes, List, [], ◌∷◌, ◌++◌, length, length-append, get_or, take, drop, arith, inl, inr, sym, ◌∙◌, refl, ap, subst, append-nil, append_assoc, encode_utf8, codes, chars, flat_map, IsUtf8, ◌==◌, ◌&&◌, slice_range, Global, list_all, list_any, digit_char, cases_lt, false≢true, and_parts, or_parts, true_from_ne_false, not-true, nat_tests, list_all_at, encodes-chars, length-encode, len_utf8_bounds, common_steps, encode_ascii, digit_value-digit_char, inside_one}
 use lib.Utf8.{encodes, low_scalar}
 use Rattle.toml_span_lex.specs.Bytes.{is_keylike, MaximalRun}
 use Rattle.toml_span_lex.specs.declared.pieces.Piece.{Piece}
@@ -19,6 +19,8 @@ use Rattle.toml_span_places.specs.Keys.{is_quote}
 use Rattle.toml_span_places.specs.Quoted.{letter_of, letter_or, is_control, number_escape, letter_escape, basic_char, basic, is_escaped, is_unliteral, is_literal, quoted, is_bare, key_text}
 use Rattle.toml_span_read.proofs.Parts.{Part, between, same_part, front, back, tail, here, next, range, within, each, empty_range}
 use Rattle.std.proofs.lemmas.Bool.{lt-ltb}
+use Rattle.std.proofs.Math.ListN.{get_or-append}
+use Rattle.std.proofs.Math.Seq.{get_or-append_right}
 
 -- ---- pieces of basic strings
 
@@ -90,27 +92,35 @@ letter_first text rest i k j c l ps e p more =
 
 number_first : (text rest : List ℕ) (i k j c : ℕ) (ps : List (Piece × ℕ)) → is_control c ≡ true → Part text (number_escape c) rest i k → Cut 34 false text k ps j → Pieces text i j (encode_utf8 c ++ content text k ps)
 number_first text rest i k j c ps e p more =
-    let small : c < 128 = grind (arith, nat_tests, common_steps) in
+    let small : c < 256 = grind (arith, nat_tests, common_steps) in
     let x = digit_char (c / 16) in
     let y = digit_char (c % 16) in
-    let bytes : number_escape c ≡ 92 ∷ 120 ∷ x ∷ y ∷ [] = grind (arith, nat_tests, common_steps) in
-    let q = same_part (92 ∷ 120 ∷ x ∷ y ∷ []) bytes p in
-    let r = tail 92 (120 ∷ x ∷ y ∷ []) q in
-    let s = tail 120 (x ∷ y ∷ []) r in
-    let second = here 120 (x ∷ y ∷ []) r in
+    let bytes : number_escape c ≡ 92 ∷ 117 ∷ 48 ∷ 48 ∷ x ∷ y ∷ [] = grind (arith, nat_tests, common_steps) in
+    let q = same_part (92 ∷ 117 ∷ 48 ∷ 48 ∷ x ∷ y ∷ []) bytes p in
+    let r = tail 92 (117 ∷ 48 ∷ 48 ∷ x ∷ y ∷ []) q in
+    let s = tail 117 (48 ∷ 48 ∷ x ∷ y ∷ []) r in
+    let zero = tail 48 (48 ∷ x ∷ y ∷ []) s in
+    let hex = tail 48 (x ∷ y ∷ []) zero in
+    let second = here 117 (48 ∷ 48 ∷ x ∷ y ∷ []) r in
     let on = s.on in
     let all = s.all in
-    let two : HexRun text ((i + 1) + 1) k = record {
+    let start = (i + 1) + 1 in
+    let zeros : (n : ℕ) → start ≤ n → n < (start + 1) + 1 → is_hex (get_or text n 0) ≡ true = λ n a b. elim (cases_lt n (start + 1)) [
+      | inl first ↦ let at : n ≡ start = omega arith in rw (at, here 48 (48 ∷ x ∷ y ∷ []) s) refl
+      | inr last ↦ let at : n ≡ start + 1 = omega arith in rw (at, here 48 (x ∷ y ∷ []) zero) refl
+    ] in
+    let others : (n : ℕ) → (start + 1) + 1 ≤ n → n < k → is_hex (get_or text n 0) ≡ true = λ n a b. elim (cases_lt n (((start + 1) + 1) + 1)) [
+      | inl first ↦ let at : n ≡ (start + 1) + 1 = omega arith in rw (at, here x (y ∷ []) hex) (digit_hex (c / 16) (omega arith))
+      | inr last ↦ let at : n ≡ ((start + 1) + 1) + 1 = omega arith in rw (at, here y [] (tail x (y ∷ []) hex)) (digit_hex (c % 16) (omega arith))
+    ] in
+    let four : HexRun text start k = record {
       within = omega arith;
-      digits = λ n a b. elim (cases_lt n (((i + 1) + 1) + 1)) [
-        | inl first ↦ let at : n ≡ (i + 1) + 1 = omega arith in rw (at, here x (y ∷ []) s) (digit_hex (c / 16) (omega arith))
-        | inr last ↦ let at : n ≡ ((i + 1) + 1) + 1 = omega arith in rw (at, here y [] (tail x (y ∷ []) s)) (digit_hex (c % 16) (omega arith))
-      ];
+      digits = λ n a b. elim (cases_lt n ((start + 1) + 1)) [ inl first ↦ zeros n a first | inr last ↦ others n last b ];
     } in
-    let n : k - ((i + 1) + 1) ≡ 2 = omega arith in
-    let both : take 2 (drop ((i + 1) + 1) text) ≡ x ∷ y ∷ [] = rw n at (range s) in
-    let value : c ≡ hex_value text ((i + 1) + 1) 2 = rw (both, digit_value-digit_char (c / 16) (omega arith), digit_value-digit_char (c % 16) (omega arith)) (omega arith) in
-    escape_first text i k j c ps (here 92 (120 ∷ x ∷ y ∷ []) q) (inr (rw second (omega arith), omega arith, rw second (two, omega arith, value, low_scalar c (omega arith)))) more
+    let n : k - start ≡ 4 = omega arith in
+    let all_four : take 4 (drop start text) ≡ 48 ∷ 48 ∷ x ∷ y ∷ [] = rw n at (range s) in
+    let value : c ≡ hex_value text start 4 = rw (all_four, digit_value-digit_char (c / 16) (omega arith), digit_value-digit_char (c % 16) (omega arith)) (omega arith) in
+    escape_first text i k j c ps (here 92 (117 ∷ 48 ∷ 48 ∷ x ∷ y ∷ []) q) (inr (rw second (omega arith), omega arith, rw second (four, omega arith, value, low_scalar c (omega arith)))) more
 
 char_first : (text rest : List ℕ) (i k j c : ℕ) (ps : List (Piece × ℕ)) → 0 < length (encode_utf8 c) → is_plain 34 (get_or text j 0) ≡ false → j ≤ length text → Part text (basic_char c) rest i k → Cut 34 false text k ps j
     → Pieces text i j (encode_utf8 c ++ content text k ps)
@@ -199,14 +209,38 @@ basic_again s text rest i j utf8 off p =
 
 -- ---- literal strings
 
-none_unliteral : (s : List ℕ) → list_any is_unliteral s ≡ false → (k : ℕ) → k < length s → is_plain 39 (get_or s k 0) ≡ true
-none_unliteral s h k l = grind (arith, nat_tests, common_steps, list_any_at is_unliteral s k 0 l)
+-- a character that may be in a literal string
+literal_byte : (c k : ℕ) → is_unliteral c ≡ false → k < length (encode_utf8 c) → is_plain 39 (get_or (encode_utf8 c) k 0) ≡ true
+literal_byte c k free h = elim (cases_lt (get_or (encode_utf8 c) k 0) 128) [
+  | inl low ↦
+      let e : c ≡ get_or (encode_utf8 c) k 0 = inside_one c [] (encode_utf8 c) k (sym (append-nil (encode_utf8 c))) h low in
+      let plain : is_plain 39 c ≡ true = grind (arith, nat_tests, common_steps) in
+      subst (λ b. is_plain 39 b ≡ true) e plain
+  | inr high ↦ grind (arith, nat_tests, common_steps)
+]
 
-literal_again : (s text rest : List ℕ) (i j : ℕ) → is_literal s ≡ true → Part text (39 ∷ (s ++ (39 ∷ []))) rest i j → StringAt text i j s
-literal_again s text rest i j h p =
-    let both = and_parts (list_any is_escaped s) (not (list_any is_unliteral s)) h in
+literal_bytes : (cs : List ℕ) → list_any is_unliteral cs ≡ false → (k : ℕ) → k < length (encodes cs) → is_plain 39 (get_or (encodes cs) k 0) ≡ true
+literal_bytes [] free k h = absurd (omega arith)
+literal_bytes (c ∷ cs) free k h =
+    let parts = or_parts (is_unliteral c) (list_any is_unliteral cs) free in
+    elim (cases_lt k (length (encode_utf8 c))) [
+      | inl first ↦ rw (get_or-append (encode_utf8 c) (encodes cs) 0 k first) (literal_byte c k parts.0 first)
+      | inr later ↦
+          let e : get_or (encode_utf8 c ++ encodes cs) k 0 ≡ get_or (encodes cs) (k - length (encode_utf8 c)) 0 = get_or-append_right (encode_utf8 c) (encodes cs) k 0 later in
+          let inside : k - length (encode_utf8 c) < length (encodes cs) = omega (arith, length-append (encode_utf8 c) (encodes cs)) in
+          rw e (literal_bytes cs parts.1 (k - length (encode_utf8 c)) inside)
+    ]
+
+none_unliteral : (s : List ℕ) → IsUtf8 s → list_any is_unliteral (chars s) ≡ false → (k : ℕ) → k < length s → is_plain 39 (get_or s k 0) ≡ true
+none_unliteral s utf8 h =
+    let P : List ℕ → Type 0 = λ v. (k : ℕ) → k < length v → is_plain 39 (get_or v k 0) ≡ true in
+    subst P (encodes-chars s utf8) (literal_bytes (chars s) h)
+
+literal_again : (s text rest : List ℕ) (i j : ℕ) → IsUtf8 s → is_literal s ≡ true → Part text (39 ∷ (s ++ (39 ∷ []))) rest i j → StringAt text i j s
+literal_again s text rest i j utf8 h p =
+    let both = and_parts (list_any is_escaped s) (not (list_any is_unliteral (chars s))) h in
     let some : 0 < length s = grind (arith, nat_tests, common_steps, both.0) in
-    let plain = none_unliteral s (not-true (list_any is_unliteral s) both.1) in
+    let plain = none_unliteral s utf8 (not-true (list_any is_unliteral (chars s)) both.1) in
     let body = tail 39 (s ++ (39 ∷ [])) p in
     let inside = front s (39 ∷ []) body in
     let end = back s (39 ∷ []) body in
@@ -224,7 +258,7 @@ pub string_again : (s text rest : List ℕ) (i j : ℕ) → IsUtf8 s → is_quot
 string_again s text rest i j utf8 off p = by_form (is_literal s) refl p
   where
     by_form : (t : Bool) → is_literal s ≡ t → Part text (cond t (codes "'" ++ s ++ codes "'") (codes "\"" ++ basic s ++ codes "\"")) rest i j → StringAt text i j s
-    by_form true e q = literal_again s text rest i j e q
+    by_form true e q = literal_again s text rest i j utf8 e q
     by_form false e q = basic_again s text rest i j utf8 off q
 
 -- ---- keys

@@ -2,6 +2,7 @@
 ghost use Rattle.std.specs.Prelude.{◌≡◌, ◌<◌, ◌++◌, IfOk, OnOk, string_bytes, encode_utf8};
 ghost use Rattle.std.specs.Char.{digit_char};
 ghost use Rattle.std.specs.List.{list_all, list_any};
+ghost use Rattle.std.specs.Str.{chars};
 ghost use Rattle.toml_span_lex.specs.Bytes.{is_keylike as is_keylike_byte};
 ghost use Rattle.toml_span_read.specs.Again.{ReadsAsString, ReadsAsKey};
 ghost use Rattle.toml_span_places.specs.Quoted as spec;
@@ -9,8 +10,8 @@ ghost use Rattle.toml_span_places.specs.Quoted as spec;
 use std::alloc::{AllocError, Global};
 use toml_span_lex::bytes::is_keylike;
 
-/// Returns the letter of the short escape of `c`, such as `n` for a line feed. Returns `None` if `c` has no short
-/// escape, and for a tab, which needs no escape.
+/// Returns the letter of the short escape that `c` has in TOML 1.0, such as `n` for a line feed. Returns `None` if `c`
+/// has no such escape, and for a tab, which needs no escape.
 fn letter_of(c: char) -> Option<char>
     ensures { result ≡ spec.letter_of c }
 {
@@ -20,16 +21,16 @@ fn letter_of(c: char) -> Option<char>
         '\n' => Some('n'),
         '\u{c}' => Some('f'),
         '\r' => Some('r'),
-        '\u{1b}' => Some('e'),
         _ => None,
     }
 }
 
-/// Returns whether `c` is an ASCII control character other than a tab.
+/// Returns whether `c` is a control character other than a tab. Those from U+0080 to U+009F may be written without an
+/// escape, but terminals act on them.
 fn is_control(c: char) -> bool
     ensures { result ≡ spec.is_control c }
 {
-    (c < ' ' && c != '\t') || c == '\u{7f}'
+    (c < ' ' && c != '\t') || ('\u{7f}'..='\u{9f}').contains(&c)
 }
 
 /// Appends `digit` to `out` as a lower-case hexadecimal digit.
@@ -40,12 +41,12 @@ fn push_digit(out: &mut String, digit: u32) -> Result<(), AllocError>
     out.push(char::from_digit(digit, 16).unwrap_or('0'))
 }
 
-/// Appends the escape `\xHH` of `c` to `out`.
+/// Appends the escape `\u00HH` of `c` to `out`.
 fn push_number(out: &mut String, c: char) -> Result<(), AllocError>
     requires { c < 256 }
     ensures { OnOk result (string_bytes out.new ≡ string_bytes out.old ++ spec.number_escape c) }
 {
-    out.push_str("\\x")?;
+    out.push_str("\\u00")?;
     push_digit(out, c as u32 / 16)?;
     push_digit(out, c as u32 % 16)
 }
@@ -86,12 +87,12 @@ fn is_escaped(byte: u8) -> bool
     byte == b'"' || byte == b'\\'
 }
 
-/// Returns whether `byte` is an apostrophe or an ASCII control character other than a tab, which must not occur in a
-/// literal string.
-fn is_unliteral(byte: u8) -> bool
-    ensures { result ≡ spec.is_unliteral byte }
+/// Returns whether `c` is an apostrophe or a control character other than a tab, which is not written in a literal
+/// string.
+fn is_unliteral(c: char) -> bool
+    ensures { result ≡ spec.is_unliteral c }
 {
-    byte == b'\'' || (byte < b' ' && byte != b'\t') || byte == 0x7f
+    c == '\'' || is_control(c)
 }
 
 /// Returns whether any of `bytes` is a quotation mark or a backslash.
@@ -101,18 +102,18 @@ fn has_escaped(bytes: &[u8]) -> bool
     bytes.iter().any(|byte| is_escaped(*byte))
 }
 
-/// Returns whether any of `bytes` must not occur in a literal string (see `is_unliteral`).
-fn has_unliteral(bytes: &[u8]) -> bool
-    ensures { result ≡ list_any spec.is_unliteral bytes.now }
+/// Returns whether any character of `text` is not written in a literal string (see `is_unliteral`).
+fn has_unliteral(text: &str) -> bool
+    ensures { result ≡ list_any spec.is_unliteral (chars text.now) }
 {
-    bytes.iter().any(|byte| is_unliteral(*byte))
+    text.chars().any(|c| is_unliteral(c))
 }
 
 /// Returns whether `text` can be written as a literal string, and is then shorter than as a basic string.
 fn is_literal(text: &str) -> bool
     ensures { result ≡ spec.is_literal text.now }
 {
-    has_escaped(text.as_bytes()) && !has_unliteral(text.as_bytes())
+    has_escaped(text.as_bytes()) && !has_unliteral(text)
 }
 
 /// Returns `text` as a basic string or, if that is possible and shorter, as a literal string.
@@ -132,8 +133,8 @@ fn spelled_string(alloc: Global, text: &str) -> Result<String, AllocError>
     Ok(out)
 }
 
-/// Returns a TOML string whose value is `text`: a basic string with only the necessary escapes or, if that is possible
-/// and shorter, a literal string.
+/// Returns a TOML string whose value is `text`: a basic string or, if that is possible and shorter, a literal string.
+/// Only quotation marks, backslashes and control characters are escaped, with escapes of TOML 1.0.
 ///
 /// Where a string may begin in a document, the result is read as a string with the value `text`, unless the bytes after
 /// the result continue it (see `may_follow` in `toml_span_read`). Fails if an allocation fails.

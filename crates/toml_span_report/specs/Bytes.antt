@@ -7,7 +7,7 @@ use Rattle.toml_span_report.specs.declared.bytes.Class.{Class}
 use Rattle.toml_span_report.specs.declared.bytes.Class.TheVariants as class
 
 abbrev pub is_word : ℕ → Bool
-is_word b = nat_lt 32 b && not (b == 34 || b == 39 || b == 44 || b == 93 || b == 125 || b == 127)
+is_word b = nat_lt 32 b && not (b == 34 || b == 39 || b == 44 || b == 59 || b == 93 || b == 125 || b == 127)
 
 abbrev pub is_atom : ℕ → Bool
 is_atom b = is_word b && not (b == 61 || b == 91 || b == 123)
@@ -21,6 +21,27 @@ is_blank b = b == 32 || b == 9
 abbrev pub is_line : ℕ → Bool
 is_line b = not (b == 10 || b == 13)
 
+-- a quote, a backtick or a bracket of any kind; a byte of a value in an array or inline table, and of a plain word; a
+-- byte that a string can contain; and a byte before `=` in an operator
+abbrev pub is_delimiter : ℕ → Bool
+is_delimiter b =
+    b == 34 || b == 39 || b == 96 || b == 40 || b == 41 || b == 91 || b == 93 || b == 123 || b == 125
+
+abbrev pub is_element : ℕ → Bool
+is_element b = is_line b && (not (is_delimiter b) && not (b == 44 || b == 59 || b == 61 || b == 35))
+
+abbrev pub is_plain : ℕ → Bool
+is_plain b =
+    is_element b && (nat_lt 32 b && not (b == 92 || b == 127 || b == 0xC2 || b == 0xE2 || b == 0xE3 || b == 0xEF))
+
+abbrev pub is_text : ℕ → Bool
+is_text b = b == 9 || (nat_le 32 b && not (b == 127))
+
+abbrev pub is_operator : ℕ → Bool
+is_operator b =
+    b == 43 || b == 45 || b == 42 || b == 47 || b == 37 || b == 63 || b == 33 || b == 124 || b == 38 || b == 94
+    || b == 126 || b == 60 || b == 62
+
 abbrev pub is_digit : ℕ → Bool
 is_digit b = nat_le 48 b && nat_le b 57
 
@@ -33,7 +54,11 @@ is_in class.Enclosed b = is_line b && not (b == 125 || b == 41)
 is_in class.Left b = is_line b && not (b == 61 || b == 35)
 is_in class.Word b = is_word b
 is_in class.Atom b = is_atom b
-is_in class.Phrase b = (is_word b || is_blank b) && not (b == 61 || b == 35)
+is_in class.Element b = is_element b
+is_in class.Plain b = is_plain b
+is_in class.Basic b = is_text b && not (b == 34 || b == 92)
+is_in class.Literal b = is_text b && not (b == 39)
+is_in class.Operator b = is_operator b
 is_in class.Name b = is_name b
 is_in class.Dotted b = is_name b || b == 46
 is_in class.Spaced b = is_name b || is_blank b
@@ -96,6 +121,24 @@ last_of_line text at = start_of class.Blank text (end_of class.Line text at)
 -- whether only blanks are between `at` and the next line end or NUL, or the end of the text
 abbrev pub is_last : List ℕ → ℕ → Bool
 is_last text at = byte_after text at == 0 || byte_after text at == 10 || byte_after text at == 13
+
+-- whether a value can end at `at`: the line or the text, a comment, or the element ends there
+abbrev pub ends_value : List ℕ → ℕ → Bool
+ends_value text at =
+    let b = byte_after text at in is_last text at || (b == 35 || b == 44 || b == 59 || b == 93 || b == 125)
+
+-- whether the bytes between two offsets are all of the class
+abbrev pub are_all : Class → List ℕ → ℕ → ℕ → Bool
+are_all kind text from to = nat_le to (end_of kind text from)
+
+-- the line end to insert on the line that contains `at`: that of this line or, in the last line, of the previous one
+abbrev pub line_break : List ℕ → ℕ → List ℕ
+line_break text at =
+    let end = end_of class.Line text at in
+    let before = start_of class.Line text at - 2 in
+    if begins text end (13 ∷ 10 ∷ []) || (nat_le (length text) end && begins text before (13 ∷ 10 ∷ []))
+    then 13 ∷ 10 ∷ []
+    else 10 ∷ []
 
 -- the part of a text between two offsets, which are moved back to character boundaries
 unfoldable pub part : List ℕ → ℕ → ℕ → List ℕ

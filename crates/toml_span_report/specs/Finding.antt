@@ -1,7 +1,7 @@
 -- Findings: typical mistakes in a text, with what to mark and the code to write.
-use Rattle.std.specs.Prelude.{ℕ, nat_lt, List, [], codes, Option, Some, None, if◌then◌else◌}
+use Rattle.std.specs.Prelude.{ℕ, Bool, ◌==◌, ◌&&◌, List, [], codes, length, Option, Some, None, if◌then◌else◌}
 use Rattle.toml_span_lex.specs.declared.span.Span.{Span}
-use Rattle.toml_span_report.specs.Bytes.{end_of, part}
+use Rattle.toml_span_report.specs.Bytes.{are_all, part}
 use Rattle.toml_span_report.specs.declared.bytes.Class.TheVariants as class
 use Rattle.toml_span_report.specs.declared.finding.Code.{Code}
 use Rattle.toml_span_report.specs.declared.finding.Finding.{Finding}
@@ -99,14 +99,27 @@ replaced words from to code = mended words (span_of from to) (span_of from to) c
 abbrev pub removed : WordsContent → ℕ → ℕ → FindingContent
 removed words from to = replaced words from to (pieces [] [] [])
 
--- The quote to put around a part of a text: a single quote if the part contains a backslash or reaches beyond the text,
--- otherwise a double quote.
+-- a finding whose replacement is safe only if `is_safe` is set too, and one without help
+abbrev pub safe_if : FindingContent → Bool → FindingContent
+safe_if f is_safe = record f { words = record f.words { is_safe = f.words.is_safe && is_safe } }
+
+abbrev pub only_marked : WordsContent → ℕ → ℕ → FindingContent
+only_marked words from to = marked (record words { help = [] }) from to
+
+-- The quote to put around a part of a text so that the string contains just these bytes: a double quote or, if that is
+-- not possible, a single one; empty if neither is possible. Quotes are safe only around a plain word.
 abbrev pub quote_for : List ℕ → ℕ → ℕ → List ℕ
-quote_for text from to = if nat_lt (end_of class.Unescaped text from) to then codes "'" else codes "\""
+quote_for text from to =
+    if are_all class.Basic text from to then codes "\""
+    else if are_all class.Literal text from to then codes "'"
+    else []
 
 abbrev pub in_quotes : WordsContent → List ℕ → ℕ → ℕ → FindingContent
 in_quotes words text from to =
-    replaced words from to (pieces (quote_for text from to) (part text from to) (quote_for text from to))
+    if length (quote_for text from to) == 0 then marked words from to
+    else safe_if
+    (replaced words from to (pieces (quote_for text from to) (part text from to) (quote_for text from to)))
+    (are_all class.Plain text from to)
 
 -- the first finding or, if it is None, the second
 abbrev pub first_found : Option FindingContent → Option FindingContent → Option FindingContent

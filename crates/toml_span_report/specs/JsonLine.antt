@@ -3,8 +3,8 @@ use Rattle.std.specs.Prelude.{ℕ, Bool, true, false, List, ◌++◌, codes}
 use Rattle.std.specs.Fmt.{decimal}
 use Rattle.std.specs.List.{join_by}
 use Rattle.toml_span_lex.specs.declared.span.Span.{Span}
-use Rattle.toml_span_report.specs.Places.{floor_boundary, line_number, column}
-use Rattle.toml_span_report.specs.Rendering.{severity_word}
+use Rattle.toml_span_report.specs.Places.{clipped_span, floor_boundary, line_number, column}
+use Rattle.toml_span_report.specs.Rendering.{clipped_text, severity_word}
 use Rattle.toml_span_report.specs.Report.{ReportLabel, Repair, ReportContent}
 use Rattle.toml_span_report.specs.Visible.{quoted}
 
@@ -27,16 +27,20 @@ place_json text at =
 
 -- the members `start`, `end`, `line` and `column` of a label at `span`
 unfoldable pub spot_json : List ℕ → Span → List ℕ
-spot_json text span = span_json span ++ place_json text span.start
+spot_json text span = span_json (clipped_span text span) ++ place_json text span.start
 
 -- a member whose value is the string `text`; `title` is the text before the string, such as `,"code":`
 abbrev pub member_json : List ℕ → List ℕ → List ℕ
 member_json title text = title ++ quoted text
 
+-- a text for people, cut after 1,000 bytes
+abbrev pub clipped_json : List ℕ → List ℕ
+clipped_json text = quoted (clipped_text text)
+
 -- a label of these parts
 unfoldable pub parts_json : List ℕ → Bool → Span → List ℕ → List ℕ
 parts_json text is_primary span message =
-    role_json is_primary ++ spot_json text span ++ member_json (codes ",\"message\":") message ++ codes "}"
+    role_json is_primary ++ spot_json text span ++ codes ",\"message\":" ++ clipped_json message ++ codes "}"
 
 unfoldable pub label_json : List ℕ → ReportLabel → List ℕ
 label_json text mark = parts_json text mark.primary mark.span mark.message
@@ -48,7 +52,7 @@ abbrev pub labels_json : List ℕ → List ReportLabel → List ℕ
 labels_json text marks = codes "[" ++ join_by (label_json text) (codes ",") marks ++ codes "]"
 
 abbrev pub texts_json : List (List ℕ) → List ℕ
-texts_json texts = codes "[" ++ join_by quoted (codes ",") texts ++ codes "]"
+texts_json texts = codes "[" ++ join_by clipped_json (codes ",") texts ++ codes "]"
 
 -- the beginning of a replacement, with the member `safe`; and a replacement of these parts
 abbrev pub safety_json : Bool → List ℕ
@@ -69,7 +73,7 @@ fixes_json fixes = join_by fix_json (codes ",") fixes
 abbrev pub head_json : ReportContent → List ℕ → List ℕ
 head_json r name =
     member_json (codes "{\"file\":") name ++ member_json (codes ",\"code\":") r.code
-    ++ member_json (codes ",\"message\":") r.message
+    ++ codes ",\"message\":" ++ clipped_json r.message
 
 -- the severity, the notes and the help
 abbrev pub remarks_json : ReportContent → List ℕ

@@ -1,18 +1,41 @@
 -- Offsets in a text, and the lines and columns where they are.
-use Rattle.std.specs.Prelude.{ℕ, zero, suc, ◌+◌, ◌-◌, max, Bool, ◌==◌, ◌&&◌, ◌||◌, not, nat_lt, nat_le, List, length}
-use Rattle.std.specs.Prelude.{take, drop, slice_index, slice_range, if◌then◌else◌}
+use Rattle.std.specs.Prelude.{ℕ, zero, suc, ◌+◌, ◌-◌, ◌≤◌, max, min, Bool, ◌==◌, ◌&&◌, ◌||◌, not, nat_lt, nat_le}
+use Rattle.std.specs.Prelude.{List, length, take, drop, slice_index, slice_range, if◌then◌else◌}
 use Rattle.std.specs.List.{count_by, position_or_len}
-use Rattle.std.specs.Str.{chars}
+use Rattle.std.specs.Str.{IsCharBoundary, chars}
 use Rattle.toml_span_lex.specs.declared.span.Span.{Span}
+
+-- whether a character begins with the byte
+abbrev pub begins_character : ℕ → Bool
+begins_character byte = not (nat_le 128 byte && nat_lt byte 192)
 
 -- whether a character begins at i, or the text ends there
 abbrev pub is_between : List ℕ → ℕ → Bool
-is_between text i = nat_le i (length text) && not (nat_le 128 (slice_index text i) && nat_lt (slice_index text i) 192)
+is_between text i = nat_le i (length text) && begins_character (slice_index text i)
 
 -- the nearest character boundary at or before i, at most the length of the text
 unfoldable pub floor_boundary : List ℕ → ℕ → ℕ
 floor_boundary text zero = 0
 floor_boundary text (suc i) = if is_between text (suc i) then suc i else floor_boundary text i
+
+-- the nearest character boundary at or after i, or the length of the text if i is beyond it
+unfoldable pub ceil_boundary : List ℕ → ℕ → ℕ
+ceil_boundary text i =
+    min i (length text) + position_or_len begins_character (drop (min i (length text)) text)
+
+-- the part of a span that is in the text, widened to whole characters; a reversed span becomes empty
+unfoldable pub clipped_span : List ℕ → Span → Span
+clipped_span text span = record {
+  start = floor_boundary text span.start;
+  end = ceil_boundary text (max span.end (floor_boundary text span.start));
+}
+
+-- The span is in the text, and begins and ends at character boundaries.
+pub record LiesIn (text : List ℕ) (span : Span) : Type 0 where
+  pub forward : span.start ≤ span.end
+  pub within : span.end ≤ length text
+  pub begins : IsCharBoundary text span.start
+  pub ends : IsCharBoundary text span.end
 
 abbrev pub is_line_feed : ℕ → Bool
 is_line_feed byte = byte == 10

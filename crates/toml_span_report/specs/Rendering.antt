@@ -30,6 +30,10 @@ dots false = []
 unfoldable pub shortened : List ℕ → List ℕ
 shortened text = let end = floor_boundary text 1000 in shown (take end text) ++ dots (nat_lt end (length text))
 
+-- a text for people in output for programs: a longer one than 1,000 bytes is cut, and `...` is appended
+unfoldable pub clipped_text : List ℕ → List ℕ
+clipped_text text = let end = floor_boundary text 1000 in take end text ++ dots (nat_lt end (length text))
+
 -- the word with which a report begins, and its color
 abbrev pub severity_word : Severity → List ℕ
 severity_word Error = codes "error"

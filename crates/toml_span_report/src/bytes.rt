@@ -21,12 +21,22 @@ pub(crate) enum Class {
     Enclosed,
     /// A byte of `Line`, except `=` and `#`.
     Left,
-    /// A byte of an unquoted value: anything except ASCII control characters, spaces, `"`, `'`, commas, `]` and `}`.
+    /// A byte of an unquoted value: anything except ASCII control characters, spaces, `"`, `'`, `,`, `;`, `]` and `}`.
     Word,
     /// A byte of `Word`, except `=`, `[` and `{`.
     Atom,
-    /// A byte of several unquoted words: a byte of `Word` or `Blank`, except `=` and `#`.
-    Phrase,
+    /// A byte of an unquoted value in an array or inline table, which may be several words: a byte of `Line`, except
+    /// quotes, brackets of any kind, and `,`, `;`, `=` and `#`.
+    Element,
+    /// A byte of a plain word: a byte of `Element`, except blanks, backslashes, control characters, and the first bytes
+    /// of the characters that look like blanks, quotes or other ASCII characters, among others.
+    Plain,
+    /// A byte that stands for itself in a string in double quotes.
+    Basic,
+    /// A byte that a string in single quotes can contain.
+    Literal,
+    /// A byte that is written before `=` in operators such as `+=`.
+    Operator,
     /// A byte of an unquoted key, even if TOML does not allow it there: a byte of `Atom`, except `.`, `#` and `:`.
     Name,
     /// A byte of `Name`, or `.`.
@@ -67,7 +77,7 @@ pub(crate) enum Class {
 fn is_word(byte: u8) -> bool
     ensures { result ≡ spec.is_word byte }
 {
-    byte > 32 && !matches!(byte, b'"' | b'\'' | b',' | b']' | b'}' | 127)
+    byte > 32 && !matches!(byte, b'"' | b'\'' | b',' | b';' | b']' | b'}' | 127)
 }
 
 /// Returns whether the byte is of the class `Atom`.
@@ -98,6 +108,47 @@ fn is_line(byte: u8) -> bool
     !matches!(byte, b'\n' | b'\r')
 }
 
+/// Returns whether the byte is a quote, a backtick or a bracket of any kind.
+fn is_delimiter(byte: u8) -> bool
+    ensures { result ≡ spec.is_delimiter byte }
+{
+    matches!(
+        byte,
+        b'"' | b'\'' | b'`' | b'(' | b')' | b'[' | b']' | b'{' | b'}'
+    )
+}
+
+/// Returns whether the byte is of the class `Element`.
+fn is_element(byte: u8) -> bool
+    ensures { result ≡ spec.is_element byte }
+{
+    is_line(byte) && !is_delimiter(byte) && !matches!(byte, b',' | b';' | b'=' | b'#')
+}
+
+/// Returns whether the byte is of the class `Plain`.
+fn is_plain(byte: u8) -> bool
+    ensures { result ≡ spec.is_plain byte }
+{
+    is_element(byte) && byte > 32 && !matches!(byte, b'\\' | 127 | 0xC2 | 0xE2 | 0xE3 | 0xEF)
+}
+
+/// Returns whether a string can contain the byte: it is a tab, or no ASCII control character.
+fn is_text(byte: u8) -> bool
+    ensures { result ≡ spec.is_text byte }
+{
+    byte == b'\t' || byte >= 32 && byte != 127
+}
+
+/// Returns whether the byte is of the class `Operator`.
+fn is_operator(byte: u8) -> bool
+    ensures { result ≡ spec.is_operator byte }
+{
+    matches!(
+        byte,
+        b'+' | b'-' | b'*' | b'/' | b'%' | b'?' | b'!' | b'|' | b'&' | b'^' | b'~' | b'<' | b'>'
+    )
+}
+
 /// Returns whether the byte is of the class `Digit`.
 fn is_digit(byte: u8) -> bool
     ensures { result ≡ spec.is_digit byte }
@@ -118,7 +169,11 @@ pub(crate) fn is_in(class: Class, byte: u8) -> bool
         Class::Left => is_line(byte) && !matches!(byte, b'=' | b'#'),
         Class::Word => is_word(byte),
         Class::Atom => is_atom(byte),
-        Class::Phrase => (is_word(byte) || is_blank(byte)) && !matches!(byte, b'=' | b'#'),
+        Class::Element => is_element(byte),
+        Class::Plain => is_plain(byte),
+        Class::Basic => is_text(byte) && !matches!(byte, b'"' | b'\\'),
+        Class::Literal => is_text(byte) && byte != b'\'',
+        Class::Operator => is_operator(byte),
         Class::Name => is_name(byte),
         Class::Dotted => is_name(byte) || byte == b'.',
         Class::Spaced => is_name(byte) || is_blank(byte),
@@ -255,6 +310,35 @@ pub(crate) fn is_last(text: &str, at: usize) -> bool
     ensures { result ≡ spec.is_last text.now at }
 {
     matches!(byte_after(text, at), 0 | b'\n' | b'\r')
+}
+
+/// Returns whether a value can end at the offset `at`: only blanks are between `at` and a line end or NUL, `#`, `,`,
+/// `;`, `]`, `}` or the end of the text.
+pub(crate) fn ends_value(text: &str, at: usize) -> bool
+    ensures { result ≡ spec.ends_value text.now at }
+{
+    is_last(text, at) || matches!(byte_after(text, at), b'#' | b',' | b';' | b']' | b'}')
+}
+
+/// Returns whether the bytes `from..to` are all of the class.
+pub(crate) fn are_all(class: Class, text: &str, from: usize, to: usize) -> bool
+    ensures { result ≡ spec.are_all class text.now from to }
+{
+    to <= end_of(class, text, from)
+}
+
+/// Returns the line end to insert on the line that contains the offset `at`: the one that ends this line or, for the
+/// last line of the text, the previous one.
+pub(crate) fn line_break(text: &str, at: usize) -> &'static str
+    ensures { result.now ≡ spec.line_break text.now at }
+{
+    let end = end_of(Class::Line, text, at);
+    let before = start_of(Class::Line, text, at).saturating_sub(2);
+    if begins(text, end, b"\r\n") || end >= text.len() && begins(text, before, b"\r\n") {
+        "\r\n"
+    } else {
+        "\n"
+    }
 }
 
 /// Returns the part of the text from the offset `from` to the offset `to`. An offset inside a character, or beyond the

@@ -4,7 +4,7 @@ ghost use Rattle.toml_span_report.specs.Finding as spec;
 ghost use Rattle.toml_span_report.specs.Finding.{code_content, finding_content, substitute_content};
 ghost use Rattle.toml_span_report.specs.Words.{texts};
 
-use crate::bytes::{Class, end_of, part};
+use crate::bytes::{Class, are_all, part};
 use crate::words::{Mistake, Words, words_of};
 use toml_span_lex::span::Span;
 
@@ -152,28 +152,55 @@ pub(crate) fn removed<'a>(mistake: Mistake, from: usize, to: usize) -> Finding<'
     replaced(mistake, from, to, pieces("", "", ""))
 }
 
-/// Returns the quote to put around the bytes `from..to` of the text: `'` if they contain a backslash or reach beyond
-/// the text, otherwise `"`.
+/// Returns the finding with a replacement that is safe only if it was safe before and `is_safe` is set.
+pub(crate) fn safe_if<'a>(found: Finding<'a>, is_safe: bool) -> Finding<'a>
+    ensures { finding_content result ≡ spec.safe_if (finding_content found.entry) is_safe }
+{
+    let words = Words {
+        is_safe: found.words.is_safe && is_safe,
+        ..found.words
+    };
+    Finding { words, ..found }
+}
+
+/// Returns a finding that marks the bytes `from..to`, without help.
+pub(crate) fn only_marked<'a>(mistake: Mistake, from: usize, to: usize) -> Finding<'a>
+    ensures { finding_content result ≡ spec.only_marked (texts mistake.entry) from to }
+{
+    let found = marked(mistake, from, to);
+    let words = Words {
+        help: "",
+        ..found.words
+    };
+    Finding { words, ..found }
+}
+
+/// Returns the quote that can be put around the bytes `from..to` of the text so that the string contains just these
+/// bytes: `"` or, if that is not possible, `'`. Returns an empty string if neither is possible.
 pub(crate) fn quote_for<'a>(text: &'a str, from: usize, to: usize) -> &'a str
     ensures { result.now ≡ spec.quote_for text.now from to }
 {
-    if end_of(Class::Unescaped, text, from) < to {
+    if are_all(Class::Basic, text, from, to) {
+        "\""
+    } else if are_all(Class::Literal, text, from, to) {
         "'"
     } else {
-        "\""
+        ""
     }
 }
 
 /// Returns a finding that marks the bytes `from..to` of the text, with a replacement that puts them in quotes
-/// (`quote_for`).
+/// (`quote_for`), unless that is not possible. The replacement is safe only if the bytes are a plain word.
 pub(crate) fn in_quotes<'a>(mistake: Mistake, text: &'a str, from: usize, to: usize) -> Finding<'a>
     ensures { finding_content result ≡ spec.in_quotes (texts mistake.entry) text.now from to }
 {
     let quote = quote_for(text, from, to);
-    replaced(
-        mistake,
-        from,
-        to,
-        pieces(quote, part(text, from, to), quote),
+    if quote.is_empty() {
+        return marked(mistake, from, to);
+    }
+    let code = pieces(quote, part(text, from, to), quote);
+    safe_if(
+        replaced(mistake, from, to, code),
+        are_all(Class::Plain, text, from, to),
     )
 }

@@ -5,10 +5,9 @@ ghost use Rattle.std.specs.List.{flat_map, join_by};
 ghost use Rattle.toml_span_tree.specs.Diagnostic.{label_content};
 ghost use Rattle.toml_span_report.specs.JsonLine as spec;
 ghost use Rattle.toml_span_report.specs.Report.{repair_of, report_content};
-ghost use Rattle.toml_span_report.specs.Visible.{quoted};
 
-use crate::places::line_column;
-use crate::rendering::severity_word;
+use crate::places::{clipped_span, line_column};
+use crate::rendering::{clipped_text, severity_word};
 use crate::report::{Replacement, Report};
 use crate::visible::push_quoted;
 use std::alloc::{AllocError, Global};
@@ -31,6 +30,29 @@ fn push_member(alloc: Global, out: &mut String, title: &str, text: &str) -> Resu
 {
     out.push_str(title)?;
     push_quoted(alloc, out, text)
+}
+
+/// Appends a text for people to `out` as a JSON string (`visible::push_quoted`), cut as `clipped_text` cuts it. Fails if an
+/// allocation fails. `out` may then have a part of the string.
+pub fn push_clipped(alloc: Global, out: &mut String, text: &str) -> Result<(), AllocError>
+    ensures { OnOk result (string_bytes out.new ≡ string_bytes out.old ++ spec.clipped_json text.now) }
+{
+    let text = clipped_text(alloc, text)?;
+    push_quoted(alloc, out, text.as_str())
+}
+
+/// Appends a member whose value is a text for people, cut as `clipped_text` cuts it, to `out`. `title` is the text
+/// before the string, such as `,"message":`.
+fn push_clipped_member(
+    alloc: Global,
+    out: &mut String,
+    title: &str,
+    text: &str,
+) -> Result<(), AllocError>
+    ensures { OnOk result (string_bytes out.new ≡ string_bytes out.old ++ title.now ++ spec.clipped_json text.now) }
+{
+    out.push_str(title)?;
+    push_clipped(alloc, out, text)
 }
 
 /// Appends the beginning of a label's object to `out`, with the member `primary`.
@@ -68,7 +90,7 @@ fn push_line_and_column(out: &mut String, text: &str, at: usize) -> Result<(), A
 fn push_spot(out: &mut String, text: &str, span: Span) -> Result<(), AllocError>
     ensures { OnOk result (string_bytes out.new ≡ string_bytes out.old ++ spec.spot_json text.now span) }
 {
-    push_span(out, span)?;
+    push_span(out, clipped_span(text, span))?;
     push_line_and_column(out, text, span.start)
 }
 
@@ -87,7 +109,7 @@ fn push_parts(
 {
     push_role(out, is_primary)?;
     push_spot(out, text, span)?;
-    push_member(alloc, out, ",\"message\":", message)?;
+    push_clipped_member(alloc, out, ",\"message\":", message)?;
     out.push_str("}")
 }
 
@@ -145,11 +167,11 @@ fn push_labels(
 /// Appends each text to `out`, as a JSON string after a comma.
 fn push_more_texts(alloc: Global, out: &mut String, texts: &[String]) -> Result<(), AllocError>
     ensures { OnOk result (string_bytes out.new ≡ string_bytes out.old
-        ++ flat_map (λ text. codes "," ++ quoted text) (map string_bytes texts.now)) }
+        ++ flat_map (λ text. codes "," ++ spec.clipped_json text) (map string_bytes texts.now)) }
 {
     for text in texts {
         out.push_str(",")?;
-        push_quoted(alloc, out, text.as_str())?;
+        push_clipped(alloc, out, text.as_str())?;
     }
     Ok(())
 }
@@ -157,11 +179,11 @@ fn push_more_texts(alloc: Global, out: &mut String, texts: &[String]) -> Result<
 /// Appends the texts to `out`, as JSON strings, separated by commas.
 fn push_texts(alloc: Global, out: &mut String, texts: &[String]) -> Result<(), AllocError>
     ensures { OnOk result (string_bytes out.new ≡ string_bytes out.old
-        ++ join_by quoted (codes ",") (map string_bytes texts.now)) }
+        ++ join_by spec.clipped_json (codes ",") (map string_bytes texts.now)) }
 {
     match texts.split_first() {
         Some((first, more)) => {
-            push_quoted(alloc, out, first.as_str())?;
+            push_clipped(alloc, out, first.as_str())?;
             push_more_texts(alloc, out, more)
         }
         None => Ok(()),
@@ -257,7 +279,7 @@ fn push_head(alloc: Global, out: &mut String, report: &Report, name: &str) -> Re
 {
     push_member(alloc, out, "{\"file\":", name)?;
     push_member(alloc, out, ",\"code\":", report.code.as_str())?;
-    push_member(alloc, out, ",\"message\":", report.message.as_str())
+    push_clipped_member(alloc, out, ",\"message\":", report.message.as_str())
 }
 
 /// Appends the members `severity`, `notes` and `help` of a report to `out`.
@@ -275,13 +297,15 @@ fn push_remarks(alloc: Global, out: &mut String, report: &Report) -> Result<(), 
 /// or `note`), `notes`, `help` and `fixes`, in this order.
 ///
 /// A label is an object with the members `primary`, `start`, `end`, `line`, `column` and `message`, in this order. Its
-/// span is from `start` to `end` (byte offsets from 0, end exclusive). `line` and `column` are those of the start, as
-/// `line_column` counts them. Labels are in the order of the report.
+/// span is from `start` to `end` (byte offsets from 0, end exclusive), in the text and at character boundaries
+/// (`clipped_span`). `line` and `column` are those of the start, as `line_column` counts them. Labels are in the order
+/// of the report.
 ///
 /// A fix is an object with the members `safe`, `start`, `end` and `text`. `text` replaces the bytes from `start` to
 /// `end`.
 ///
-/// Nothing is cut, and strings are escaped as in `visible::push_quoted`. Fails if an allocation fails.
+/// Messages, notes and help are cut after 1,000 bytes (`clipped_text`), and nothing else is. Strings are escaped as in
+/// `visible::push_quoted`. Fails if an allocation fails.
 pub fn render_json(
     alloc: Global,
     report: &Report,

@@ -1,5 +1,5 @@
 //! Offsets in a text, and the lines and columns where they are.
-ghost use Rattle.std.specs.Prelude.{◌≡◌, ℕ, ◌<◌, ◌≤◌, length, slice_index};
+ghost use Rattle.std.specs.Prelude.{◌≡◌, ℕ, ◌<◌, ◌≤◌, length, min, slice_index, true};
 ghost use Rattle.std.specs.List.{position_or_len};
 ghost use Rattle.std.specs.Str.{IsCharBoundary, chars};
 ghost use Rattle.toml_span_report.specs.Places as spec;
@@ -19,7 +19,7 @@ pub(crate) fn floor_boundary(text: &str, at: usize) -> usize
 
 /// Returns the length of the byte order mark at the start of the text, or 0 if the text has no mark.
 #[tactic(auto, using(crate::proofs::PlaceLemmas::mark_boundary), unfolding(crate::specs::Places::bom_end))]
-fn bom_end(text: &str) -> usize
+pub fn bom_end(text: &str) -> usize
     ensures value { result ≡ spec.bom_end text.now }
     ensures boundary { IsCharBoundary text.now result }
 {
@@ -78,6 +78,47 @@ pub(crate) fn line_end(text: &str, at: usize) -> usize
     } else {
         end
     }
+}
+
+/// Returns the position of the first byte in `bytes` that begins a character, or the length of `bytes` if none does.
+fn next_start(bytes: &[u8]) -> usize
+    ensures value { result ≡ position_or_len spec.begins_character bytes.now }
+    ensures within { result ≤ length bytes.now }
+    ensures begins { result < length bytes.now → spec.begins_character (slice_index bytes.now result) ≡ true }
+{
+    for (i, byte) in bytes.iter().enumerate() {
+        if *byte < 128 || *byte >= 192 {
+            return i;
+        }
+    }
+    bytes.len()
+}
+
+/// Returns the first character boundary at or after the offset `at`. Returns the length of `text` if `at` is beyond the
+/// text.
+#[tactic(auto, unfolding(crate::specs::Places::ceil_boundary))]
+fn ceil_boundary(text: &str, at: usize) -> usize
+    ensures value { result ≡ spec.ceil_boundary text.now at }
+    ensures boundary { IsCharBoundary text.now result }
+    ensures reached { min at (length text.now) ≤ result }
+{
+    let at = at.min(text.len());
+    let (_, rest) = text.as_bytes().split_at(at);
+    at + next_start(rest)
+}
+
+/// Returns the part of a span that is in the text, widened to whole characters. A start beyond the text is moved back
+/// to its end, and a reversed span becomes empty.
+///
+/// `parse` returns some errors whose spans end inside a character or beyond the text, as Rust's `toml_span` does.
+#[tactic(auto, unfolding(crate::specs::Places::clipped_span))]
+pub fn clipped_span(text: &str, span: Span) -> Span
+    ensures value { result ≡ spec.clipped_span text.now span }
+    ensures lies { spec.LiesIn text.now result }
+{
+    let start = floor_boundary(text, span.start);
+    let end = ceil_boundary(text, span.end.max(start));
+    Span { start, end }
 }
 
 /// Returns the number of the line that contains the offset `at`, counted from 1.

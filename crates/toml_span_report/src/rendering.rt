@@ -45,6 +45,18 @@ fn push_shortened(out: &mut String, text: &str) -> Result<(), AllocError>
     push_dots(out, end < text.len())
 }
 
+/// Returns `text` or, if it is longer than 1,000 bytes, its first 1,000 bytes, cut at a character boundary, and `...`.
+/// Fails if an allocation fails.
+#[tactic(auto, unfolding(crate::specs::Rendering::clipped_text))]
+pub fn clipped_text(alloc: Global, text: &str) -> Result<String, AllocError>
+    ensures { IfOk result (λ out. string_bytes out ≡ spec.clipped_text text.now) }
+{
+    let end = floor_boundary(text, 1000);
+    let mut out = String::from_str(alloc, &text[..end])?;
+    push_dots(&mut out, end < text.len())?;
+    Ok(out)
+}
+
 /// Returns `text` as `push_shortened` prints it.
 fn shortened(alloc: Global, text: &str) -> Result<String, AllocError>
     ensures { IfOk result (λ out. string_bytes out ≡ spec.shortened text.now) }

@@ -1,4 +1,5 @@
-//! The messages for typical mistakes, one constant each.
+//! The typical mistakes, one constant each: what a report says, and whether its replacement is safe. A replacement is
+//! safe only if the mistake has just one reading, so a guess never is. Some are safe only in some places (`safe_if`).
 ghost use Rattle.std.specs.Prelude.{◌≡◌};
 ghost use Rattle.toml_span_report.specs.Words as spec;
 
@@ -25,7 +26,7 @@ pub(crate) struct Words {
     pub(crate) help: &'static str,
     /// The text between the help and the code. Empty if the help has no code.
     pub(crate) joint: &'static str,
-    /// Whether a program may apply the replacement without asking.
+    /// Whether the mistake has just one reading, so that a program may apply the replacement without asking.
     pub(crate) is_safe: bool,
 }
 
@@ -90,8 +91,18 @@ pub(crate) const NEAR_FALSE: Mistake = words!(
 
 pub(crate) const NULL: Mistake = words!("TOML has no null", help: "leave the key out");
 
+pub(crate) const NULL_ELEMENT: Mistake = words!("TOML has no null", help: "leave the element out");
+
 pub(crate) const OTHER_FLOAT: Mistake = words!(
     "this is not a float", label: "special floats are `inf` and `nan`", help: "write", joint: " ", is_safe: true
+);
+
+pub(crate) const INFINITY: Mistake = words!(
+    "this is not a float", label: "special floats are `inf` and `nan`", help: "write", joint: " "
+);
+
+pub(crate) const YAML_TEXT: Mistake = words!(
+    "this looks like YAML, not TOML", help: "write a text of several lines in `\"\"\"`"
 );
 
 pub(crate) const PREFIXED: Mistake =
@@ -155,18 +166,36 @@ pub(crate) const SLASHES: Mistake =
 pub(crate) const SEMICOLONS: Mistake =
     words!("comments begin with `#`", help: "replace `;` with `#`", is_safe: true);
 
-pub(crate) const DASHES: Mistake =
-    words!("comments begin with `#`", help: "replace `--` with `#`", is_safe: true);
+pub(crate) const SEMICOLON_COMMENT: Mistake =
+    words!("comments begin with `#`", help: "replace `;` with `#`");
+
+pub(crate) const DASHES: Mistake = words!("comments begin with `#`", help: "replace `--` with `#`");
 
 pub(crate) const BLOCK_COMMENT: Mistake = words!(
     "TOML has no block comments", help: "begin each line of the comment with `#`"
 );
 
+pub(crate) const INNER_COMMENT: Mistake = words!(
+    "TOML has no block comments", help: "remove it, or write it after `#` at the end of the line"
+);
+
 pub(crate) const COMMENT_LINE: Mistake =
-    words!("TOML has no block comments", help: "write", joint: " ", is_safe: true);
+    words!("TOML has no block comments", help: "write", joint: " ");
 
 pub(crate) const SEMICOLON: Mistake =
     words!("lines do not end with a semicolon", help: "remove it", is_safe: true);
+
+pub(crate) const SEMICOLON_BETWEEN: Mistake = words!(
+    "each key begins on a new line", help: "replace the semicolon with a new line"
+);
+
+pub(crate) const SEMICOLON_IN_ARRAY: Mistake = words!(
+    "array elements are separated by commas", help: "replace `;` with `,`"
+);
+
+pub(crate) const SEMICOLON_IN_TABLE: Mistake = words!(
+    "the pairs of an inline table are separated by commas", help: "replace `;` with `,`"
+);
 
 pub(crate) const LONE_RETURN: Mistake = words!(
     "a carriage return alone does not end a line", help: "end lines with a line feed"
@@ -176,7 +205,15 @@ pub(crate) const LONE_RETURN: Mistake = words!(
 
 pub(crate) const BARE_KEY: Mistake = words!(
     "this key needs quotes", label: "bare keys contain only A-Z, a-z, 0-9, `_` and `-`",
-    help: "put it in quotes", joint: ": ", is_safe: true
+    help: "put it in quotes", joint: ": "
+);
+
+pub(crate) const OPERATOR: Mistake = words!(
+    "TOML has no operator except `=`", help: "write the whole value after `=`"
+);
+
+pub(crate) const INDEX: Mistake = words!(
+    "an array element can't be set by its position", help: "write the whole array", joint: ": "
 );
 
 pub(crate) const EQUALS: Mistake = words!(
@@ -188,15 +225,24 @@ pub(crate) const COLON_EQUALS: Mistake = words!(
 );
 
 pub(crate) const ARROW: Mistake = words!(
-    "TOML writes `key = value`, not `key => value`", help: "write", joint: " ", is_safe: true
+    "TOML writes `key = value`, not `key => value`", help: "write", joint: " "
 );
 
 pub(crate) const COLON: Mistake = words!(
     "TOML writes `key = value`, not `key: value`", help: "write", joint: " ", is_safe: true
 );
 
+pub(crate) const COLON_AND_EQUALS: Mistake = words!(
+    "this line has both `:` and `=`", label: "this is not part of the key",
+    help: "remove it, or write `#` before it if the line is a comment"
+);
+
 pub(crate) const NO_EQUALS: Mistake = words!(
-    "`=` is missing between this key and its value", help: "write", joint: " ", is_safe: true
+    "`=` is missing between this key and its value", help: "write", joint: " "
+);
+
+pub(crate) const LATE_HEADER: Mistake = words!(
+    "a header must be first on its line", help: "remove what is before it"
 );
 
 pub(crate) const NO_VALUE: Mistake =
@@ -268,7 +314,15 @@ pub(crate) const TEMPLATE_LINE: Mistake = words!(
 // ---- arrays, inline tables and headers
 
 pub(crate) const EXTRA_COMMA: Mistake = words!(
-    "there is no value before this comma", help: "remove the comma", is_safe: true
+    "there is no value before this comma", help: "remove the comma"
+);
+
+pub(crate) const BRACED_ARRAY: Mistake = words!(
+    "arrays use brackets, not braces", help: "write an array", joint: ": "
+);
+
+pub(crate) const BARE_ARRAY: Mistake = words!(
+    "an array needs brackets", help: "put brackets around the elements", joint: ": "
 );
 
 pub(crate) const NO_COMMA: Mistake = words!(
@@ -337,6 +391,10 @@ pub(crate) const QUOTE_IN_STRING: Mistake = words!(
     "the string ends at an inner quote", help: "use the other kind of quotes", joint: ": "
 );
 
+pub(crate) const TWO_STRINGS: Mistake = words!(
+    "a key can have only one value", help: "write one string, or an array such as `[\"a\", \"b\"]`"
+);
+
 pub(crate) const JOINED: Mistake = words!("strings can't be joined", help: "write one string");
 
 pub(crate) const HALF_DAY: Mistake =
@@ -344,6 +402,10 @@ pub(crate) const HALF_DAY: Mistake =
 
 pub(crate) const ZONE_NAME: Mistake =
     words!("offsets are written as `Z` or `+01:00`", help: "write", joint: " ");
+
+pub(crate) const OFFSET_SPACE: Mistake = words!(
+    "an offset follows the time without a space", help: "write", joint: " ", is_safe: true
+);
 
 pub(crate) const AFTER_VALUE: Mistake = words!(
     "expected the end of the line", label: "only a comment can follow here"
@@ -361,6 +423,9 @@ pub(crate) const TRAILING_POINT: Mistake = words!(
 
 pub(crate) const THOUSANDS: Mistake =
     words!("digits can't be grouped with commas", help: "write", joint: " ");
+
+pub(crate) const DECIMAL_COMMA: Mistake =
+    words!("a float has a point, not a comma", help: "write", joint: " ");
 
 pub(crate) const LEADING_ZERO: Mistake =
     words!("numbers can't have leading zeros", help: "write", joint: " ");
@@ -440,10 +505,14 @@ pub(crate) const OPEN_LONG_LITERAL: Mistake =
     words!("this string is not closed", help: "close it with `'''`");
 
 pub(crate) const CONTROL: Mistake =
-    words!("control characters must be escaped", help: "write", joint: " ", is_safe: true);
+    words!("control characters must be escaped", help: "write", joint: " ");
 
 pub(crate) const CONTROL_IN_LITERAL: Mistake = words!(
     "control characters must be escaped", help: "use a string in double quotes, with an escape such as `\\u0001`"
+);
+
+pub(crate) const CONTINUED: Mistake = words!(
+    "only multiline strings continue on the next line", help: "use `\"\"\"` on both sides of the string"
 );
 
 pub(crate) const BACKSLASH: Mistake = words!(

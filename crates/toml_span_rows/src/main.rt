@@ -5,15 +5,14 @@
 //! can't be made, the answer is `no such row`, and the exit status is 1. Calls are described in the modules that answer
 //! them, and here:
 //!
-//! - `cuts`: see the module `cuts`. `span_at POINTER`, `port_of`, `describe_port`: the results of these functions in
-//!   `uses`.
+//! - `cuts`: see the module `cuts`. `each`, `refused`: see the module `characters`.
 //! - `holders`: the document, read as the `Holders` of `typed::structs`. `warned TYPE`: see `typed::warned`.
 //! - `span START END`: whether this span is empty, the span as a pair and as a range and, if the span is in the text,
 //!   where it starts.
 //! - `copies START END`: two clones of a key whose name is the text, and two clones of the text, all with this span.
 //! - `load_file NAME`: see `typed::owned`. This is the only call that needs files.
-#![tactic(auto)]
 
+mod characters;
 mod cuts;
 mod derived;
 mod escapes;
@@ -27,7 +26,6 @@ mod spans;
 mod tokens;
 mod trees;
 mod typed;
-mod uses;
 
 use escapes::{push_text, push_words};
 use output::Out;
@@ -38,8 +36,6 @@ use toml_span::from_str;
 use typed::owned::push_file;
 use typed::structs::Holders;
 use typed::warned::push_warned;
-use uses::first::describe_port;
-use uses::{port_of, span_at};
 
 /// The answer to a row that can't be answered.
 const NO_SUCH_ROW: &str = "no such row";
@@ -73,15 +69,14 @@ fn parts_of(line: &str) -> Option<(&str, &str, &str)> {
     Some((call, words, text))
 }
 
-/// Prints the answer to `cuts`, `span_at`, `port_of`, `describe_port`, `holders` or `warned`. Returns `false` for any
-/// other call, and for an unknown type of `warned`.
+/// Prints the answer to `cuts`, `each`, `refused`, `holders` or `warned`. Returns `false` for any other call, and for
+/// an unknown type of `warned`.
 fn push_caller(alloc: Global, row: Row<'_>, out: &mut Out) -> bool {
     let text = row.text;
     match row.call {
         "cuts" => cuts::push_cuts(alloc, text, out),
-        "span_at" => out.debug(span_at(alloc, text, row.word(0))),
-        "port_of" => out.debug(port_of(alloc, text)),
-        "describe_port" => out.made(describe_port(alloc, text)),
+        "each" => characters::push_each(alloc, text, out),
+        "refused" => characters::push_refused(alloc, text, out),
         "holders" => out.debug(from_str::<Holders>(alloc, text)),
         "warned" => return push_warned(alloc, row.word(0), text, out),
         _ => return false,

@@ -11,7 +11,6 @@
 //! | `fail_read=K`, `fail_write=K` | which call fails, counted from 1 |
 //! | `take_nothing=K` | which write accepts no bytes |
 //! | `again=each` | the reader begins the text again at its end, so that the input is endless |
-ghost use Rattle.std.specs.Prelude.{◌≤◌};
 
 use crate::Row;
 use crate::output::Out;
@@ -134,10 +133,7 @@ struct Ended<'b> {
 }
 
 /// Runs the program on these bytes. `limit` is the depth limit.
-fn run_on(alloc: Global, limit: usize, bytes: &[u8], ends: Ends) -> Ended<'_>
-    requires some { 1 ≤ limit }
-    requires small { limit ≤ 128 }
-{
+fn run_on(alloc: Global, limit: usize, bytes: &[u8], ends: Ends) -> Ended<'_> {
     let mut reader = Tracked::new(Given {
         bytes,
         left: bytes,
@@ -185,10 +181,7 @@ fn push_front(ended: &Ended<'_>, whole: &[u8], out: &mut Out) {
 
 /// Runs the program with 1, 2 and so on in place of `each` in `words`, and prints a line for each run. Stops after the
 /// first run with a status other than 3. `whole` is the run with 0 in place of `each`.
-fn push_each(alloc: Global, limit: usize, words: &[String], whole: &Ended<'_>, out: &mut Out)
-    requires some { 1 ≤ limit }
-    requires small { limit ≤ 128 }
-{
+fn push_each(alloc: Global, limit: usize, words: &[String], whole: &Ended<'_>, out: &mut Out) {
     for call in 1..usize::MAX {
         let Some(ends) = ends_of(words, call) else {
             return;

@@ -6,7 +6,6 @@
 //! - `again`: whether each value that is written in one piece is the same when it is parsed again. See `pieces`.
 //! - `node_at OFFSET`: see `places`. `write OPERATION ..`: see `writes`. Typed reads: see `typed`.
 //! - `diagnostics`: the message of the error, and its diagnostic. `copied`: clones of the error (see `faults`).
-ghost use Rattle.std.specs.Prelude.{◌≤◌, IfSome};
 
 use crate::faults::{push_copies, push_twice};
 use crate::output::Out;
@@ -24,10 +23,7 @@ mod writes;
 
 /// Returns the depth limit of a row: the first word of `parse`, `read` or `run`, or 128 for any other call. Returns
 /// `None` if that word is not a number from 1 to 128.
-pub(crate) fn limit_of(row: Row<'_>) -> Option<usize>
-    ensures some { IfSome result (λ limit. 1 ≤ limit) }
-    ensures small { IfSome result (λ limit. limit ≤ 128) }
-{
+pub(crate) fn limit_of(row: Row<'_>) -> Option<usize> {
     if !matches!(row.call, "parse" | "read" | "run") {
         return Some(128);
     }

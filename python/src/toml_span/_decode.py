@@ -10,18 +10,23 @@ import re
 import struct
 import sys
 from datetime import date, datetime, time, timedelta, timezone
-from typing import Any, BinaryIO, Callable, Dict, Optional, Tuple, Union
+from typing import TYPE_CHECKING, Any, BinaryIO, Callable, Dict, Optional, Tuple, Union
 
 from . import _native as native
+
+if TYPE_CHECKING or sys.version_info < (3, 11):
+    _DecodeError = ValueError
+else:
+    from tomllib import TOMLDecodeError as _DecodeError
 
 Span = Tuple[int, int]
 Moment = Union[datetime, date, time]
 
 
-class TOMLDecodeError(ValueError):
-    """The text is not valid TOML.
+class TOMLDecodeError(_DecodeError):
+    """The text is not valid TOML. From Python 3.11 on, it is also a ``tomllib.TOMLDecodeError``.
 
-    msg: the message. doc: the text. pos: the index of the error in the text. lineno and colno: its line and column,
+    msg: the headline of the report. doc: the text. pos: the index of the error in the text. lineno and colno: its line and column,
     both counted from 1, the column in characters. Three attributes may be None. code: the kind of error, such as
     ``duplicate-key``. span: the bytes of the error, as (start, end). report: the source lines with marks, to print.
     """
@@ -38,7 +43,7 @@ class TOMLDecodeError(ValueError):
         lineno = doc.count("\n", 0, pos) + 1
         colno = pos - doc.rfind("\n", 0, pos)
         place = "end of document" if pos >= len(doc) else f"line {lineno}, column {colno}"
-        super().__init__(f"{msg} (at {place})")
+        ValueError.__init__(self, f"{msg} (at {place})")
         self.msg, self.doc, self.pos, self.lineno, self.colno = msg, doc, pos, lineno, colno
         self.code, self.span, self.report = code, span, report
 
@@ -68,17 +73,19 @@ def _error(text: str, data: bytes, fault: bytearray, name: str) -> TOMLDecodeErr
     number, _, start, end = native.FAULT.unpack(fault)[:4]
     file = name.encode("utf-8", "replace")
     code = native.text_of(native.lib.toml_span_code, number)
+    report = native.text_of(native.lib.toml_span_report, data, len(data), file, len(file))
     if code == "invalid-number" and _is_too_large(data, start, end):
         msg = "integer out of range: it must be from -2**63 to 2**63 - 1"
     else:
-        msg = native.text_of(native.lib.toml_span_message, data, len(data))
+        # the headline, such as `error[wanted]: this header is not closed`
+        msg = report.partition("\n")[0].partition(": ")[2]
     return TOMLDecodeError(
         "".join(char if char.isprintable() else char.encode("unicode_escape").decode() for char in msg),
         text,
         len(data[:start].decode("utf-8", "ignore")),
         code,
         (start, end),
-        native.text_of(native.lib.toml_span_report, data, len(data), file, len(file)),
+        report,
     )
 
 

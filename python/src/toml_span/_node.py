@@ -2,6 +2,7 @@
 
 from __future__ import annotations
 
+import os
 from bisect import bisect_right
 from typing import Any, Dict, Iterator, List, Optional, Tuple, Union, overload
 
@@ -230,12 +231,13 @@ class Node:
         return f"<{self.kind} {'/'.join(map(str, self.path)) or 'root'} {start}..{end}>"
 
 
-def parse(source: Union[str, bytes], name: str = "<string>") -> Node:
+def parse(source: Union[str, bytes], name: Union[str, "os.PathLike[str]"] = "<string>") -> Node:
     """Parses a text, or its bytes, and returns its root, which is a table. Raises TOMLDecodeError if it is not
     valid TOML.
 
     ``name`` is the name of the file, for the report of an error.
     """
+    name = os.fspath(name)
     if isinstance(source, str):
         return Node(_Source(source, encoded(source), name), 0)
     if not isinstance(source, bytes):

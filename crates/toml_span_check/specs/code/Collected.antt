@@ -6,6 +6,7 @@ use Rattle.toml_span_lines.specs.Run.{HasWritten}
 use Rattle.toml_span_lines.specs.declared.held.Unwritten.{Unwritten}
 use Rattle.toml_span_lines.specs.declared.held.Unwritten.TheVariants.{Failed, Memory}
 use Rattle.toml_span_check.specs.Answer.{Answer, IsAnswer}
+use Rattle.toml_span_check.specs.Fixable.{one_error}
 use Rattle.toml_span_check.specs.Run.{Asked, Begins, Shows, Collects, CollectsFirst, IsOutput, complaint, counted}
 use Rattle.toml_span_check.specs.Run.{status_of}
 use Rattle.toml_span_check.specs.Schemas.{Says}
@@ -36,7 +37,7 @@ abbrev pub CollectsBytes : Says → Format → Task → List ℕ → List ℕ �
     → Option (List ℕ) → Bool → List ℕ → List ℕ → Type 0
 CollectsBytes says format task pointer name bytes (Ok verdict) old new failed held held' =
     (failed ≡ false) × ((new ≡ old) ⊎ Shows task)
-    × ((text : List ℕ) × IsAnswer says format task pointer name bytes (verdict.errors, text, string_bytes verdict.complaint)
+    × ((text : List ℕ) × IsAnswer says format task pointer name bytes (verdict.count, text, string_bytes verdict.complaint)
     × Holds task old new (held ++ text) held')
 CollectsBytes says format task pointer name bytes (Err Memory) old new failed held held' =
     (failed ≡ false) × ((new ≡ old) ⊎ Begun says format task pointer name bytes old new held)
@@ -54,11 +55,11 @@ abbrev pub AddsFile : Says → Format → Task → List ℕ → List ℕ → Res
 AddsFile says format task pointer name (Ok bytes) old new =
     (answer : Answer) × IsAnswer says format task pointer name bytes answer
     × (new.0 ≡ old.0 ++ answer.1) × (new.1 ≡ old.1 ++ answer.2)
-    × (new.2 ≡ max old.2 (status_of answer.0 answer.2))
+    × (new.2 ≡ max old.2 (status_of answer.0.errors answer.2))
     × (new.3 ≡ counted old.3 answer.0)
 AddsFile says format task pointer name (Err reason) old new =
     (new.0 ≡ old.0) × (new.1 ≡ old.1 ++ complaint (shown_word name) reason) × (new.2 ≡ 2)
-    × (new.3 ≡ counted old.3 1)
+    × (new.3 ≡ counted old.3 one_error)
 
 abbrev pub BegunOne : Says → Format → Task → List ℕ → List ℕ → Result (List ℕ) (List ℕ) → Option (List ℕ) → Option (List ℕ)
     → TextsOf → Type 0

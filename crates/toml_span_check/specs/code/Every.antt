@@ -3,13 +3,10 @@ use Rattle.std.specs.Prelude.{◌≡◌, ℕ, List, map, Option, Some, None, str
 use Rattle.toml_span_lex.specs.declared.stop.Stop.TheVariants.{Fault}
 use Rattle.toml_span_tree.specs.declared.error.Error.{Error}
 use Rattle.toml_span_tree.specs.declared.value.Value.{Value}
-use Rattle.toml_span_tree.specs.Error.{content_of}
 use Rattle.toml_span_read.specs.Data.{depth_limit}
 use Rattle.toml_span.specs.Parsing.{IsTree, IsRefusal}
-use Rattle.toml_span_report.specs.Errors.{ReportsError}
 use Rattle.toml_span_report.specs.Report.{report_content}
-use Rattle.toml_span_report.specs.declared.report.Severity.TheVariants as severity
-use Rattle.toml_span_check.specs.Every.{Progress}
+use Rattle.toml_span_check.specs.Every.{Progress, ReportsFixable}
 use Rattle.toml_span_check.specs.declared.every.ErrorAt.{ErrorAt}
 use Rattle.toml_span_check.specs.declared.every.Found.{Found}
 
@@ -23,7 +20,7 @@ progress f = record {
 -- `made` has the report of this error, and the start of the error's span.
 abbrev pub IsErrorOf : List ℕ → Error → ErrorAt → Type 0
 IsErrorOf text error made =
-    ReportsError severity.Error text (content_of error) (report_content made.report)
+    ReportsFixable text error (report_content made.report)
     × (made.place ≡ error.span.start)
 
 -- the error that `parse` returns for a text, or `None` if the text is a document

@@ -15,7 +15,7 @@ use Rattle.toml_span_check.specs.declared.formats.Format.{Format}
 -- is made.
 abbrev pub JudgesText : Says → Format → Task → List ℕ → List ℕ → List ℕ → Judged → Type 0
 JudgesText says format task pointer name text (Text verdict out) =
-    IsRead says format task pointer name text (verdict.errors, out.items, string_bytes verdict.complaint)
+    IsRead says format task pointer name text (verdict.count, out.items, string_bytes verdict.complaint)
 JudgesText says format task pointer name text (Document form root) =
     (task ≡ Show form)
     × ((place : Option Node) → Locates pointer (view root) place
@@ -24,7 +24,7 @@ JudgesText says format task pointer name text (Document form root) =
 -- The result is the answer to the bytes of a file or, if they are a document to print, its tree.
 abbrev pub Judges : Says → Format → Task → List ℕ → List ℕ → List ℕ → Judged → Type 0
 Judges says format task pointer name bytes (Text verdict out) =
-    IsAnswer says format task pointer name bytes (verdict.errors, out.items, string_bytes verdict.complaint)
+    IsAnswer says format task pointer name bytes (verdict.count, out.items, string_bytes verdict.complaint)
 Judges says format task pointer name bytes (Document form root) =
     (task ≡ Show form)
     × ((place : Option Node) → Locates pointer (view root) place

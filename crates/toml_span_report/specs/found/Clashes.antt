@@ -1,10 +1,11 @@
 -- Mistakes in keys and headers that clash.
-use Rattle.std.specs.Prelude.{ℕ, ◌-◌, ◌==◌, ◌&&◌, ◌||◌, not, List, [], codes, length}
+use Rattle.std.specs.Prelude.{ℕ, ◌-◌, ◌==◌, ◌&&◌, ◌||◌, Bool, not, List, [], codes, length}
 use Rattle.std.specs.Prelude.{slice_index, Option, Some, None, if◌then◌else◌}
 use Rattle.toml_span_lex.specs.declared.span.Span.{Span}
 use Rattle.toml_span_report.specs.Bytes.{ahead, begins, byte_after, end_of, first_of_line, last_of_line, part}
 use Rattle.toml_span_report.specs.Bytes.{start_of}
 use Rattle.toml_span_report.specs.Finding.{CodeContent, FindingContent, pieces, without_replacement, six, span_of}
+use Rattle.toml_span_report.specs.Scan.{open_before}
 use Rattle.toml_span_report.specs.found.Numbers.{after_sign}
 use Rattle.toml_span_report.specs.declared.bytes.Class.TheVariants as class
 use Rattle.toml_span_report.specs.Words.{said}
@@ -70,15 +71,17 @@ extended text key_end table at =
     (part text (ahead text dot 1) (last_of_line text at)) (part text end last) [] []
 
 -- the body of a section, as the content of an inline table: nothing if the section has no lines, its line if it has
--- only one, with only one `=` or `#`, otherwise `..`
+-- only one, with one `=` and no `#`, otherwise `..`
 unfoldable pub body : List ℕ → ℕ → List ℕ
 body text end =
     let start = end_of class.Gap text end in
     let last = last_of_line text start in
-    let value = ahead text (end_of class.Left text start) 1 in
+    let equals = end_of class.Left text start in
+    let value = ahead text equals 1 in
     let next = slice_index text (end_of class.Gap text last) in
     if slice_index text start == 0 || slice_index text start == 91 then []
-    else if end_of class.Left text value == end_of class.Line text start && (next == 0 || next == 91)
+    else if (slice_index text equals == 61 && end_of class.Left text value == end_of class.Line text start)
+    && (next == 0 || next == 91)
     then part text start last
     else codes ".."
 
@@ -100,16 +103,20 @@ through_other text span first =
       words = record (said THROUGH_VALUE) { also = kind_label text (value_at text first.end) };
     }
 
+-- whether a header begins at `at`: a bracket outside brackets
+abbrev pub is_header : List ℕ → ℕ → Bool
+is_header text at = slice_index text at == 91 && (open_before text at).depth == 0
+
 unfoldable pub through_value : List ℕ → Span → Span → Option FindingContent
 through_value text span first =
     let value = value_at text first.end in
     let byte = slice_index text value in
     let line = first_of_line text span.start in
-    if byte == 123 && slice_index text line == 91
+    if byte == 123 && is_header text line
     then Some (without_replacement (said CLOSED_TABLE_HEADER) span first (subtable text span.end))
     else if byte == 123
     then Some (without_replacement (said CLOSED_TABLE) span first (extended text first.end value line))
-    else if byte == 91 && begins text line (codes "[[")
+    else if byte == 91 && (begins text line (codes "[[") && is_header text line)
     then Some (without_replacement (said CLOSED_ARRAY) span first (pieces [] [] []))
     else if byte == 46 then Some (without_replacement (said DOTTED_TABLE) span first (pieces [] [] []))
     else if byte == 0 || byte == 93 then None
@@ -117,6 +124,6 @@ through_value text span first =
 
 unfoldable pub key_twice : List ℕ → Span → Span → Option FindingContent
 key_twice text span first =
-    if slice_index text (first_of_line text span.start) == 91 || byte_after text span.end == 46
+    if is_header text (first_of_line text span.start) || byte_after text span.end == 46
     then through_value text span first
     else None

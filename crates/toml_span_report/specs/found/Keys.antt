@@ -1,27 +1,55 @@
 -- Mistakes in keys and headers.
-use Rattle.std.specs.Prelude.{ℕ, ◌-◌, ◌==◌, ◌&&◌, ◌||◌, Bool, true, false, not, nat_lt, List, [], codes}
+use Rattle.std.specs.Prelude.{ℕ, ◌-◌, ◌==◌, ◌&&◌, ◌||◌, Bool, true, false, not, nat_lt, nat_le, List, [], codes}
 use Rattle.std.specs.Prelude.{length, slice_index, Option, Some, None, if◌then◌else◌}
 use Rattle.std.specs.Str.{bytes_eq}
-use Rattle.toml_span_report.specs.Bytes.{ahead, begins, byte_before, byte_after, end_of, first_of_line, is_last}
-use Rattle.toml_span_report.specs.Bytes.{last_of_line, part, start_of}
+use Rattle.toml_span_report.specs.Bytes.{ahead, are_all, begins, byte_before, byte_after, end_of, ends_value}
+use Rattle.toml_span_report.specs.Bytes.{first_of_line, is_in, is_last, last_of_line, part, start_of}
 use Rattle.toml_span_lex.specs.declared.span.Span.{Span}
-use Rattle.toml_span_report.specs.Finding.{CodeContent, FindingContent, SubstituteContent, marked, mended, pieces}
-use Rattle.toml_span_report.specs.Finding.{quote_for, in_quotes, removed, replaced, without_replacement, six, span_of}
+use Rattle.toml_span_report.specs.Finding.{CodeContent, FindingContent, SubstituteContent, first_found, marked, mended}
+use Rattle.toml_span_report.specs.Finding.{only_marked, pieces, quote_for, in_quotes, removed, replaced, safe_if}
+use Rattle.toml_span_report.specs.Finding.{without_replacement, six, span_of}
 use Rattle.toml_span_report.specs.found.Dates.{is_date}
 use Rattle.toml_span_report.specs.found.Numbers.{after_sign}
-use Rattle.toml_span_report.specs.found.Values.{known_word, phrase_end}
+use Rattle.toml_span_report.specs.Scan.{open_before}
+use Rattle.toml_span_report.specs.found.Values.{known_word, whole_end}
 use Rattle.toml_span_report.specs.declared.bytes.Class.TheVariants as class
 use Rattle.toml_span_report.specs.Words.{WordsContent, said}
-use Rattle.toml_span_report.specs.declared.words.TheConstants.{BARE_KEY, BRACE_HEADER, COLON, COLON_EQUALS, CONFLICT}
-use Rattle.toml_span_report.specs.declared.words.TheConstants.{DASHES, DOCUMENT_MARKER, EXTRA_COMMA, EXTRA_DOT, JSON}
-use Rattle.toml_span_report.specs.declared.words.TheConstants.{JSON_DOCUMENT, KEYWORD, NO_EQUALS, NO_KEY, NO_NAME}
-use Rattle.toml_span_report.specs.declared.words.TheConstants.{NO_VALUE, TEMPLATE, TEMPLATE_LINE, YAML_ITEM}
+use Rattle.toml_span_report.specs.declared.words.TheConstants.{BARE_KEY, BRACED_ARRAY, BRACE_HEADER, COLON}
+use Rattle.toml_span_report.specs.declared.words.TheConstants.{COLON_AND_EQUALS, COLON_EQUALS, CONFLICT, DASHES}
+use Rattle.toml_span_report.specs.declared.words.TheConstants.{DOCUMENT_MARKER, EXTRA_COMMA, EXTRA_DOT, INDEX, JSON}
+use Rattle.toml_span_report.specs.declared.words.TheConstants.{JSON_DOCUMENT, KEYWORD, LATE_HEADER, NO_EQUALS, NO_KEY}
+use Rattle.toml_span_report.specs.declared.words.TheConstants.{NO_NAME, NO_VALUE, OPERATOR, TEMPLATE, TEMPLATE_LINE}
+use Rattle.toml_span_report.specs.declared.words.TheConstants.{YAML_ITEM}
 use Rattle.toml_span_report.specs.declared.words.TheConstants.{YAML_ITEMS, YAML_LIST, YAML_TABLE}
+
+-- whether a blank, a line end or the start of the text is before `at`
+abbrev pub is_after_gap : List ℕ → ℕ → Bool
+is_after_gap text at = at == 0 || is_in class.Gap (slice_index text (at - 1))
+
+-- whether only a comment can be between `from` and the end of the line
+abbrev pub is_outside : List ℕ → ℕ → ℕ → Bool
+is_outside text at from =
+    (open_before text at).depth == 0 || are_all class.Element text from (end_of class.Line text at)
 
 -- the finding for a comment of another language, which begins with a sign of this length, such as `//`
 unfoldable pub comment : WordsContent → List ℕ → ℕ → ℕ → FindingContent
 comment mistake text at length =
-    mended mistake (span_of at (last_of_line text at)) (span_of at (ahead text at length)) (pieces (codes "#") [] [])
+    safe_if
+    (mended mistake (span_of at (last_of_line text at)) (span_of at (ahead text at length)) (pieces (codes "#") [] []))
+    (is_after_gap text at && is_outside text at (ahead text at length))
+
+-- whether an operator such as `+=` is at `at`, and the finding for it
+abbrev pub is_assigning : List ℕ → ℕ → Bool
+is_assigning text at =
+    let equals = end_of class.Operator text at in nat_lt at equals && slice_index text equals == 61
+
+abbrev pub operator : List ℕ → ℕ → FindingContent
+operator text at = marked (said OPERATOR) at (ahead text (end_of class.Operator text at) 1)
+
+-- whether a part of a key can begin at `at`
+abbrev pub begins_key : List ℕ → ℕ → Bool
+begins_key text at =
+    byte_before text at == 46 || byte_before text at == 123 || byte_before text at == 44 || first_of_line text at == at
 
 -- the finding for a part of a header that needs quotes, and for a key that needs quotes
 unfoldable pub header_key : List ℕ → ℕ → Option FindingContent
@@ -37,7 +65,8 @@ unfoldable pub other_key : List ℕ → ℕ → Option FindingContent
 other_key text at =
     let from = start_of class.Name text at in
     let to = end_of class.Name text at in
-    if nat_lt from to && (byte_after text to == 61 || byte_after text to == 46)
+    if is_assigning text at then Some (operator text at)
+    else if nat_lt from to && ((byte_after text to == 61 || byte_after text to == 46) && begins_key text from)
     then Some (in_quotes (said BARE_KEY) text from to)
     else None
 
@@ -78,22 +107,29 @@ is_value text at end =
     else if is_date text at end then true
     else is_named (part text at end)
 
--- the findings for a key and a word that is not a value, with a sign other than `=` between them; a program must ask
--- before it applies their replacements (`doubtful`)
+-- the findings for a key and a word that is not a value, with a sign other than `=` between them, whose replacements
+-- are not safe (`doubtful`)
 abbrev pub doubtful : WordsContent → Span → Span → CodeContent → FindingContent
-doubtful words mark edit code = mended (record words { is_safe = false }) mark edit code
+doubtful words mark edit code = safe_if (mended words mark edit code) false
 
 abbrev pub known_pair : WordsContent → List ℕ → Span → Span → ℕ → SubstituteContent → FindingContent
 known_pair mistake key mark edit at known =
     if length known.code == 0 then marked known.mistake at edit.end
     else doubtful mistake mark edit (pieces key (codes " = ") known.code)
 
-abbrev pub with_word : WordsContent → List ℕ → List ℕ → Span → Span → ℕ → Option SubstituteContent → FindingContent
-with_word mistake text key mark edit at (Some known) = known_pair mistake key mark edit at known
-with_word mistake text key mark edit at None =
-    let end = phrase_end text at edit.end in
+abbrev pub with_phrase : WordsContent → List ℕ → List ℕ → Span → Span → ℕ → FindingContent
+with_phrase mistake text key mark edit at =
+    let end = whole_end text at in
     let quote = quote_for text at end in
-    doubtful mistake mark (span_of edit.start end) (six key (codes " = ") quote (part text at end) quote [])
+    if nat_le end at || length quote == 0 || (slice_index text at == 34 || slice_index text at == 39)
+    then only_marked mistake mark.start mark.end
+    else doubtful mistake mark (span_of edit.start end) (six key (codes " = ") quote (part text at end) quote [])
+
+abbrev pub with_word : WordsContent → List ℕ → List ℕ → Span → Span → ℕ → Option SubstituteContent → FindingContent
+with_word mistake text key mark edit at (Some known) =
+    if ends_value text edit.end then known_pair mistake key mark edit at known
+    else with_phrase mistake text key mark edit at
+with_word mistake text key mark edit at None = with_phrase mistake text key mark edit at
 
 unfoldable pub other_word : WordsContent → List ℕ → List ℕ → Span → Span → ℕ → FindingContent
 other_word mistake text key mark edit at =
@@ -107,7 +143,7 @@ other_sign mistake text from to =
     let value = end_of class.Blank text to in
     let stop = value_end text value in
     let key = part text start end in
-    if is_value text value stop
+    if is_value text value stop && ends_value text stop
     then mended mistake (span_of from to) (span_of start stop) (pieces key (codes " = ") (part text value stop))
     else other_word mistake text key (span_of from to) (span_of start stop) value
 
@@ -151,12 +187,30 @@ yaml text at =
     then yaml_list text start end at (end_of class.Gap text next)
     else replaced (said YAML_TABLE) start next (pieces (codes "[") (part text start end) (codes "]"))
 
+-- the finding for a colon after a quoted key; and whether words and `=` follow at `at`
+abbrev pub without_comma : List ℕ → FindingContent → Option Span → FindingContent
+without_comma text found None = found
+without_comma text found (Some edit) =
+    if slice_index text edit.end == 44 && is_last text (ahead text edit.end 1)
+    then record found { edit = Some (span_of edit.start (ahead text edit.end 1)) }
+    else found
+
+unfoldable pub json_pair : List ℕ → ℕ → FindingContent
+json_pair text at =
+    let found = other_sign (said JSON) text at (ahead text at 1) in without_comma text found found.edit
+
+abbrev pub begins_pair : List ℕ → ℕ → Bool
+begins_pair text at =
+    let equals = end_of class.Spaced text at in nat_lt at equals && slice_index text equals == 61
+
 unfoldable pub colon : List ℕ → ℕ → FindingContent
 colon text at =
     let next = ahead text at 1 in
     if begins text at (codes ":=") then other_sign (said COLON_EQUALS) text at (ahead text at 2)
     else if is_last text next || byte_after text next == 35 then yaml text at
-    else if byte_before text at == 34 then other_sign (said JSON) text at next
+    else if byte_before text at == 34 then json_pair text at
+    else if begins_pair text (end_of class.Blank text next)
+    then marked (said COLON_AND_EQUALS) (start_of class.Dotted text at) next
     else other_sign (said COLON) text at next
 
 abbrev pub is_keyword : List ℕ → Bool
@@ -188,6 +242,24 @@ yaml_item text dash at =
     then mended (said YAML_ITEM) mark (span_of dash end) (pieces (part text at end) [] [])
     else without_replacement (said YAML_ITEMS) mark mark (pieces (codes "[[name]]") [] [])
 
+-- whether a header is at `at`; the finding for an index; and the finding for the token at `at`, where `=` is expected
+unfoldable pub begins_header : List ℕ → ℕ → Bool
+begins_header text at =
+    let name = ahead text at (if begins text at (codes "[[") then 2 else 1) in
+    let end = end_of class.Dotted text name in
+    let last = ahead text end (if begins text end (codes "]]") then 2 else 1) in
+    slice_index text at == 91 && (slice_index text end == 93 && (nat_lt name end
+    && (not (is_value text name end) && (is_last text last || byte_after text last == 35))))
+
+unfoldable pub index : List ℕ → ℕ → Option FindingContent
+index text at =
+    let start = key_start text at in
+    let end = end_of class.Digit text (ahead text at 1) in
+    let span = span_of start (ahead text end 1) in
+    if slice_index text at == 91 && slice_index text end == 93
+    then Some (without_replacement (said INDEX) span span (pieces (part text start at) (codes " = [..]") []))
+    else None
+
 unfoldable pub second_word : List ℕ → ℕ → ℕ → Option FindingContent
 second_word text end at =
     let first = first_of_line text at in
@@ -195,10 +267,25 @@ second_word text end at =
     if begins text first (codes "- ") && first_of_line text end == start_of class.Dotted text end
     then Some (yaml_item text first at)
     else if begins text first (codes "-- ") then Some (comment (said DASHES) text first 2)
-    else if end == at then other_key text at
+    else if end == at then first_found (index text at) (other_key text at)
+    else if is_assigning text at then Some (operator text at)
+    else if begins_header text at then Some (marked (said LATE_HEADER) at (last_of_line text at))
     else if slice_index text stop == 61 then Some (spaced_key text end at stop)
     else if slice_index text (end_of class.Left text at) == 61 then None
     else Some (other_sign (said NO_EQUALS) text at at)
+
+-- the finding for a comma or `}` after a key
+unfoldable pub braced : List ℕ → ℕ → ℕ → FindingContent
+braced text end at =
+    let start = key_start text end in
+    let open_at = start_of class.Blank text start - 1 in
+    let content = ahead text open_at 1 in
+    let close = end_of class.Enclosed text at in
+    let last = ahead text close 1 in
+    if not (slice_index text open_at == 123) || not (is_value text start end) then marked (said NO_VALUE) start end
+    else if not (slice_index text close == 125) || not (ends_value text last)
+    then marked (said BRACED_ARRAY) open_at content
+    else replaced (said BRACED_ARRAY) open_at last (pieces (codes "[") (part text content close) (codes "]"))
 
 -- the finding for the token that `found` names, where `=` is expected
 unfoldable pub at_equals : List ℕ → List ℕ → ℕ → Option FindingContent
@@ -207,6 +294,7 @@ at_equals found text at =
     if bytes_eq found (codes "a colon") then Some (colon text at)
     else if bytes_eq found (codes "a newline") || bytes_eq found (codes "eof") || bytes_eq found (codes "a comment")
     then Some (lone_key text end)
+    else if bytes_eq found (codes "a comma") || bytes_eq found (codes "a right brace") then Some (braced text end at)
     else second_word text end at
 
 -- the finding for a header in braces, or None
@@ -223,9 +311,11 @@ brace_header text at =
 unfoldable pub placeholder : List ℕ → ℕ → FindingContent
 placeholder text at =
     let close = end_of class.Enclosed text at in
-    if nat_lt (end_of class.Unquoted text at) close || not (begins text close (codes "}}"))
-    then marked (said TEMPLATE) at (ahead text at 2)
-    else in_quotes (said TEMPLATE) text at (ahead text close 2)
+    let end = ahead text close 2 in
+    if are_all class.Unquoted text at close && (begins text close (codes "}}") && ends_value text end)
+    then in_quotes (said TEMPLATE) text at end
+    else if nat_lt at (whole_end text at) then in_quotes (said TEMPLATE) text at (whole_end text at)
+    else marked (said TEMPLATE) at (ahead text at 2)
 
 unfoldable pub brace : List ℕ → ℕ → Option FindingContent
 brace text at =

@@ -6,7 +6,7 @@ use Rattle.toml_span_lex.specs.declared.span.Span.{Span}
 use Rattle.toml_span_report.specs.Bytes.{ahead, begins, byte_before, byte_after, end_of, first_of_line, last_of_line}
 use Rattle.toml_span_report.specs.Bytes.{is_last, part, start_of}
 use Rattle.toml_span_report.specs.Finding.{FindingContent, first_found, marked, mended, pieces, removed, replaced}
-use Rattle.toml_span_report.specs.Finding.{span_of}
+use Rattle.toml_span_report.specs.Finding.{safe_if, span_of}
 use Rattle.toml_span_report.specs.Scan.{innermost, is_in_header, is_long, open_before}
 use Rattle.toml_span_report.specs.found.Keys.{header_key, missing_key, other_sign}
 use Rattle.toml_span_report.specs.found.Values.{unquoted, unquoted_value}
@@ -97,9 +97,12 @@ at_value found text at =
 unfoldable pub open_header : List ℕ → ℕ → ℕ → FindingContent
 open_header text at bracket =
     let end = start_of class.Blank text at in
-    replaced (said OPEN_HEADER) bracket end
+    let is_half = slice_index text (end - 1) == 93 in
+    safe_if
+    (replaced (said OPEN_HEADER) bracket end
     (pieces (part text bracket end)
-    (if begins text bracket (codes "[[") && not (slice_index text (end - 1) == 93) then codes "]]" else codes "]") [])
+    (if begins text bracket (codes "[[") && not is_half then codes "]]" else codes "]") []))
+    (not is_half && (nat_lt end at || not (slice_index text at == 35)))
 
 unfoldable pub header : List ℕ → List ℕ → ℕ → ℕ → Option FindingContent
 header found text at bracket =
@@ -108,19 +111,37 @@ header found text at bracket =
     else if bytes_eq found (codes "a comma") then Some (marked (said ARRAY_ALONE) bracket (last_of_line text at))
     else header_key text at
 
--- whether an assignment begins at the offset, with only blanks before it on its line
-unfoldable pub is_assignment : List ℕ → ℕ → Bool
-is_assignment text at =
-    let end = end_of class.Dotted text at in
-    first_of_line text at == at && (nat_lt at end && byte_after text end == 61)
+-- whether a pair begins at the offset, and whether an assignment does, with only blanks before it on its line
+unfoldable pub is_pair : List ℕ → ℕ → Bool
+is_pair text at =
+    let end =
+    if slice_index text at == 34 || slice_index text at == 39
+    then ahead text (end_of class.Unquoted text (ahead text at 1)) 1
+    else end_of class.Dotted text at in
+    nat_lt at end && byte_after text end == 61
+
+abbrev pub is_assignment : List ℕ → ℕ → Bool
+is_assignment text at = first_of_line text at == at && is_pair text at
+
+-- whether a bracket at `at` is not indented, or the next line that is not blank is an assignment
+unfoldable pub is_above_pair : List ℕ → ℕ → Bool
+is_above_pair text at =
+    start_of class.Line text at == at || is_assignment text (end_of class.Gap text (end_of class.Line text at))
 
 -- whether the line that contains `at` begins with `[`, and `]` and at most one more character follow the word at `at`
--- until the end of the line, as in a header
+-- until the end of the line, as in a header; and whether a header begins at `at`
 unfoldable pub is_heading : List ℕ → ℕ → Bool
 is_heading text at =
     let end = end_of class.Dotted text at in
-    slice_index text (start_of class.Line text at) == 91 && slice_index text end == 93
-    && (is_last text (ahead text end 1) || is_last text (ahead text end 2))
+    let first = first_of_line text at in
+    slice_index text first == 91 && (slice_index text end == 93
+    && ((is_last text (ahead text end 1) || is_last text (ahead text end 2)) && is_above_pair text first))
+
+unfoldable pub is_section : List ℕ → ℕ → Bool
+is_section text at =
+    slice_index text at == 91 && (first_of_line text at == at
+    && (start_of class.Line text at == at
+    || (slice_index text (last_of_line text at - 1) == 93 && is_above_pair text at)))
 
 -- the finding for a word that is written instead of a value
 unfoldable pub word : List ℕ → ℕ → FindingContent
@@ -133,13 +154,15 @@ word text at =
 unfoldable pub missing_comma : WordsContent → List ℕ → ℕ → FindingContent
 missing_comma mistake text at =
     let end = start_of class.Gap text at in
-    if nat_lt (end_of class.Uncommented text (start_of class.Line text end)) end
+    safe_if
+    (if nat_lt (end_of class.Uncommented text (start_of class.Line text end)) end
     then marked mistake at (end_of class.Word text at)
-    else mended mistake (span_of at (end_of class.Word text at)) (span_of end end) (pieces (codes ",") [] [])
+    else mended mistake (span_of at (end_of class.Word text at)) (span_of end end) (pieces (codes ",") [] []))
+    (first_of_line text at == at || is_pair text at)
 
 unfoldable pub unseparated : WordsContent → List ℕ → ℕ → FindingContent
 unseparated mistake text at =
-    if is_assignment text at || (slice_index text at == 91 && start_of class.Line text at == at)
+    if is_assignment text at || is_section text at
     then unclosed text at
     else missing_comma mistake text at
 

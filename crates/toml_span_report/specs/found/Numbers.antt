@@ -1,16 +1,18 @@
 -- Mistakes in numbers.
 use Rattle.std.specs.Prelude.{ℕ, zero, suc, ◌+◌, ◌-◌, ◌*◌, min, ◌==◌, ◌&&◌, ◌||◌, Bool, false, not, nat_lt, nat_le}
 use Rattle.std.specs.Prelude.{List, [], codes, length, slice_index, Option, Some, None, is_some, if◌then◌else◌}
-use Rattle.toml_span_report.specs.Bytes.{ahead, begins, end_of, is_digit, part, start_of}
-use Rattle.toml_span_report.specs.Finding.{CodeContent, FindingContent, first_found, marked, pieces, in_quotes}
-use Rattle.toml_span_report.specs.Finding.{replaced, six}
+use Rattle.toml_span_report.specs.Bytes.{ahead, begins, end_of, ends_value, is_digit, part, start_of}
+use Rattle.toml_span_report.specs.Finding.{CodeContent, FindingContent, SubstituteContent, first_found, marked, pieces}
+use Rattle.toml_span_report.specs.Finding.{replaced, safe_if, six}
 use Rattle.toml_span_report.specs.found.Dates.{slash_date}
+use Rattle.toml_span_report.specs.found.Values.{float_word, unquoted_value}
 use Rattle.toml_span_report.specs.declared.bytes.Class.TheVariants as class
 use Rattle.toml_span_report.specs.Words.{WordsContent, said}
-use Rattle.toml_span_report.specs.declared.words.TheConstants.{LEADING_ZERO, MISPLACED, NO_DIGITS, NO_EXPONENT}
+use Rattle.toml_span_report.specs.declared.words.TheConstants.{DECIMAL_COMMA, LEADING_ZERO, MISPLACED, NO_DIGITS}
+use Rattle.toml_span_report.specs.declared.words.TheConstants.{NO_EXPONENT}
 use Rattle.toml_span_report.specs.declared.words.TheConstants.{OCTAL, OTHER_DIGIT, SIGNED_DECIMAL, SIGNED_PREFIX}
 use Rattle.toml_span_report.specs.declared.words.TheConstants.{SIGNS, THOUSANDS, TOO_LARGE, TRAILING_POINT}
-use Rattle.toml_span_report.specs.declared.words.TheConstants.{UNDERSCORE, UNQUOTED, UPPER_PREFIX}
+use Rattle.toml_span_report.specs.declared.words.TheConstants.{UNDERSCORE, UPPER_PREFIX}
 
 abbrev pub after_sign : List ℕ → ℕ → ℕ
 after_sign text at = if slice_index text at == 43 || slice_index text at == 45 then ahead text at 1 else at
@@ -73,7 +75,8 @@ signed_value text start end (Some value) =
 unfoldable pub signed_prefix : List ℕ → ℕ → ℕ → ℕ → FindingContent
 signed_prefix text start zero_at end =
     let digits = part text (ahead text zero_at 2) end in
-    signed_value text start end
+    if length digits == 0 then marked (said NO_DIGITS) start end
+    else signed_value text start end
     (value_of digits (base_of (slice_index text (ahead text zero_at 1))) (length digits))
 
 abbrev pub with_digits : FindingContent → ℕ → FindingContent
@@ -152,7 +155,8 @@ abbrev pub integer_value : List ℕ → ℕ → ℕ → ℕ → Option ℕ → F
 integer_value text start digits end None = marked (said TOO_LARGE) start end
 integer_value text start digits end (Some value) =
     if nat_le value (largest text start)
-    then replaced (grouping_mistake text digits) start end (regrouped text start digits end value)
+    then safe_if (replaced (grouping_mistake text digits) start end (regrouped text start digits end value))
+    (not (slice_index text (end - 1) == 95))
     else marked (said TOO_LARGE) start end
 
 unfoldable pub integer : List ℕ → ℕ → ℕ → ℕ → FindingContent
@@ -194,13 +198,22 @@ plain text start digits end =
     if has_zero && nat_le end (end_of class.Decimal text digits) then Some (zeros text start digits end)
     else if nat_lt digits point && point == end then Some (integer text start digits end)
     else if nat_le end (end_of class.Number text start) then float text start point end
-    else Some (in_quotes (said UNQUOTED) text start end)
+    else Some (unquoted_value text start)
+
+-- the finding for a word such as `Inf` after a sign, or None
+abbrev pub as_float : List ℕ → ℕ → ℕ → ℕ → Option SubstituteContent → Option FindingContent
+as_float text start digits end None = None
+as_float text start digits end (Some known) =
+    Some (replaced known.mistake start end (pieces (part text start digits) known.code []))
+
+unfoldable pub signed_float : List ℕ → ℕ → ℕ → ℕ → Option FindingContent
+signed_float text start digits end = as_float text start digits end (float_word (part text digits end))
 
 abbrev pub signed : List ℕ → ℕ → ℕ → ℕ → Option FindingContent
 signed text start digits end =
     if slice_index text digits == 43 || slice_index text digits == 45
     then Some (replaced (said SIGNS) start end (pieces (part text digits end) [] []))
-    else plain text start digits end
+    else first_found (signed_float text start digits end) (plain text start digits end)
 
 unfoldable pub number : List ℕ → ℕ → Option FindingContent
 number text at =
@@ -210,7 +223,19 @@ number text at =
     first_found (slash_date text start end)
     (first_found (prefixed_number text start digits end) (signed text start digits end))
 
--- the finding for digits that are grouped by commas, or None
+-- the findings for a decimal comma, and for digits that are grouped by commas, or None
+unfoldable pub decimal_comma : List ℕ → ℕ → Option FindingContent
+decimal_comma text at =
+    let start = start_of class.Atom text at in
+    let next = ahead text at 1 in
+    let end = end_of class.Digit text next in
+    let digits = after_sign text start in
+    if digits == at || not (end_of class.Digit text digits == at) || next == end || not (ends_value text end) then None
+    else Some (record (replaced (said DECIMAL_COMMA) start end
+    (pieces (part text start at) (codes ".") (part text next end))) {
+      other = six (codes "[") (part text start at) (codes ", ") (part text next end) (codes "]") [];
+    })
+
 unfoldable pub thousands : List ℕ → ℕ → Option FindingContent
 thousands text at =
     let start = start_of class.Atom text at in

@@ -1,12 +1,12 @@
 -- Mistakes in strings and quoted keys: missing or wrong quotes, and invalid characters and escapes.
 use Rattle.std.specs.Prelude.{ℕ, ◌+◌, ◌-◌, ◌*◌, ◌==◌, ◌&&◌, ◌||◌, Bool, not, nat_lt, nat_le, List, [], ◌∷◌, codes}
 use Rattle.std.specs.Prelude.{slice_index, Option, Some, None, if◌then◌else◌}
-use Rattle.toml_span_report.specs.Bytes.{ahead, begins, end_of, first_of_line, last_of_line, part, start_of}
+use Rattle.toml_span_report.specs.Bytes.{ahead, are_all, begins, end_of, first_of_line, last_of_line, part, start_of}
 use Rattle.toml_span_report.specs.Finding.{FindingContent, marked, mended, pieces, replaced, span_of}
 use Rattle.toml_span_report.specs.Scan.{is_long, open_before}
 use Rattle.toml_span_report.specs.declared.bytes.Class.TheVariants as class
 use Rattle.toml_span_report.specs.Words.{said}
-use Rattle.toml_span_report.specs.declared.words.TheConstants.{BACKSLASH, BACKSLASH_IN_LONG, CONTROL}
+use Rattle.toml_span_report.specs.declared.words.TheConstants.{BACKSLASH, BACKSLASH_IN_LONG, CONTINUED, CONTROL}
 use Rattle.toml_span_report.specs.declared.words.TheConstants.{CONTROL_IN_LITERAL, LONG_KEY, NO_CHARACTER, OPEN_KEY}
 use Rattle.toml_span_report.specs.declared.words.TheConstants.{OPEN_LITERAL, OPEN_LONG, OPEN_LONG_LITERAL}
 use Rattle.toml_span_report.specs.declared.words.TheConstants.{OPEN_STRING, QUOTE_IN_STRING, SHORT_ESCAPE, SURROGATE}
@@ -59,7 +59,9 @@ backslash text at end =
     (pieces (codes "'") (part text content close) (codes "'"))
 
 abbrev pub escape : List ℕ → ℕ → FindingContent
-escape text at = backslash text (at - 1) (ahead text at 1)
+escape text at =
+    if slice_index text at == 10 || slice_index text at == 13 then marked (said CONTINUED) (at - 1) at
+    else backslash text (at - 1) (ahead text at 1)
 
 -- the zeros that an escape lacks
 unfoldable pub zeros_of : ℕ → ℕ → List ℕ
@@ -99,12 +101,10 @@ unterminated text at =
 unfoldable pub long_key : List ℕ → ℕ → FindingContent
 long_key text at = marked (said LONG_KEY) at (ahead text at 3)
 
-abbrev pub has : List ℕ → ℕ → ℕ → ℕ → Bool
-has text from to quote = nat_lt (end_of (if quote == 34 then class.WithoutDouble else class.WithoutSingle) text from) to
-
-abbrev pub requoted : List ℕ → ℕ → ℕ → ℕ → ℕ → List ℕ → Option FindingContent
-requoted text open_at content close end quote = Some (mended (said QUOTE_IN_STRING) (span_of open_at end)
-    (span_of open_at end) (pieces quote (part text content close) quote))
+abbrev pub other_quote : ℕ → Bool → List ℕ
+other_quote quote is_long =
+    if quote == 34 then (if is_long then codes "'''" else codes "'")
+    else if is_long then codes "\"\"\"" else codes "\""
 
 -- the finding for a string that contains the quote that ends it, as in `"b "c" d"`, or None
 unfoldable pub quote_in_string : List ℕ → ℕ → Option FindingContent
@@ -112,12 +112,13 @@ quote_in_string text at =
     let equals = end_of class.Left text (first_of_line text at) in
     let open_at = end_of class.Blank text (ahead text equals 1) in
     let end = last_of_line text at in
-    let close = end - 1 in
     let quote = slice_index text open_at in
-    let content = ahead text open_at 1 in
-    if not ((quote == 34 || quote == 39) && (slice_index text close == quote && nat_le at close))
-    || nat_lt (end_of class.Unescaped text content) close
-    then None
-    else if quote == 34 && not (has text content close 39) then requoted text open_at content close end (codes "'")
-    else if quote == 39 && not (has text content close 34) then requoted text open_at content close end (codes "\"")
+    let width = if is_long text open_at then 3 else 1 in
+    let close = end - width in
+    let content = ahead text open_at width in
+    let other = other_quote quote (width == 3) in
+    if ((quote == 34 || quote == 39) && (begins text close (part text open_at content) && nat_le at close))
+    && (are_all (if quote == 34 then class.WithoutSingle else class.WithoutDouble) text content close
+    && are_all class.Unescaped text content close)
+    then Some (replaced (said QUOTE_IN_STRING) open_at end (pieces other (part text content close) other))
     else None

@@ -1,19 +1,21 @@
 -- Mistakes with characters that do not begin a token, such as curly quotes and `;`.
-use Rattle.std.specs.Prelude.{ℕ, ◌+◌, ◌-◌, ◌*◌, ◌==◌, ◌&&◌, ◌||◌, not, nat_lt, nat_le, List, [], ◌∷◌, codes, length}
-use Rattle.std.specs.Prelude.{slice_index, Option, Some, None, if◌then◌else◌}
-use Rattle.toml_span_report.specs.Bytes.{ahead, begins, byte_before, end_of, first_of_line, is_last, last_of_line}
-use Rattle.toml_span_report.specs.Bytes.{part, start_of}
+use Rattle.std.specs.Prelude.{ℕ, ◌-◌, ◌==◌, ◌&&◌, ◌||◌, Bool, false, not, nat_lt, nat_le, List, [], ◌∷◌, codes}
+use Rattle.std.specs.Prelude.{length, slice_index, Option, Some, None, if◌then◌else◌}
+use Rattle.toml_span_report.specs.Bytes.{ahead, are_all, begins, byte_after, byte_before, end_of, ends_value}
+use Rattle.toml_span_report.specs.Bytes.{first_of_line, is_digit, is_last, last_of_line, line_break, part, start_of}
 use Rattle.toml_span_report.specs.Finding.{FindingContent, SubstituteContent, as_substitute, first_found, marked}
-use Rattle.toml_span_report.specs.Finding.{pieces, removed, replaced, span_of}
-use Rattle.toml_span_report.specs.Scan.{is_in_header, open_before}
+use Rattle.toml_span_report.specs.Finding.{mended, pieces, replaced, safe_if, span_of}
+use Rattle.toml_span_report.specs.Scan.{innermost, is_in_header, open_before}
 use Rattle.toml_span_report.specs.found.Keys.{comment, header_key, other_key, other_sign}
 use Rattle.toml_span_report.specs.found.Values.{unquoted_value}
 use Rattle.toml_span_report.specs.declared.bytes.Class.TheVariants as class
 use Rattle.toml_span_report.specs.Words.{said}
 use Rattle.toml_span_report.specs.declared.words.TheConstants.{ARROW, BACKTICKS, BLOCK_COMMENT, COMMENT_LINE}
-use Rattle.toml_span_report.specs.declared.words.TheConstants.{CONFLICT, CURLY_QUOTES, INVISIBLE, LONE_RETURN, MARKUP}
-use Rattle.toml_span_report.specs.declared.words.TheConstants.{OTHER_SIGN, OTHER_SPACE, PARENTHESES, SEMICOLON}
-use Rattle.toml_span_report.specs.declared.words.TheConstants.{SEMICOLONS, SLASHES}
+use Rattle.toml_span_report.specs.declared.words.TheConstants.{CONFLICT, CURLY_QUOTES, INNER_COMMENT, INVISIBLE}
+use Rattle.toml_span_report.specs.declared.words.TheConstants.{LONE_RETURN, MARKUP, NO_VALUE_AFTER_EQUALS, OTHER_SIGN}
+use Rattle.toml_span_report.specs.declared.words.TheConstants.{OTHER_SPACE, PARENTHESES, SEMICOLON, SEMICOLON_BETWEEN}
+use Rattle.toml_span_report.specs.declared.words.TheConstants.{SEMICOLON_COMMENT, SEMICOLON_IN_ARRAY}
+use Rattle.toml_span_report.specs.declared.words.TheConstants.{SEMICOLON_IN_TABLE, SEMICOLONS, SLASHES, YAML_TEXT}
 
 -- what to write instead of the character c, if c looks like an ASCII character or is invisible
 unfoldable pub look_alike : ℕ → Option SubstituteContent
@@ -42,18 +44,30 @@ curly_name c =
     else if c == 0x201E then codes "DOUBLE LOW-9 QUOTATION MARK (U+201E)"
     else []
 
--- the finding for a curly quote, with a replacement if the string that it begins is closed
+-- whether the last bytes of two curly quotes are of one kind; whether a key or value can end at `at`; and the finding
+-- for a curly quote, with a replacement if the string that it begins is closed
+abbrev pub are_paired : ℕ → ℕ → Bool
+are_paired first last =
+    (nat_le 0x98 first && nat_le first 0x9A && (nat_le 0x98 last && nat_le last 0x9A))
+    || (nat_le 0x9C first && nat_le first 0x9E && (nat_le 0x9C last && nat_le last 0x9E))
+
+abbrev pub ends_key_or_value : List ℕ → ℕ → Bool
+ends_key_or_value text at =
+    let b = byte_after text at in ends_value text at || (b == 61 || b == 46 || b == 58)
+
 unfoldable pub curly : List ℕ → ℕ → List ℕ → FindingContent
 curly text at name =
     let content = ahead text at 3 in
     let close = end_of class.Straight text content in
     let last = slice_index text (ahead text close 2) in
-    if (begins text close (0xE2 ∷ 0x80 ∷ []) && (nat_le 0x98 last && nat_le last 0x9E))
-    && (nat_le close (end_of class.Unquoted text content) && nat_le close (end_of class.Unescaped text content))
-    then record (marked (said CURLY_QUOTES) at (ahead text at 1)) {
+    if begins text close (0xE2 ∷ 0x80 ∷ []) && (are_paired (slice_index text (ahead text at 2)) last
+    && (ends_key_or_value text (ahead text close 3)
+    && (are_all class.Unquoted text content close && are_all class.Unescaped text content close)))
+    then record (safe_if
+    (mended (said CURLY_QUOTES) (span_of at (ahead text at 1)) (span_of at (ahead text close 3))
+    (pieces (codes "\"") (part text content close) (codes "\"")))
+    (are_all class.Uncommented text content close)) {
       label = pieces name [] [];
-      edit = Some (span_of at (ahead text close 3));
-      code = pieces (codes "\"") (part text content close) (codes "\"");
     }
     else record (marked (said CURLY_QUOTES) at (ahead text at 1)) { label = pieces name [] [] }
 
@@ -71,22 +85,44 @@ unfoldable pub alike : List ℕ → ℕ → ℕ → Option FindingContent
 alike text at c =
     if length (curly_name c) == 0 then as_alike text at (look_alike c) else Some (curly text at (curly_name c))
 
--- the finding for a semicolon, which ends a line or begins a comment in other languages
+-- the findings for a semicolon in an array or inline table, outside brackets, and anywhere
+unfoldable pub semicolon_in_brackets : List ℕ → ℕ → FindingContent
+semicolon_in_brackets text at =
+    replaced
+    (if slice_index text (innermost text at) == 91 then said SEMICOLON_IN_ARRAY else said SEMICOLON_IN_TABLE)
+    at (ahead text at 1) (pieces (codes ",") [] [])
+
 unfoldable pub semicolon : List ℕ → ℕ → FindingContent
 semicolon text at =
-    if is_last text (ahead text at 1) && not (first_of_line text at == at)
-    then removed (said SEMICOLON) at (ahead text at 1)
-    else comment (said SEMICOLONS) text at 1
+    let end = ahead text at 1 in
+    let rest = end_of class.Blank text end in
+    if first_of_line text at == at then comment (said SEMICOLONS) text at 1
+    else if is_last text end || slice_index text rest == 35
+    then mended (said SEMICOLON) (span_of at end) (span_of (start_of class.Blank text at) end) (pieces [] [] [])
+    else if slice_index text (end_of class.Left text end) == 61
+    then mended (said SEMICOLON_BETWEEN) (span_of at end) (span_of at rest) (pieces (line_break text at) [] [])
+    else comment (said SEMICOLON_COMMENT) text at 1
+
+unfoldable pub any_semicolon : List ℕ → ℕ → Option FindingContent
+any_semicolon text at =
+    let state = open_before text at in
+    if is_in_header text state then header_key text at
+    else if nat_lt 0 state.depth then Some (semicolon_in_brackets text at)
+    else if byte_before text at == 61 then Some (marked (said NO_VALUE_AFTER_EQUALS) at (ahead text at 1))
+    else Some (semicolon text at)
 
 -- the finding for a string in backticks, and for a list in parentheses
 unfoldable pub backticks : List ℕ → ℕ → FindingContent
 backticks text at =
     let content = ahead text at 1 in
     let close = end_of class.Unquoted text content in
-    if not (slice_index text close == 96) || nat_lt (end_of class.Unescaped text content) close
+    let end = ahead text close 1 in
+    if not (slice_index text close == 96) || not (are_all class.Unescaped text content close)
+    || not (ends_key_or_value text end)
     then marked (said BACKTICKS) at content
-    else replaced (said BACKTICKS) at (ahead text close 1)
-    (pieces (codes "\"") (part text content close) (codes "\""))
+    else safe_if
+    (replaced (said BACKTICKS) at end (pieces (codes "\"") (part text content close) (codes "\"")))
+    (are_all class.Uncommented text content close)
 
 unfoldable pub parentheses : List ℕ → ℕ → FindingContent
 parentheses text at =
@@ -119,7 +155,6 @@ unfoldable pub foreign : List ℕ → ℕ → Option FindingContent
 foreign text at =
     if begins text at (codes "//") then Some (comment (said SLASHES) text at 2)
     else if begins text at (codes "/*") then Some (block_comment text at)
-    else if begins text at (codes ";") then Some (semicolon text at)
     else if begins text at (13 ∷ []) then Some (marked (said LONE_RETURN) at (ahead text at 1))
     else None
 
@@ -131,13 +166,20 @@ unquoted_key_or_value text at start =
     else first_found (other_key text at)
     (if nat_lt 0 state.depth then Some (unquoted_value text start) else None)
 
--- the finding for a value with an invalid character
+-- whether a text in the style of YAML begins at `at`; and the finding for a value with an invalid character
+abbrev pub begins_yaml_text : List ℕ → ℕ → Bool
+begins_yaml_text text at =
+    let last = last_of_line text at in
+    (slice_index text at == 124 || slice_index text at == 62)
+    && (nat_le last (ahead text at 3) && not (is_digit (slice_index text (last - 1))))
+
 abbrev pub other_value : List ℕ → ℕ → ℕ → Option FindingContent
 other_value text at start =
     let byte = slice_index text at in
     if byte == 13 then Some (marked (said LONE_RETURN) at (ahead text at 1))
     else if byte == 47 && (nat_lt start at && begins text at (codes "//")) then Some (comment (said SLASHES) text at 2)
-    else if byte == 59 && is_last text (ahead text at 1) then Some (semicolon text at)
+    else if byte == 47 && begins text at (codes "/*") then Some (marked (said INNER_COMMENT) at (ahead text at 2))
+    else if byte == 47 && begins text at (codes "//") then Some (safe_if (unquoted_value text start) false)
     else if byte == 96 then Some (backticks text at)
     else if byte == 40 then Some (parentheses text at)
     else Some (unquoted_value text start)
@@ -146,7 +188,7 @@ unfoldable pub value : List ℕ → ℕ → ℕ → Option FindingContent
 value text at start =
     if slice_index text at == 62 && (start == at && slice_index text (at - 1) == 61)
     then Some (other_sign (said ARROW) text (at - 1) (ahead text at 1))
-    else if slice_index text at == 124 || slice_index text at == 62 then None
+    else if start == at && begins_yaml_text text at then Some (marked (said YAML_TEXT) at (last_of_line text at))
     else other_value text at start
 
 abbrev pub elsewhere : List ℕ → ℕ → ℕ → Option FindingContent
@@ -156,6 +198,7 @@ unfoldable pub unexpected : List ℕ → ℕ → ℕ → Option FindingContent
 unexpected text at c =
     let start = start_of class.Atom text at in
     first_found (alike text at c)
-    (if byte_before text start == 61 then value text at start
+    (if c == 59 then any_semicolon text at
+    else if byte_before text start == 61 then value text at start
     else if first_of_line text at == at then first_found (at_line_start text at) (elsewhere text at start)
     else elsewhere text at start)

@@ -1,13 +1,16 @@
 -- Words in place of values.
-use Rattle.std.specs.Prelude.{ℕ, ◌==◌, ◌&&◌, ◌||◌, max, Bool, true, false, not, nat_le, List, [], codes, length}
+use Rattle.std.specs.Prelude.{ℕ, ◌-◌, ◌==◌, ◌&&◌, ◌||◌, Bool, not, nat_lt, nat_le, List, [], codes, length}
 use Rattle.std.specs.Prelude.{slice_index, Option, Some, None, if◌then◌else◌}
 use Rattle.std.specs.Str.{bytes_eq}
-use Rattle.toml_span_report.specs.Bytes.{ahead, byte_after, end_of, part, start_of}
+use Rattle.toml_span_report.specs.Bytes.{ahead, are_all, byte_after, byte_before, end_of, ends_value, first_of_line}
+use Rattle.toml_span_report.specs.Bytes.{is_digit, part, start_of}
 use Rattle.toml_span_report.specs.Finding.{FindingContent, SubstituteContent, as_substitute, marked, pieces, in_quotes}
-use Rattle.toml_span_report.specs.Finding.{replaced}
+use Rattle.toml_span_report.specs.Finding.{replaced, safe_if}
+use Rattle.toml_span_report.specs.Scan.{open_before}
 use Rattle.toml_span_report.specs.declared.bytes.Class.TheVariants as class
 use Rattle.toml_span_report.specs.Words.{said}
-use Rattle.toml_span_report.specs.declared.words.TheConstants.{NEAR_FALSE, NEAR_TRUE, NULL, OTHER_BOOLEAN}
+use Rattle.toml_span_report.specs.declared.words.TheConstants.{INFINITY, NEAR_FALSE, NEAR_TRUE, NULL, NULL_ELEMENT}
+use Rattle.toml_span_report.specs.declared.words.TheConstants.{OTHER_BOOLEAN}
 use Rattle.toml_span_report.specs.declared.words.TheConstants.{OTHER_FLOAT, PREFIXED, RAW_STRING}
 use Rattle.toml_span_report.specs.declared.words.TheConstants.{UNQUOTED, UNQUOTED_TEXT, UPPER_BOOLEAN}
 
@@ -38,6 +41,22 @@ near_boolean word =
     else if is_within_one_edit word (codes "false") then Some (as_substitute (said NEAR_FALSE) [] (codes "false"))
     else None
 
+-- the special float to write instead of a word, or None; and what is found of a word or, if that is None, whether the
+-- word misspells a boolean
+unfoldable pub float_word : List ℕ → Option SubstituteContent
+float_word word =
+    if bytes_eq word (codes "NaN") || bytes_eq word (codes "NAN") || bytes_eq word (codes "Nan")
+    then Some (as_substitute (said OTHER_FLOAT) [] (codes "nan"))
+    else if bytes_eq word (codes "Inf") || bytes_eq word (codes "INF")
+    then Some (as_substitute (said OTHER_FLOAT) [] (codes "inf"))
+    else if bytes_eq word (codes "Infinity") || bytes_eq word (codes "infinity") || bytes_eq word (codes "INFINITY")
+    then Some (as_substitute (said INFINITY) [] (codes "inf"))
+    else None
+
+abbrev pub or_near : List ℕ → Option SubstituteContent → Option SubstituteContent
+or_near word (Some m) = Some m
+or_near word None = near_boolean word
+
 -- what to write instead of a word of other languages, or of a misspelled boolean
 unfoldable pub known_word : List ℕ → Option SubstituteContent
 known_word word =
@@ -52,32 +71,53 @@ known_word word =
     || bytes_eq word (codes "off") || bytes_eq word (codes "Off") || bytes_eq word (codes "OFF")
     then Some (as_substitute (said OTHER_BOOLEAN) [] (codes "false"))
     else if bytes_eq word (codes "null") || bytes_eq word (codes "Null") || bytes_eq word (codes "NULL")
-    || bytes_eq word (codes "None") || bytes_eq word (codes "nil") || bytes_eq word (codes "undefined")
+    || bytes_eq word (codes "none") || bytes_eq word (codes "None") || bytes_eq word (codes "NONE")
+    || bytes_eq word (codes "nil") || bytes_eq word (codes "undefined")
     then Some (as_substitute (said NULL) [] [])
-    else if bytes_eq word (codes "NaN") || bytes_eq word (codes "NAN") || bytes_eq word (codes "Nan")
-    then Some (as_substitute (said OTHER_FLOAT) [] (codes "nan"))
-    else if bytes_eq word (codes "Infinity") || bytes_eq word (codes "infinity") || bytes_eq word (codes "Inf")
-    || bytes_eq word (codes "INF")
-    then Some (as_substitute (said OTHER_FLOAT) [] (codes "inf"))
-    else near_boolean word
-
--- whether words that are meant as one string end before this byte
-abbrev pub ends_phrase : ℕ → Bool
-ends_phrase b = b == 0 || b == 10 || b == 13 || b == 35 || b == 44 || b == 93 || b == 125
-
-unfoldable pub phrase_end : List ℕ → ℕ → ℕ → ℕ
-phrase_end text at end =
-    let far = end_of class.Phrase text at in
-    if ends_phrase (slice_index text far) then max (start_of class.Blank text far) end else end
+    else or_near word (float_word word)
 
 abbrev pub is_quote : ℕ → Bool
 is_quote b = b == 34 || b == 39
 
+-- whether a value can begin at `at`; and the end of the value at `at`, which needs quotes: in an array or inline table,
+-- and outside brackets, where its first word ends at `word`. The end is `at` if it is not certain.
+abbrev pub begins_value : List ℕ → ℕ → Bool
+begins_value text at =
+    byte_before text at == 61 || byte_before text at == 91 || byte_before text at == 44 || first_of_line text at == at
+
+abbrev pub ends_element : ℕ → Bool
+ends_element b = b == 0 || b == 10 || b == 13 || b == 44 || b == 93 || b == 125
+
+unfoldable pub element_end : List ℕ → ℕ → ℕ
+element_end text at =
+    let far = end_of class.Element text at in
+    let end = start_of class.Blank text far in
+    if ends_element (slice_index text far) || (slice_index text far == 35 && nat_lt end far) then end else at
+
+unfoldable pub line_value_end : List ℕ → ℕ → ℕ → ℕ
+line_value_end text at word =
+    let far = end_of class.Uncommented text word in
+    let last = start_of class.Blank text far in
+    let is_comment = nat_lt last far && are_all class.Unquoted text at far in
+    if (slice_index text far == 35 && not is_comment) || nat_lt (end_of class.Left text word) far then at
+    else if slice_index text (last - 1) == 59 then start_of class.Blank text (last - 1)
+    else last
+
+unfoldable pub whole_end : List ℕ → ℕ → ℕ
+whole_end text at =
+    if nat_lt 0 (open_before text at).depth then element_end text at
+    else line_value_end text at (end_of class.Word text at)
+
+abbrev pub begins_number : ℕ → Bool
+begins_number b = is_digit b || (b == 43 || b == 45 || b == 46)
+
 unfoldable pub unquoted_value : List ℕ → ℕ → FindingContent
 unquoted_value text at =
-    let end = end_of class.Word text at in
-    if is_quote (byte_after text end) then marked (said UNQUOTED_TEXT) at end
-    else in_quotes (said UNQUOTED) text at (phrase_end text at end)
+    let end = whole_end text at in
+    if nat_lt at end && begins_value text at
+    then safe_if (in_quotes (said UNQUOTED) text at end)
+    (not (byte_after text end == 59) && not (begins_number (slice_index text at)))
+    else marked (said UNQUOTED_TEXT) at (end_of class.Word text at)
 
 -- the finding for a string with a prefix, whose quote is at `quote`
 unfoldable pub prefixed_string : List ℕ → ℕ → ℕ → FindingContent
@@ -95,9 +135,17 @@ known_value at end known =
     if length known.code == 0 then marked known.mistake at end
     else replaced known.mistake at end (pieces known.code [] [])
 
+-- what to write instead of the word at `at`: an element has no key to leave out
+unfoldable pub at_place : List ℕ → ℕ → SubstituteContent → SubstituteContent
+at_place text at known =
+    if length known.code == 0 && not (byte_before text at == 61)
+    then record known { mistake = said NULL_ELEMENT }
+    else known
+
 abbrev pub word_meant : List ℕ → ℕ → ℕ → Option SubstituteContent → FindingContent
 word_meant text at end None = unquoted_value text at
-word_meant text at end (Some known) = known_value at end known
+word_meant text at end (Some known) =
+    if ends_value text end then known_value at end (at_place text at known) else unquoted_value text at
 
 unfoldable pub unquoted : List ℕ → ℕ → FindingContent
 unquoted text at =

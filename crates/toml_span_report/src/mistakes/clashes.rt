@@ -8,6 +8,7 @@ use crate::bytes::{
 };
 use crate::finding::{Code, Finding, pieces, six, span_of, without_replacement};
 use crate::mistakes::numbers::after_sign;
+use crate::scan::open_before;
 use crate::words::{
     ARRAY_OF_TABLE, CLOSED_ARRAY, CLOSED_TABLE, CLOSED_TABLE_HEADER, DOTTED_TABLE, TABLE_OF_ARRAY,
     TABLE_TWICE, THROUGH_VALUE, Words,
@@ -115,15 +116,17 @@ fn extended<'a>(text: &'a str, key_end: usize, table: usize, at: usize) -> Code<
 
 /// Returns the content of an inline table that replaces the section whose header ends at `end`. A line that begins with
 /// `[` ends the section, and blank lines do not count. Without lines, the content is empty. If there is only one line,
-/// with only one `=` or `#`, the content is this line. Otherwise it is `..`.
+/// with one `=` and no `#`, the content is this line. Otherwise it is `..`.
 #[tactic(auto, unfolding(crate::specs::found::Clashes::body))]
 fn body<'a>(text: &'a str, end: usize) -> &'a str
     ensures { result.now ≡ spec.body text.now end }
 {
     let start = end_of(Class::Gap, text, end);
     let last = last_of_line(text, start);
-    let value = ahead(text, end_of(Class::Left, text, start), 1);
-    let is_pair = end_of(Class::Left, text, value) == end_of(Class::Line, text, start);
+    let equals = end_of(Class::Left, text, start);
+    let value = ahead(text, equals, 1);
+    let is_pair = byte_at(text, equals) == b'='
+        && end_of(Class::Left, text, value) == end_of(Class::Line, text, start);
     let next = byte_at(text, end_of(Class::Gap, text, last));
     if matches!(byte_at(text, start), 0 | b'[') {
         ""
@@ -157,6 +160,13 @@ fn subtable<'a>(text: &'a str, end: usize) -> Code<'a>
     }
 }
 
+/// Returns whether a header begins at the offset `at`: a `[` outside brackets.
+fn is_header(text: &str, at: usize) -> bool
+    ensures { result ≡ spec.is_header text.now at }
+{
+    byte_at(text, at) == b'[' && open_before(text, at).depth == 0
+}
+
 /// Recognizes a key or header, at `span`, that would extend an earlier value, or a table that a dotted key defines.
 /// `first` is the span of the earlier key.
 #[tactic(auto, unfolding(crate::specs::found::Clashes::through_value))]
@@ -167,7 +177,7 @@ pub(crate) fn through_value<'a>(text: &'a str, span: Span, first: Span) -> Optio
     let value = value_at(text, first.end);
     let none = pieces("", "", "");
     match byte_at(text, value) {
-        b'{' if byte_at(text, line) == b'[' => {
+        b'{' if is_header(text, line) => {
             Some(without_replacement(CLOSED_TABLE_HEADER, span, first, subtable(text, span.end)))
         }
         b'{' => {
@@ -178,7 +188,7 @@ pub(crate) fn through_value<'a>(text: &'a str, span: Span, first: Span) -> Optio
                 extended(text, first.end, value, line),
             ))
         }
-        b'[' if begins(text, line, b"[[") => Some(without_replacement(
+        b'[' if begins(text, line, b"[[") && is_header(text, line) => Some(without_replacement(
             CLOSED_ARRAY,
             span,
             first,
@@ -197,14 +207,14 @@ pub(crate) fn through_value<'a>(text: &'a str, span: Span, first: Span) -> Optio
     }
 }
 
-/// Recognizes a duplicate key, at `span`, that is before a dot, or on a line that begins with `[`, such as a header.
+/// Recognizes a duplicate key, at `span`, that is before a dot, or in a header.
 /// `first` is the span of the earlier key. Returns the finding of `through_value`.
 #[tactic(auto, unfolding(crate::specs::found::Clashes::key_twice))]
 pub(crate) fn key_twice<'a>(text: &'a str, span: Span, first: Span) -> Option<Finding<'a>>
     ensures { option_map finding_content result ≡ spec.key_twice text.now span first }
 {
     let line = first_of_line(text, span.start);
-    if byte_at(text, line) == b'[' || byte_after(text, span.end) == b'.' {
+    if is_header(text, line) || byte_after(text, span.end) == b'.' {
         through_value(text, span, first)
     } else {
         None

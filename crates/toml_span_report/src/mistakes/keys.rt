@@ -5,35 +5,74 @@ ghost use Rattle.toml_span_report.specs.Words.{texts};
 ghost use Rattle.toml_span_report.specs.found.Keys as spec;
 
 use crate::bytes::{
-    Class, ahead, begins, byte_after, byte_at, byte_before, end_of, first_of_line, is_last,
-    last_of_line, part, start_of,
+    Class, ahead, are_all, begins, byte_after, byte_at, byte_before, end_of, ends_value,
+    first_of_line, is_in, is_last, last_of_line, part, start_of,
 };
 use crate::finding::{
-    Code, Finding, Substitute, in_quotes, marked, mended, pieces, quote_for, removed, replaced,
-    six, span_of, without_replacement,
+    Code, Finding, Substitute, in_quotes, marked, mended, only_marked, pieces, quote_for, removed,
+    replaced, safe_if, six, span_of, without_replacement,
 };
 use crate::mistakes::dates::is_date;
 use crate::mistakes::numbers::after_sign;
-use crate::mistakes::values::{known_word, phrase_end};
+use crate::mistakes::values::{known_word, whole_end};
+use crate::scan::open_before;
 use crate::words::{
-    BARE_KEY, BRACE_HEADER, COLON, COLON_EQUALS, CONFLICT, DASHES, DOCUMENT_MARKER, EXTRA_COMMA,
-    EXTRA_DOT, JSON, JSON_DOCUMENT, KEYWORD, Mistake, NO_EQUALS, NO_KEY, NO_NAME, NO_VALUE,
-    TEMPLATE, TEMPLATE_LINE, Words, YAML_ITEM, YAML_ITEMS, YAML_LIST, YAML_TABLE,
+    BARE_KEY, BRACE_HEADER, BRACED_ARRAY, COLON, COLON_AND_EQUALS, COLON_EQUALS, CONFLICT, DASHES,
+    DOCUMENT_MARKER, EXTRA_COMMA, EXTRA_DOT, INDEX, JSON, JSON_DOCUMENT, KEYWORD, LATE_HEADER,
+    Mistake, NO_EQUALS, NO_KEY, NO_NAME, NO_VALUE, OPERATOR, TEMPLATE, TEMPLATE_LINE, YAML_ITEM,
+    YAML_ITEMS, YAML_LIST, YAML_TABLE,
 };
 use toml_span_lex::span::Span;
 
 /// Returns the finding for a comment of another language. The comment begins at `at`, with a sign of `length` bytes
-/// such as `//`.
+/// such as `//`. The replacement is safe only if a blank or a line end is before the sign, and only a comment can
+/// follow (`is_outside`).
 #[tactic(auto, unfolding(crate::specs::found::Keys::comment))]
 pub(crate) fn comment<'a>(mistake: Mistake, text: &'a str, at: usize, length: usize) -> Finding<'a>
     ensures { finding_content result ≡ spec.comment (texts mistake.entry) text.now at length }
 {
-    mended(
+    let found = mended(
         mistake,
         span_of(at, last_of_line(text, at)),
         span_of(at, ahead(text, at, length)),
         pieces("#", "", ""),
+    );
+    safe_if(
+        found,
+        is_after_gap(text, at) && is_outside(text, at, ahead(text, at, length)),
     )
+}
+
+/// Returns whether the text from `from` to the end of its line can be a comment: no bracket is open at `at`, or the
+/// text has no bracket, quote or other sign that may belong to an array or inline table.
+fn is_outside(text: &str, at: usize, from: usize) -> bool
+    ensures { result ≡ spec.is_outside text.now at from }
+{
+    open_before(text, at).depth == 0
+        || are_all(Class::Element, text, from, end_of(Class::Line, text, at))
+}
+
+/// Returns whether a blank, a line end or the start of the text is before the offset `at`.
+fn is_after_gap(text: &str, at: usize) -> bool
+    ensures { result ≡ spec.is_after_gap text.now at }
+{
+    at == 0 || is_in(Class::Gap, byte_at(text, at.saturating_sub(1)))
+}
+
+/// Returns whether an operator with `=`, such as `+=`, is at `at`.
+fn is_assigning(text: &str, at: usize) -> bool
+    ensures { result ≡ spec.is_assigning text.now at }
+{
+    let equals = end_of(Class::Operator, text, at);
+    at < equals && byte_at(text, equals) == b'='
+}
+
+/// Returns the finding for an operator such as `+=` at `at`.
+fn operator<'a>(text: &'a str, at: usize) -> Finding<'a>
+    ensures { finding_content result ≡ spec.operator text.now at }
+{
+    let end = ahead(text, end_of(Class::Operator, text, at), 1);
+    marked(OPERATOR, at, end)
 }
 
 /// Recognizes a part of a header, around the offset `at`, that needs quotes.
@@ -51,18 +90,29 @@ pub(crate) fn header_key<'a>(text: &'a str, at: usize) -> Option<Finding<'a>>
     }
 }
 
-/// Recognizes a key, around the offset `at`, that needs quotes because of its characters.
+/// Recognizes a key, around the offset `at`, that needs quotes because of its characters, or an operator such as `?=`
+/// after a key.
 #[tactic(auto, unfolding(crate::specs::found::Keys::other_key))]
 pub(crate) fn other_key<'a>(text: &'a str, at: usize) -> Option<Finding<'a>>
     ensures { option_map finding_content result ≡ spec.other_key text.now at }
 {
     let from = start_of(Class::Name, text, at);
     let to = end_of(Class::Name, text, at);
-    if from < to && matches!(byte_after(text, to), b'=' | b'.') {
+    if is_assigning(text, at) {
+        Some(operator(text, at))
+    } else if from < to && matches!(byte_after(text, to), b'=' | b'.') && begins_key(text, from) {
         Some(in_quotes(BARE_KEY, text, from, to))
     } else {
         None
     }
+}
+
+/// Returns whether a part of a key can begin at the offset `at`: `.`, `{` or `,` is before it, or only blanks on its
+/// line.
+fn begins_key(text: &str, at: usize) -> bool
+    ensures { result ≡ spec.begins_key text.now at }
+{
+    matches!(byte_before(text, at), b'.' | b'{' | b',') || first_of_line(text, at) == at
 }
 
 /// Returns the start of the key that ends at `end`. A key that ends with a quote is taken to begin at the nearest
@@ -127,17 +177,11 @@ fn is_named(word: &str) -> bool
     matches!(word, "true" | "false" | "inf" | "nan")
 }
 
-/// Returns a finding that marks the span `mark`, with a replacement of the span `edit` by `code`. A program must ask
-/// before it applies the replacement.
+/// Returns a finding that marks the span `mark`, with a replacement of the span `edit` by `code` that is not safe.
 fn doubtful<'a>(mistake: Mistake, mark: Span, edit: Span, code: Code<'a>) -> Finding<'a>
     ensures { finding_content result ≡ spec.doubtful (texts mistake.entry) mark edit (code_content code.entry) }
 {
-    let found = mended(mistake, mark, edit, code);
-    let words = Words {
-        is_safe: false,
-        ..found.words
-    };
-    Finding { words, ..found }
+    safe_if(mended(mistake, mark, edit, code), false)
 }
 
 /// Returns the finding for `key`, a sign other than `=`, and the word at `at`. `mark` is the span of the sign, `edit`
@@ -162,7 +206,8 @@ fn known_pair<'a>(
 
 /// Returns the finding for `key`, a sign other than `=`, and the word at `at`, which is not a value. `mark` is the span
 /// of the sign, `edit` the span of all three. For a word that `known_word` recognizes, returns the finding of
-/// `known_pair`. Otherwise the replacement puts the word, and any words after the word, in quotes (`phrase_end`).
+/// `known_pair`. Otherwise the replacement puts the whole value in quotes, if its end is certain (`whole_end`) and the
+/// value does not begin with a quote.
 #[tactic(auto, unfolding(crate::specs::found::Keys::other_word))]
 fn other_word<'a>(
     mistake: Mistake,
@@ -174,11 +219,16 @@ fn other_word<'a>(
 ) -> Finding<'a>
     ensures { finding_content result ≡ spec.other_word (texts mistake.entry) text.now key.now mark edit at }
 {
+    let end = whole_end(text, at);
     if let Some(known) = known_word(part(text, at, edit.end)) {
-        return known_pair(mistake, key, mark, edit, at, known);
+        if ends_value(text, edit.end) {
+            return known_pair(mistake, key, mark, edit, at, known);
+        }
     }
-    let end = phrase_end(text, at, edit.end);
     let quote = quote_for(text, at, end);
+    if end <= at || quote.is_empty() || matches!(byte_at(text, at), b'"' | b'\'') {
+        return only_marked(mistake, mark.start, mark.end);
+    }
     let code = six(key, " = ", quote, part(text, at, end), quote, "");
     doubtful(mistake, mark, span_of(edit.start, end), code)
 }
@@ -195,7 +245,7 @@ pub(crate) fn other_sign<'a>(mistake: Mistake, text: &'a str, from: usize, to: u
     let stop = value_end(text, value);
     let key = part(text, start, end);
     let (mark, edit) = (span_of(from, to), span_of(start, stop));
-    if is_value(text, value, stop) {
+    if is_value(text, value, stop) && ends_value(text, stop) {
         mended(
             mistake,
             mark,
@@ -276,6 +326,22 @@ fn yaml<'a>(text: &'a str, at: usize) -> Finding<'a>
     )
 }
 
+/// Returns the finding for the colon at `at` after a quoted key, as in JSON. The replacement also removes a comma at
+/// the end of the line.
+#[tactic(auto, unfolding(crate::specs::found::Keys::json_pair))]
+fn json_pair<'a>(text: &'a str, at: usize) -> Finding<'a>
+    ensures { finding_content result ≡ spec.json_pair text.now at }
+{
+    let mut found = other_sign(JSON, text, at, ahead(text, at, 1));
+    if let Some(edit) = found.edit {
+        let end = ahead(text, edit.end, 1);
+        if byte_at(text, edit.end) == b',' && is_last(text, end) {
+            found.edit = Some(span_of(edit.start, end));
+        }
+    }
+    found
+}
+
 /// Returns the finding for the colon at `at`, which is written instead of `=`.
 #[tactic(auto, unfolding(crate::specs::found::Keys::colon))]
 fn colon<'a>(text: &'a str, at: usize) -> Finding<'a>
@@ -287,10 +353,20 @@ fn colon<'a>(text: &'a str, at: usize) -> Finding<'a>
     } else if is_last(text, next) || byte_after(text, next) == b'#' {
         yaml(text, at)
     } else if byte_before(text, at) == b'"' {
-        other_sign(JSON, text, at, next)
+        json_pair(text, at)
+    } else if begins_pair(text, end_of(Class::Blank, text, next)) {
+        marked(COLON_AND_EQUALS, start_of(Class::Dotted, text, at), next)
     } else {
         other_sign(COLON, text, at, next)
     }
+}
+
+/// Returns whether one or more words and `=` follow at `at`.
+fn begins_pair(text: &str, at: usize) -> bool
+    ensures { result ≡ spec.begins_pair text.now at }
+{
+    let equals = end_of(Class::Spaced, text, at);
+    at < equals && byte_at(text, equals) == b'='
 }
 
 /// Returns whether the word is a keyword, such as `let`, that other languages write before a key or an assignment.
@@ -346,6 +422,39 @@ fn yaml_item<'a>(text: &'a str, dash: usize, at: usize) -> Finding<'a>
     }
 }
 
+/// Returns whether a header such as `[package]` is at `at`, rather than an array, up to the end of the line or a
+/// comment.
+#[tactic(auto, unfolding(crate::specs::found::Keys::begins_header))]
+fn begins_header(text: &str, at: usize) -> bool
+    ensures { result ≡ spec.begins_header text.now at }
+{
+    let name = ahead(text, at, if begins(text, at, b"[[") { 2 } else { 1 });
+    let end = end_of(Class::Dotted, text, name);
+    let width = if begins(text, end, b"]]") { 2 } else { 1 };
+    let last = ahead(text, end, width);
+    byte_at(text, at) == b'['
+        && byte_at(text, end) == b']'
+        && name < end
+        && !is_value(text, name, end)
+        && (is_last(text, last) || byte_after(text, last) == b'#')
+}
+
+/// Recognizes an index, as in `a[0] = 1`. The key before the bracket at `at` ends there.
+#[tactic(auto, unfolding(crate::specs::found::Keys::index))]
+fn index<'a>(text: &'a str, at: usize) -> Option<Finding<'a>>
+    ensures { option_map finding_content result ≡ spec.index text.now at }
+{
+    let start = key_start(text, at);
+    let end = end_of(Class::Digit, text, ahead(text, at, 1));
+    if byte_at(text, at) == b'[' && byte_at(text, end) == b']' {
+        let span = span_of(start, ahead(text, end, 1));
+        let code = pieces(part(text, start, at), " = [..]", "");
+        Some(without_replacement(INDEX, span, span, code))
+    } else {
+        None
+    }
+}
+
 /// Recognizes the mistake in the token at `at`, where `=` is expected. The key before the token ends at `end`.
 #[tactic(auto, unfolding(crate::specs::found::Keys::second_word))]
 fn second_word<'a>(text: &'a str, end: usize, at: usize) -> Option<Finding<'a>>
@@ -360,7 +469,14 @@ fn second_word<'a>(text: &'a str, end: usize, at: usize) -> Option<Finding<'a>>
     } else if begins(text, first, b"-- ") {
         Some(comment(DASHES, text, first, 2))
     } else if end == at {
-        other_key(text, at)
+        match index(text, at) {
+            Some(found) => Some(found),
+            None => other_key(text, at),
+        }
+    } else if is_assigning(text, at) {
+        Some(operator(text, at))
+    } else if begins_header(text, at) {
+        Some(marked(LATE_HEADER, at, last_of_line(text, at)))
     } else if byte_at(text, stop) == b'=' {
         Some(spaced_key(text, end, at, stop))
     } else if byte_at(text, end_of(Class::Left, text, at)) == b'=' {
@@ -368,6 +484,27 @@ fn second_word<'a>(text: &'a str, end: usize, at: usize) -> Option<Finding<'a>>
     } else {
         Some(other_sign(NO_EQUALS, text, at, at))
     }
+}
+
+/// Returns the finding for the comma or `}` at `at`, after a key that ends at `end`: an array in braces if the key
+/// looks like a value, otherwise a key without a value.
+#[tactic(auto, unfolding(crate::specs::found::Keys::braced))]
+fn braced<'a>(text: &'a str, end: usize, at: usize) -> Finding<'a>
+    ensures { finding_content result ≡ spec.braced text.now end at }
+{
+    let start = key_start(text, end);
+    let open = start_of(Class::Blank, text, start).saturating_sub(1);
+    let content = ahead(text, open, 1);
+    let close = end_of(Class::Enclosed, text, at);
+    let last = ahead(text, close, 1);
+    if byte_at(text, open) != b'{' || !is_value(text, start, end) {
+        return marked(NO_VALUE, start, end);
+    }
+    if byte_at(text, close) != b'}' || !ends_value(text, last) {
+        return marked(BRACED_ARRAY, open, content);
+    }
+    let code = pieces("[", part(text, content, close), "]");
+    replaced(BRACED_ARRAY, open, last, code)
 }
 
 /// Recognizes the mistake in the token at `at`, where `=` is expected. `found` names the token, as in `a colon`.
@@ -379,6 +516,7 @@ pub(crate) fn at_equals<'a>(found: &str, text: &'a str, at: usize) -> Option<Fin
     match found {
         "a colon" => Some(colon(text, at)),
         "a newline" | "eof" | "a comment" => Some(lone_key(text, end)),
+        "a comma" | "a right brace" => Some(braced(text, end, at)),
         _ => second_word(text, end, at),
     }
 }
@@ -416,18 +554,24 @@ fn brace_header<'a>(text: &'a str, at: usize) -> Option<Finding<'a>>
     }
 }
 
-/// Returns the finding for a placeholder of a template, such as `{{ name }}`, that begins at `at`.
+/// Returns the finding for a placeholder of a template, such as `{{ name }}`, that begins at `at`. The replacement puts
+/// the whole value in quotes.
 #[tactic(auto, unfolding(crate::specs::found::Keys::placeholder))]
 fn placeholder<'a>(text: &'a str, at: usize) -> Finding<'a>
     ensures { finding_content result ≡ spec.placeholder text.now at }
 {
     let close = end_of(Class::Enclosed, text, at);
-    let quotes = end_of(Class::Unquoted, text, at);
-    if close > quotes || !begins(text, close, b"}}") {
-        return marked(TEMPLATE, at, ahead(text, at, 2));
-    }
     let end = ahead(text, close, 2);
-    in_quotes(TEMPLATE, text, at, end)
+    if are_all(Class::Unquoted, text, at, close)
+        && begins(text, close, b"}}")
+        && ends_value(text, end)
+    {
+        in_quotes(TEMPLATE, text, at, end)
+    } else if at < whole_end(text, at) {
+        in_quotes(TEMPLATE, text, at, whole_end(text, at))
+    } else {
+        marked(TEMPLATE, at, ahead(text, at, 2))
+    }
 }
 
 /// Returns the finding for the extra dot, comma or bracket at `at`.

@@ -9,7 +9,7 @@ use crate::bytes::{
     Class, ahead, begins, byte_after, byte_at, byte_before, end_of, first_of_line, is_last,
     last_of_line, part, start_of,
 };
-use crate::finding::{Finding, marked, mended, pieces, removed, replaced, span_of};
+use crate::finding::{Finding, marked, mended, pieces, removed, replaced, safe_if, span_of};
 use crate::mistakes::keys::{header_key, missing_key, other_sign};
 use crate::mistakes::values::{unquoted, unquoted_value};
 use crate::scan::{innermost, is_in_header, is_long, open_before};
@@ -173,7 +173,8 @@ pub(crate) fn at_value<'a>(found: &str, text: &'a str, at: usize) -> Option<Find
 }
 
 /// Returns the finding for a header that begins at `bracket`, and is not closed on its line. The `]` is expected at
-/// `at`.
+/// `at`. The replacement is not safe for a header such as `[[bin]`, which may have too many brackets or too few, and
+/// for one such as `[c#`, where `#` may be part of the name.
 #[tactic(auto, unfolding(crate::specs::found::Lists::open_header))]
 fn open_header<'a>(text: &'a str, at: usize, bracket: usize) -> Finding<'a>
     ensures { finding_content result ≡ spec.open_header text.now at bracket }
@@ -186,7 +187,11 @@ fn open_header<'a>(text: &'a str, at: usize, bracket: usize) -> Finding<'a>
         "]"
     };
     let code = pieces(part(text, bracket, end), closing, "");
-    replaced(OPEN_HEADER, bracket, end, code)
+    let is_whole = end < at || byte_at(text, at) != b'#';
+    safe_if(
+        replaced(OPEN_HEADER, bracket, end, code),
+        last != b']' && is_whole,
+    )
 }
 
 /// Recognizes the mistake in the token at `at`, where the closing bracket of a header is expected. The header begins at
@@ -202,26 +207,61 @@ fn header<'a>(found: &str, text: &'a str, at: usize, bracket: usize) -> Option<F
     }
 }
 
-/// Returns whether an assignment with an unquoted key begins at the offset `at`, with only blanks before it on its
-/// line.
-#[tactic(auto, unfolding(crate::specs::found::Lists::is_assignment))]
-fn is_assignment(text: &str, at: usize) -> bool
-    ensures { result ≡ spec.is_assignment text.now at }
+/// Returns whether a pair with an unquoted key, or with one string as its key, begins at the offset `at`.
+#[tactic(auto, unfolding(crate::specs::found::Lists::is_pair))]
+fn is_pair(text: &str, at: usize) -> bool
+    ensures { result ≡ spec.is_pair text.now at }
 {
-    let end = end_of(Class::Dotted, text, at);
-    first_of_line(text, at) == at && at < end && byte_after(text, end) == b'='
+    let end = if matches!(byte_at(text, at), b'"' | b'\'') {
+        ahead(text, end_of(Class::Unquoted, text, ahead(text, at, 1)), 1)
+    } else {
+        end_of(Class::Dotted, text, at)
+    };
+    at < end && byte_after(text, end) == b'='
 }
 
-/// Returns whether the line that contains the offset `at` looks like a header. Such a line begins with `[`. After the
-/// word at `at`, it has `]`, at most one more byte, and then only blanks.
+/// Returns whether an assignment (`is_pair`) begins at the offset `at`, with only blanks before it on its line.
+pub(crate) fn is_assignment(text: &str, at: usize) -> bool
+    ensures { result ≡ spec.is_assignment text.now at }
+{
+    first_of_line(text, at) == at && is_pair(text, at)
+}
+
+/// Returns whether the line of a `[` at `at` is where a statement can begin: it is not indented, or the next line that
+/// is not blank is an assignment.
+#[tactic(auto, unfolding(crate::specs::found::Lists::is_above_pair))]
+fn is_above_pair(text: &str, at: usize) -> bool
+    ensures { result ≡ spec.is_above_pair text.now at }
+{
+    let below = end_of(Class::Gap, text, end_of(Class::Line, text, at));
+    start_of(Class::Line, text, at) == at || is_assignment(text, below)
+}
+
+/// Returns whether the line that contains the offset `at` looks like a header (`is_above_pair`). Such a line begins
+/// with `[`. After the word at `at`, it has `]`, at most one more byte, and then only blanks.
 #[tactic(auto, unfolding(crate::specs::found::Lists::is_heading))]
 fn is_heading(text: &str, at: usize) -> bool
     ensures { result ≡ spec.is_heading text.now at }
 {
     let end = end_of(Class::Dotted, text, at);
-    byte_at(text, start_of(Class::Line, text, at)) == b'['
+    let first = first_of_line(text, at);
+    byte_at(text, first) == b'['
         && byte_at(text, end) == b']'
         && (is_last(text, ahead(text, end, 1)) || is_last(text, ahead(text, end, 2)))
+        && is_above_pair(text, first)
+}
+
+/// Returns whether a header begins at the offset `at`: an unindented `[` or, above an assignment, an indented one that
+/// is first on a line that ends with `]`.
+#[tactic(auto, unfolding(crate::specs::found::Lists::is_section))]
+fn is_section(text: &str, at: usize) -> bool
+    ensures { result ≡ spec.is_section text.now at }
+{
+    let last = last_of_line(text, at).saturating_sub(1);
+    let is_unindented = start_of(Class::Line, text, at) == at;
+    byte_at(text, at) == b'['
+        && first_of_line(text, at) == at
+        && (is_unindented || byte_at(text, last) == b']' && is_above_pair(text, at))
 }
 
 /// Returns the finding for the word at `at`, which is written instead of a value. If a bracket is open, and the word
@@ -238,7 +278,8 @@ pub(crate) fn word<'a>(text: &'a str, at: usize) -> Finding<'a>
 }
 
 /// Returns the finding for a comma that is missing before the value or pair at `at`. The finding has no replacement if
-/// a `#` is before the place for the comma, on the same line, since this place may then be in a comment.
+/// a `#` is before the place for the comma, on the same line, since this place may then be in a comment. The
+/// replacement is safe only before a pair, or before a value on a line of its own: `[1 2]` may also be one value.
 #[tactic(auto, unfolding(crate::specs::found::Lists::missing_comma))]
 fn missing_comma<'a>(mistake: Mistake, text: &'a str, at: usize) -> Finding<'a>
     ensures { finding_content result ≡ spec.missing_comma (texts mistake.entry) text.now at }
@@ -250,7 +291,7 @@ fn missing_comma<'a>(mistake: Mistake, text: &'a str, at: usize) -> Finding<'a>
         found.edit = Some(span_of(end, end));
         found.code = pieces(",", "", "");
     }
-    found
+    safe_if(found, first_of_line(text, at) == at || is_pair(text, at))
 }
 
 /// Returns the finding for the token at `at`, where a comma or closing bracket is expected. If the token begins an
@@ -260,8 +301,7 @@ fn missing_comma<'a>(mistake: Mistake, text: &'a str, at: usize) -> Finding<'a>
 fn unseparated<'a>(mistake: Mistake, text: &'a str, at: usize) -> Finding<'a>
     ensures { finding_content result ≡ spec.unseparated (texts mistake.entry) text.now at }
 {
-    let is_unindented = start_of(Class::Line, text, at) == at;
-    if is_assignment(text, at) || byte_at(text, at) == b'[' && is_unindented {
+    if is_assignment(text, at) || is_section(text, at) {
         unclosed(text, at)
     } else {
         missing_comma(mistake, text, at)

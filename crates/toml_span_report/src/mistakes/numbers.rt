@@ -5,12 +5,14 @@ ghost use Rattle.toml_span_report.specs.Finding.{code_content, finding_content};
 ghost use Rattle.toml_span_report.specs.Words.{texts};
 ghost use Rattle.toml_span_report.specs.found.Numbers as spec;
 
-use crate::bytes::{Class, ahead, begins, byte_at, end_of, is_in, part, start_of};
-use crate::finding::{Code, Finding, in_quotes, marked, pieces, replaced, six};
+use crate::bytes::{Class, ahead, begins, byte_at, end_of, ends_value, is_in, part, start_of};
+use crate::finding::{Code, Finding, marked, pieces, replaced, safe_if, six};
 use crate::mistakes::dates::slash_date;
+use crate::mistakes::values::{float_word, unquoted_value};
 use crate::words::{
-    LEADING_ZERO, MISPLACED, Mistake, NO_DIGITS, NO_EXPONENT, OCTAL, OTHER_DIGIT, SIGNED_DECIMAL,
-    SIGNED_PREFIX, SIGNS, THOUSANDS, TOO_LARGE, TRAILING_POINT, UNDERSCORE, UNQUOTED, UPPER_PREFIX,
+    DECIMAL_COMMA, LEADING_ZERO, MISPLACED, Mistake, NO_DIGITS, NO_EXPONENT, OCTAL, OTHER_DIGIT,
+    SIGNED_DECIMAL, SIGNED_PREFIX, SIGNS, THOUSANDS, TOO_LARGE, TRAILING_POINT, UNDERSCORE,
+    UPPER_PREFIX,
 };
 
 /// Returns the offset after the sign of the number at `at`, or `at` if the number has no sign.
@@ -116,14 +118,18 @@ fn decimal_code<'a>(text: &'a str, start: usize, value: u64) -> Code<'a>
 }
 
 /// Returns the finding for a number with a sign before a prefix such as `0x`. The `0` of the prefix is at `zero`. The
-/// replacement is the number in decimal (0 without digits). The finding has no replacement if a digit is not valid, or
-/// if the number is too large or too small for an integer (`largest`).
+/// replacement is the number in decimal. The finding has no replacement if there are no digits, if a digit is not
+/// valid, or if the number is too large or too small for an integer (`largest`).
 #[tactic(auto, unfolding(crate::specs::found::Numbers::signed_prefix))]
 fn signed_prefix<'a>(text: &'a str, start: usize, zero: usize, end: usize) -> Finding<'a>
     ensures { finding_content result ≡ spec.signed_prefix text.now start zero end }
 {
-    let base = base_of(byte_at(text, ahead(text, zero, 1)));
-    match value_of(part(text, ahead(text, zero, 2), end), base) {
+    let letter = byte_at(text, ahead(text, zero, 1));
+    let digits = part(text, ahead(text, zero, 2), end);
+    if digits.is_empty() {
+        return marked(NO_DIGITS, start, end);
+    }
+    match value_of(digits, base_of(letter)) {
         Some(value) if value <= largest(text, start) => {
             replaced(SIGNED_DECIMAL, start, end, decimal_code(text, start, value))
         }
@@ -239,7 +245,8 @@ fn grouping_mistake(text: &str, digits: usize) -> Mistake
 
 /// Returns the finding for an invalid integer of digits and `_`, which begin at `digits`: too large, with a leading
 /// zero, or with a misplaced `_`. An integer that is too large has no replacement. For any other integer, the
-/// replacement has no leading zeros.
+/// replacement has no leading zeros. The replacement is not safe if the integer ends with `_`, since digits may be
+/// missing.
 #[tactic(auto, unfolding(crate::specs::found::Numbers::integer))]
 fn integer<'a>(text: &'a str, start: usize, digits: usize, end: usize) -> Finding<'a>
     ensures { finding_content result ≡ spec.integer text.now start digits end }
@@ -255,7 +262,10 @@ fn integer<'a>(text: &'a str, start: usize, digits: usize, end: usize) -> Findin
             } else {
                 decimal_code(text, start, value)
             };
-            replaced(grouping_mistake(text, digits), start, end, code)
+            safe_if(
+                replaced(grouping_mistake(text, digits), start, end, code),
+                byte_at(text, end.saturating_sub(1)) != b'_',
+            )
         }
         _ => marked(TOO_LARGE, start, end),
     }
@@ -327,7 +337,21 @@ fn plain<'a>(text: &'a str, start: usize, digits: usize, end: usize) -> Option<F
     } else if end <= end_of(Class::Number, text, start) {
         float(text, start, point, end)
     } else {
-        Some(in_quotes(UNQUOTED, text, start, end))
+        Some(unquoted_value(text, start))
+    }
+}
+
+/// Recognizes `Inf`, `NaN` and the like with a sign. The word after the sign is at `digits`.
+#[tactic(auto, unfolding(crate::specs::found::Numbers::signed_float))]
+fn signed_float<'a>(text: &'a str, start: usize, digits: usize, end: usize) -> Option<Finding<'a>>
+    ensures { option_map finding_content result ≡ spec.signed_float text.now start digits end }
+{
+    match float_word(part(text, digits, end)) {
+        Some(known) => {
+            let code = pieces(part(text, start, digits), known.code, "");
+            Some(replaced(known.mistake, start, end, code))
+        }
+        None => None,
     }
 }
 
@@ -349,7 +373,32 @@ pub(crate) fn number<'a>(text: &'a str, at: usize) -> Option<Finding<'a>>
         let code = pieces(part(text, digits, end), "", "");
         return Some(replaced(SIGNS, start, end, code));
     }
-    plain(text, start, digits, end)
+    match signed_float(text, start, digits, end) {
+        Some(found) => Some(found),
+        None => plain(text, start, digits, end),
+    }
+}
+
+/// Recognizes a decimal comma, at `at`, as in `1,5`.
+#[tactic(auto, unfolding(crate::specs::found::Numbers::decimal_comma))]
+pub(crate) fn decimal_comma<'a>(text: &'a str, at: usize) -> Option<Finding<'a>>
+    ensures { option_map finding_content result ≡ spec.decimal_comma text.now at }
+{
+    let start = start_of(Class::Atom, text, at);
+    let next = ahead(text, at, 1);
+    let end = end_of(Class::Digit, text, next);
+    let digits = after_sign(text, start);
+    if digits == at
+        || end_of(Class::Digit, text, digits) != at
+        || next == end
+        || !ends_value(text, end)
+    {
+        return None;
+    }
+    let (whole, rest) = (part(text, start, at), part(text, next, end));
+    let mut found = replaced(DECIMAL_COMMA, start, end, pieces(whole, ".", rest));
+    found.other = six("[", whole, ", ", rest, "]", "");
+    Some(found)
 }
 
 /// Recognizes digits that are grouped by commas. The first comma is at `at`.

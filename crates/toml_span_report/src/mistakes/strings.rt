@@ -5,14 +5,14 @@ ghost use Rattle.toml_span_report.specs.Finding.{finding_content};
 ghost use Rattle.toml_span_report.specs.found.Strings as spec;
 
 use crate::bytes::{
-    Class, ahead, begins, byte_at, end_of, first_of_line, last_of_line, part, start_of,
+    Class, ahead, are_all, begins, byte_at, end_of, first_of_line, last_of_line, part, start_of,
 };
 use crate::finding::{Finding, marked, mended, pieces, replaced, span_of};
 use crate::scan::{is_long, open_before};
 use crate::words::{
-    BACKSLASH, BACKSLASH_IN_LONG, CONTROL, CONTROL_IN_LITERAL, LONG_KEY, NO_CHARACTER, OPEN_KEY,
-    OPEN_LITERAL, OPEN_LONG, OPEN_LONG_LITERAL, OPEN_STRING, QUOTE_IN_STRING, SHORT_ESCAPE,
-    SURROGATE,
+    BACKSLASH, BACKSLASH_IN_LONG, CONTINUED, CONTROL, CONTROL_IN_LITERAL, LONG_KEY, NO_CHARACTER,
+    OPEN_KEY, OPEN_LITERAL, OPEN_LONG, OPEN_LONG_LITERAL, OPEN_STRING, QUOTE_IN_STRING,
+    SHORT_ESCAPE, SURROGATE,
 };
 
 /// Returns the finding for a single-line string that is not closed. Its opening quote is at `quote`, and its line ends
@@ -118,11 +118,17 @@ fn backslash<'a>(text: &'a str, at: usize, end: usize) -> Finding<'a>
     )
 }
 
-/// Returns the finding for a backslash that does not begin an escape. The character after the backslash is at `at`.
+/// Returns the finding for a backslash that does not begin an escape. The character after the backslash is at `at`. A
+/// backslash at the end of a line belongs to a string of several lines.
 pub(crate) fn escape<'a>(text: &'a str, at: usize) -> Finding<'a>
     ensures { finding_content result ≡ spec.escape text.now at }
 {
-    backslash(text, at.saturating_sub(1), ahead(text, at, 1))
+    let start = at.saturating_sub(1);
+    if matches!(byte_at(text, at), b'\n' | b'\r') {
+        marked(CONTINUED, start, at)
+    } else {
+        backslash(text, start, ahead(text, at, 1))
+    }
 }
 
 /// Returns the zeros that an escape with this letter and `count` digits lacks. An escape needs eight digits after `U`,
@@ -208,6 +214,18 @@ pub(crate) fn long_key<'a>(text: &'a str, at: usize) -> Finding<'a>
     marked(LONG_KEY, at, ahead(text, at, 3))
 }
 
+/// Returns the other quote for a string that begins with three quotes, or with one (`is_long`), of the kind of `quote`.
+fn other_quote(quote: u8, is_long: bool) -> &'static str
+    ensures { result.now ≡ spec.other_quote quote is_long }
+{
+    match (quote, is_long) {
+        (b'"', false) => "'",
+        (b'"', true) => "'''",
+        (_, false) => "\"",
+        (_, true) => "\"\"\"",
+    }
+}
+
 /// Recognizes a string that contains the quote that ends it, as in `a = "b "c" d"`. The string ends too early, before
 /// the token at `at`.
 #[tactic(auto, unfolding(crate::specs::found::Strings::quote_in_string))]
@@ -217,41 +235,29 @@ pub(crate) fn quote_in_string<'a>(text: &'a str, at: usize) -> Option<Finding<'a
     let equals = end_of(Class::Left, text, first_of_line(text, at));
     let open = end_of(Class::Blank, text, ahead(text, equals, 1));
     let end = last_of_line(text, at);
-    let close = end.saturating_sub(1);
     let quote = byte_at(text, open);
-    let content = ahead(text, open, 1);
-    let is_open = matches!(quote, b'"' | b'\'') && byte_at(text, close) == quote && at <= close;
-    if !is_open || end_of(Class::Unescaped, text, content) < close {
-        None
-    } else if quote == b'"' && !has(text, content, close, b'\'') {
-        let code = pieces("'", part(text, content, close), "'");
-        Some(mended(
-            QUOTE_IN_STRING,
-            span_of(open, end),
-            span_of(open, end),
-            code,
-        ))
-    } else if quote == b'\'' && !has(text, content, close, b'"') {
-        let code = pieces("\"", part(text, content, close), "\"");
-        Some(mended(
-            QUOTE_IN_STRING,
-            span_of(open, end),
-            span_of(open, end),
-            code,
-        ))
+    let width = if is_long(text, open) { 3 } else { 1 };
+    let close = end.saturating_sub(width);
+    let content = ahead(text, open, width);
+    let is_open = matches!(quote, b'"' | b'\'')
+        && begins(text, close, part(text, open, content).as_bytes())
+        && at <= close;
+    let class = if quote == b'"' {
+        Class::WithoutSingle
+    } else {
+        Class::WithoutDouble
+    };
+    if is_open
+        && are_all(class, text, content, close)
+        && are_all(Class::Unescaped, text, content, close)
+    {
+        let code = pieces(
+            other_quote(quote, width == 3),
+            part(text, content, close),
+            other_quote(quote, width == 3),
+        );
+        Some(replaced(QUOTE_IN_STRING, open, end, code))
     } else {
         None
     }
-}
-
-/// Returns whether the bytes `from..to` of a line contain the quote `quote`.
-fn has(text: &str, from: usize, to: usize, quote: u8) -> bool
-    ensures { result ≡ spec.has text.now from to quote }
-{
-    let class = if quote == b'"' {
-        Class::WithoutDouble
-    } else {
-        Class::WithoutSingle
-    };
-    end_of(class, text, from) < to
 }

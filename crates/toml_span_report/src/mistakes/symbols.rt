@@ -5,18 +5,20 @@ ghost use Rattle.toml_span_report.specs.Finding.{finding_content, substitute_con
 ghost use Rattle.toml_span_report.specs.found.Symbols as spec;
 
 use crate::bytes::{
-    Class, ahead, begins, byte_at, byte_before, end_of, first_of_line, is_last, last_of_line, part,
-    start_of,
+    Class, ahead, are_all, begins, byte_after, byte_at, byte_before, end_of, ends_value,
+    first_of_line, is_in, is_last, last_of_line, line_break, part, start_of,
 };
 use crate::finding::{
-    Finding, Substitute, as_substitute, marked, mended, pieces, removed, replaced, span_of,
+    Finding, Substitute, as_substitute, marked, mended, pieces, replaced, safe_if, span_of,
 };
 use crate::mistakes::keys::{comment, header_key, other_key, other_sign};
 use crate::mistakes::values::unquoted_value;
-use crate::scan::{is_in_header, open_before};
+use crate::scan::{innermost, is_in_header, open_before};
 use crate::words::{
-    ARROW, BACKTICKS, BLOCK_COMMENT, COMMENT_LINE, CONFLICT, CURLY_QUOTES, INVISIBLE, LONE_RETURN,
-    MARKUP, OTHER_SIGN, OTHER_SPACE, PARENTHESES, SEMICOLON, SEMICOLONS, SLASHES,
+    ARROW, BACKTICKS, BLOCK_COMMENT, COMMENT_LINE, CONFLICT, CURLY_QUOTES, INNER_COMMENT,
+    INVISIBLE, LONE_RETURN, MARKUP, NO_VALUE_AFTER_EQUALS, OTHER_SIGN, OTHER_SPACE, PARENTHESES,
+    SEMICOLON, SEMICOLON_BETWEEN, SEMICOLON_COMMENT, SEMICOLON_IN_ARRAY, SEMICOLON_IN_TABLE,
+    SEMICOLONS, SLASHES, YAML_TEXT,
 };
 
 /// Returns what to write instead of `c`: the ASCII character that `c` looks like, or empty code if `c` is invisible.
@@ -57,9 +59,25 @@ fn curly_name(c: char) -> &'static str
     }
 }
 
+/// Returns whether the last bytes of two curly quotes are those of two single quotes, or of two double quotes.
+fn are_paired(first: u8, last: u8) -> bool
+    ensures { result ≡ spec.are_paired first last }
+{
+    matches!(first, 0x98..=0x9A) && matches!(last, 0x98..=0x9A)
+        || matches!(first, 0x9C..=0x9E) && matches!(last, 0x9C..=0x9E)
+}
+
+/// Returns whether a key or a value can end at the offset `at`.
+fn ends_key_or_value(text: &str, at: usize) -> bool
+    ensures { result ≡ spec.ends_key_or_value text.now at }
+{
+    ends_value(text, at) || matches!(byte_after(text, at), b'=' | b'.' | b':')
+}
+
 /// Returns the finding for the curly quote at `at`, whose Unicode name is `name`. The finding has a replacement if a
-/// closing quote follows: the next character from U+2000 to U+2FFF on the line must be from U+2018 to U+201E, as curly
-/// quotes are. No straight quote, backtick or backslash may be between the two.
+/// closing quote follows: the next character from U+2000 to U+2FFF on the line must be a curly quote of the same kind,
+/// single or double, and a key or value must end there. No straight quote, backtick or backslash may be between the
+/// two. The replacement is not safe if `#` is between the two.
 #[tactic(auto, unfolding(crate::specs::found::Symbols::curly))]
 fn curly<'a>(text: &'a str, at: usize, name: &'static str) -> Finding<'a>
     ensures { finding_content result ≡ spec.curly text.now at name.now }
@@ -67,13 +85,20 @@ fn curly<'a>(text: &'a str, at: usize, name: &'static str) -> Finding<'a>
     let content = ahead(text, at, 3);
     let close = end_of(Class::Straight, text, content);
     let mark = span_of(at, ahead(text, at, 1));
+    let end = ahead(text, close, 3);
+    let (open, last) = (
+        byte_at(text, ahead(text, at, 2)),
+        byte_at(text, ahead(text, close, 2)),
+    );
     let is_closed = begins(text, close, b"\xE2\x80")
-        && matches!(byte_at(text, ahead(text, close, 2)), 0x98..=0x9E)
-        && end_of(Class::Unquoted, text, content) >= close
-        && end_of(Class::Unescaped, text, content) >= close;
+        && are_paired(open, last)
+        && ends_key_or_value(text, end)
+        && are_all(Class::Unquoted, text, content, close)
+        && are_all(Class::Unescaped, text, content, close);
     let found = if is_closed {
         let code = pieces("\"", part(text, content, close), "\"");
-        mended(CURLY_QUOTES, mark, span_of(at, ahead(text, close, 3)), code)
+        let found = mended(CURLY_QUOTES, mark, span_of(at, end), code);
+        safe_if(found, are_all(Class::Uncommented, text, content, close))
     } else {
         marked(CURLY_QUOTES, mark.start, mark.end)
     };
@@ -110,30 +135,79 @@ fn alike<'a>(text: &'a str, at: usize, c: char) -> Option<Finding<'a>>
     }
 }
 
-/// Returns the finding for the semicolon at `at`, which ends a line or begins a comment in other languages.
+/// Returns the finding for the semicolon at `at`, in an array or inline table, where `,` is meant.
+#[tactic(auto, unfolding(crate::specs::found::Symbols::semicolon_in_brackets))]
+fn semicolon_in_brackets<'a>(text: &'a str, at: usize) -> Finding<'a>
+    ensures { finding_content result ≡ spec.semicolon_in_brackets text.now at }
+{
+    let mistake = if byte_at(text, innermost(text, at)) == b'[' {
+        SEMICOLON_IN_ARRAY
+    } else {
+        SEMICOLON_IN_TABLE
+    };
+    replaced(mistake, at, ahead(text, at, 1), pieces(",", "", ""))
+}
+
+/// Returns the finding for the semicolon at `at`, outside brackets. It begins a comment if it is first on its line. At
+/// the end of a line, or before a comment, it is removed, together with the blanks before it. Before a key and `=`, it
+/// separates two assignments. Anywhere else, it probably begins a comment.
 #[tactic(auto, unfolding(crate::specs::found::Symbols::semicolon))]
 fn semicolon<'a>(text: &'a str, at: usize) -> Finding<'a>
     ensures { finding_content result ≡ spec.semicolon text.now at }
 {
     let end = ahead(text, at, 1);
-    if is_last(text, end) && first_of_line(text, at) != at {
-        return removed(SEMICOLON, at, end);
+    let mark = span_of(at, end);
+    let rest = end_of(Class::Blank, text, end);
+    if first_of_line(text, at) == at {
+        comment(SEMICOLONS, text, at, 1)
+    } else if is_last(text, end) || byte_at(text, rest) == b'#' {
+        let edit = span_of(start_of(Class::Blank, text, at), end);
+        mended(SEMICOLON, mark, edit, pieces("", "", ""))
+    } else if byte_at(text, end_of(Class::Left, text, end)) == b'=' {
+        let code = pieces(line_break(text, at), "", "");
+        mended(SEMICOLON_BETWEEN, mark, span_of(at, rest), code)
+    } else {
+        comment(SEMICOLON_COMMENT, text, at, 1)
     }
-    comment(SEMICOLONS, text, at, 1)
 }
 
-/// Returns the finding for the string in backticks that begins at `at`.
+/// Recognizes the mistake in the semicolon at `at`.
+#[tactic(auto, unfolding(crate::specs::found::Symbols::any_semicolon))]
+fn any_semicolon<'a>(text: &'a str, at: usize) -> Option<Finding<'a>>
+    ensures { option_map finding_content result ≡ spec.any_semicolon text.now at }
+{
+    let state = open_before(text, at);
+    if is_in_header(text, state) {
+        header_key(text, at)
+    } else if state.depth > 0 {
+        Some(semicolon_in_brackets(text, at))
+    } else if byte_before(text, at) == b'=' {
+        Some(marked(NO_VALUE_AFTER_EQUALS, at, ahead(text, at, 1)))
+    } else {
+        Some(semicolon(text, at))
+    }
+}
+
+/// Returns the finding for the string in backticks that begins at `at`. It has a replacement if the string is closed on
+/// its line and a key or value ends there. The replacement is not safe if the string contains `#`.
 #[tactic(auto, unfolding(crate::specs::found::Symbols::backticks))]
 fn backticks<'a>(text: &'a str, at: usize) -> Finding<'a>
     ensures { finding_content result ≡ spec.backticks text.now at }
 {
     let content = ahead(text, at, 1);
     let close = end_of(Class::Unquoted, text, content);
-    if byte_at(text, close) != b'`' || end_of(Class::Unescaped, text, content) < close {
+    let end = ahead(text, close, 1);
+    if byte_at(text, close) != b'`'
+        || !are_all(Class::Unescaped, text, content, close)
+        || !ends_key_or_value(text, end)
+    {
         return marked(BACKTICKS, at, content);
     }
     let code = pieces("\"", part(text, content, close), "\"");
-    replaced(BACKTICKS, at, ahead(text, close, 1), code)
+    safe_if(
+        replaced(BACKTICKS, at, end, code),
+        are_all(Class::Uncommented, text, content, close),
+    )
 }
 
 /// Returns the finding for the list in parentheses that begins at `at`.
@@ -185,7 +259,7 @@ fn block_comment<'a>(text: &'a str, at: usize) -> Finding<'a>
     replaced(COMMENT_LINE, at, last, pieces("#", content, ""))
 }
 
-/// Recognizes a sign of other languages at `at`: `//`, `/*`, `;`, or a carriage return.
+/// Recognizes a sign of other languages at `at`: `//`, `/*`, or a carriage return.
 #[tactic(auto, unfolding(crate::specs::found::Symbols::foreign))]
 fn foreign<'a>(text: &'a str, at: usize) -> Option<Finding<'a>>
     ensures { option_map finding_content result ≡ spec.foreign text.now at }
@@ -194,8 +268,6 @@ fn foreign<'a>(text: &'a str, at: usize) -> Option<Finding<'a>>
         Some(comment(SLASHES, text, at, 2))
     } else if begins(text, at, b"/*") {
         Some(block_comment(text, at))
-    } else if begins(text, at, b";") {
-        Some(semicolon(text, at))
     } else if begins(text, at, b"\r") {
         Some(marked(LONE_RETURN, at, ahead(text, at, 1)))
     } else {
@@ -220,6 +292,19 @@ fn unquoted_key_or_value<'a>(text: &'a str, at: usize, start: usize) -> Option<F
     }
 }
 
+/// Returns whether the `|` or `>` at `at` begins a text of several lines in YAML: at most two more bytes, the last of
+/// which is not a digit, and a line end follow.
+fn begins_yaml_text(text: &str, at: usize) -> bool
+    ensures { result ≡ spec.begins_yaml_text text.now at }
+{
+    matches!(byte_at(text, at), b'|' | b'>')
+        && last_of_line(text, at) <= ahead(text, at, 3)
+        && !is_in(
+            Class::Digit,
+            byte_at(text, last_of_line(text, at).saturating_sub(1)),
+        )
+}
+
 /// Recognizes the mistake in a value with an invalid character at `at`. The value begins at `start`, after `=`.
 #[tactic(auto, unfolding(crate::specs::found::Symbols::value))]
 fn value<'a>(text: &'a str, at: usize, start: usize) -> Option<Finding<'a>>
@@ -230,10 +315,13 @@ fn value<'a>(text: &'a str, at: usize, start: usize) -> Option<Finding<'a>>
             let from = at.saturating_sub(1);
             Some(other_sign(ARROW, text, from, ahead(text, at, 1)))
         }
-        b'|' | b'>' => None,
+        _ if start == at && begins_yaml_text(text, at) => {
+            Some(marked(YAML_TEXT, at, last_of_line(text, at)))
+        }
         b'\r' => Some(marked(LONE_RETURN, at, ahead(text, at, 1))),
         b'/' if start < at && begins(text, at, b"//") => Some(comment(SLASHES, text, at, 2)),
-        b';' if is_last(text, ahead(text, at, 1)) => Some(semicolon(text, at)),
+        b'/' if begins(text, at, b"/*") => Some(marked(INNER_COMMENT, at, ahead(text, at, 2))),
+        b'/' if begins(text, at, b"//") => Some(safe_if(unquoted_value(text, start), false)),
         b'`' => Some(backticks(text, at)),
         b'(' => Some(parentheses(text, at)),
         _ => Some(unquoted_value(text, start)),
@@ -247,6 +335,9 @@ pub(crate) fn unexpected<'a>(text: &'a str, at: usize, c: char) -> Option<Findin
 {
     if let Some(found) = alike(text, at, c) {
         return Some(found);
+    }
+    if c == ';' {
+        return any_semicolon(text, at);
     }
     let start = start_of(Class::Atom, text, at);
     if byte_before(text, start) == b'=' {

@@ -4,11 +4,17 @@ ghost use Rattle.std.specs.Prelude.{◌≡◌, option_map};
 ghost use Rattle.toml_span_report.specs.Finding.{finding_content, substitute_content};
 ghost use Rattle.toml_span_report.specs.found.Values as spec;
 
-use crate::bytes::{Class, ahead, byte_after, byte_at, end_of, part, start_of};
-use crate::finding::{Finding, Substitute, as_substitute, in_quotes, marked, pieces, replaced};
+use crate::bytes::{
+    Class, ahead, are_all, byte_after, byte_at, byte_before, end_of, ends_value, first_of_line,
+    is_in, part, start_of,
+};
+use crate::finding::{
+    Finding, Substitute, as_substitute, in_quotes, marked, pieces, replaced, safe_if,
+};
+use crate::scan::open_before;
 use crate::words::{
-    NEAR_FALSE, NEAR_TRUE, NULL, OTHER_BOOLEAN, OTHER_FLOAT, PREFIXED, RAW_STRING, UNQUOTED,
-    UNQUOTED_TEXT, UPPER_BOOLEAN,
+    INFINITY, NEAR_FALSE, NEAR_TRUE, NULL, NULL_ELEMENT, OTHER_BOOLEAN, OTHER_FLOAT, PREFIXED,
+    RAW_STRING, UNQUOTED, UNQUOTED_TEXT, UPPER_BOOLEAN,
 };
 
 /// Returns whether `word` and `name` are equal, or differ only at the offset `at`, where a byte is missing, extra or
@@ -71,37 +77,108 @@ pub(crate) fn known_word(word: &str) -> Option<Substitute>
         "False" | "FALSE" => as_substitute(UPPER_BOOLEAN, "", "false"),
         "yes" | "Yes" | "YES" | "on" | "On" | "ON" => as_substitute(OTHER_BOOLEAN, "", "true"),
         "no" | "No" | "NO" | "off" | "Off" | "OFF" => as_substitute(OTHER_BOOLEAN, "", "false"),
-        "null" | "Null" | "NULL" | "None" | "nil" | "undefined" => as_substitute(NULL, "", ""),
-        "NaN" | "NAN" | "Nan" => as_substitute(OTHER_FLOAT, "", "nan"),
-        "Infinity" | "infinity" | "Inf" | "INF" => as_substitute(OTHER_FLOAT, "", "inf"),
-        _ => near_boolean(word),
+        "null" | "Null" | "NULL" | "none" | "None" | "NONE" | "nil" | "undefined" => {
+            as_substitute(NULL, "", "")
+        }
+        _ => match float_word(word) {
+            Some(known) => Some(known),
+            None => near_boolean(word),
+        },
     }
 }
 
-/// Returns the end of a string that needs quotes. The string begins at `at`, and its first word ends at `end`. The
-/// string includes all words up to `#`, a comma, `]`, `}`, NUL, or the end of the line or text. If a quote, `=` or
-/// another control character comes first, returns `end`.
-#[tactic(auto, unfolding(crate::specs::found::Values::phrase_end))]
-pub(crate) fn phrase_end(text: &str, at: usize, end: usize) -> usize
-    ensures { result ≡ spec.phrase_end text.now at end }
+/// Returns the special float to write instead of a word with other capitals, or instead of `infinity`. Returns `None`
+/// for any other word.
+#[tactic(auto, unfolding(crate::specs::found::Values::float_word))]
+pub(crate) fn float_word(word: &str) -> Option<Substitute>
+    ensures { option_map substitute_content result ≡ spec.float_word word.now }
 {
-    let far = end_of(Class::Phrase, text, at);
-    match byte_at(text, far) {
-        0 | b'\n' | b'\r' | b'#' | b',' | b']' | b'}' => start_of(Class::Blank, text, far).max(end),
-        _ => end,
+    match word {
+        "NaN" | "NAN" | "Nan" => as_substitute(OTHER_FLOAT, "", "nan"),
+        "Inf" | "INF" => as_substitute(OTHER_FLOAT, "", "inf"),
+        "Infinity" | "infinity" | "INFINITY" => as_substitute(INFINITY, "", "inf"),
+        _ => None,
     }
 }
 
-/// Returns the finding for the value at `at`, which needs quotes.
+/// Returns whether a value can begin at the offset `at`: `=`, `[` or `,` is before it, or only blanks on its line.
+fn begins_value(text: &str, at: usize) -> bool
+    ensures { result ≡ spec.begins_value text.now at }
+{
+    matches!(byte_before(text, at), b'=' | b'[' | b',') || first_of_line(text, at) == at
+}
+
+/// Returns the end of the value at `at`, which needs quotes, in an array or inline table. Returns `at` if the end is
+/// not certain, because a quote, `=`, `;`, another bracket, or `#` without a blank before it comes first.
+#[tactic(auto, unfolding(crate::specs::found::Values::element_end))]
+fn element_end(text: &str, at: usize) -> usize
+    ensures { result ≡ spec.element_end text.now at }
+{
+    let far = end_of(Class::Element, text, at);
+    let end = start_of(Class::Blank, text, far);
+    match byte_at(text, far) {
+        0 | b'\n' | b'\r' | b',' | b']' | b'}' => end,
+        b'#' if end < far => end,
+        _ => at,
+    }
+}
+
+/// Returns the end of the value at `at`, which needs quotes, outside brackets: the end of its line, or a comment after
+/// a blank. A `;` at the end is not part of the value. Returns `at` if the end is not certain, because the comment may
+/// be part of the value, or the line has a second `=`. The first word of the value ends at `word`.
+#[tactic(auto, unfolding(crate::specs::found::Values::line_value_end))]
+fn line_value_end(text: &str, at: usize, word: usize) -> usize
+    ensures { result ≡ spec.line_value_end text.now at word }
+{
+    let far = end_of(Class::Uncommented, text, word);
+    let last = start_of(Class::Blank, text, far);
+    let end = if byte_at(text, last.saturating_sub(1)) == b';' {
+        start_of(Class::Blank, text, last.saturating_sub(1))
+    } else {
+        last
+    };
+    let is_comment = last < far && are_all(Class::Unquoted, text, at, far);
+    if byte_at(text, far) == b'#' && !is_comment || end_of(Class::Left, text, word) < far {
+        at
+    } else {
+        end
+    }
+}
+
+/// Returns the end of the value at `at`, which needs quotes, or `at` if the end is not certain. Takes time linear in
+/// `at`, to find out whether the value is in brackets.
+#[tactic(auto, unfolding(crate::specs::found::Values::whole_end))]
+pub(crate) fn whole_end(text: &str, at: usize) -> usize
+    ensures { result ≡ spec.whole_end text.now at }
+{
+    if open_before(text, at).depth > 0 {
+        element_end(text, at)
+    } else {
+        line_value_end(text, at, end_of(Class::Word, text, at))
+    }
+}
+
+/// Returns whether a number, a date or a time can begin with the byte.
+pub(crate) fn begins_number(byte: u8) -> bool
+    ensures { result ≡ spec.begins_number byte }
+{
+    is_in(Class::Digit, byte) || matches!(byte, b'+' | b'-' | b'.')
+}
+
+/// Returns the finding for the value at `at`, which needs quotes. The replacement puts the whole value in quotes. The
+/// finding has no replacement if the end of the value is not certain, or no value can begin at `at`. The replacement is
+/// not safe before `;`, or for a value such as `80a` that begins like a number and may be one with a typo.
 #[tactic(auto, unfolding(crate::specs::found::Values::unquoted_value))]
 pub(crate) fn unquoted_value<'a>(text: &'a str, at: usize) -> Finding<'a>
     ensures { finding_content result ≡ spec.unquoted_value text.now at }
 {
-    let end = end_of(Class::Word, text, at);
-    match byte_after(text, end) {
-        b'"' | b'\'' => marked(UNQUOTED_TEXT, at, end),
-        _ => in_quotes(UNQUOTED, text, at, phrase_end(text, at, end)),
+    let end = whole_end(text, at);
+    let is_certain = at < end && begins_value(text, at);
+    if !is_certain {
+        return marked(UNQUOTED_TEXT, at, end_of(Class::Word, text, at));
     }
+    let is_word = byte_after(text, end) != b';' && !begins_number(byte_at(text, at));
+    safe_if(in_quotes(UNQUOTED, text, at, end), is_word)
 }
 
 /// Returns the finding for a string with letters before its quote, such as `r".."`. The letters begin at `at`, and the
@@ -143,6 +220,22 @@ fn known_value<'a>(at: usize, end: usize, known: Substitute) -> Finding<'a>
     }
 }
 
+/// Returns the substitute `known` for the word at `at`. For `null` in an array, the mistake is another one, since an
+/// element has no key.
+#[tactic(auto, unfolding(crate::specs::found::Values::at_place))]
+fn at_place(text: &str, at: usize, known: Substitute) -> Substitute
+    ensures { substitute_content result ≡ spec.at_place text.now at (substitute_content known) }
+{
+    if known.code.is_empty() && byte_before(text, at) != b'=' {
+        Substitute {
+            mistake: NULL_ELEMENT,
+            ..known
+        }
+    } else {
+        known
+    }
+}
+
 /// Returns the finding for the word at `at`, which is written instead of a value.
 #[tactic(auto, unfolding(crate::specs::found::Values::unquoted))]
 pub(crate) fn unquoted<'a>(text: &'a str, at: usize) -> Finding<'a>
@@ -153,7 +246,7 @@ pub(crate) fn unquoted<'a>(text: &'a str, at: usize) -> Finding<'a>
         return prefixed_string(text, at, end);
     }
     match known_word(part(text, at, end)) {
-        Some(known) => known_value(at, end, known),
-        None => unquoted_value(text, at),
+        Some(known) if ends_value(text, end) => known_value(at, end, at_place(text, at, known)),
+        _ => unquoted_value(text, at),
     }
 }

@@ -6,30 +6,90 @@ ghost use Rattle.toml_span_report.specs.Words.{texts};
 ghost use Rattle.toml_span_report.specs.found.Wanted as spec;
 
 use crate::bytes::{
-    Class, ahead, begins, byte_after, byte_at, byte_before, end_of, first_of_line, is_in, is_last,
-    last_of_line, part, start_of,
+    Class, ahead, are_all, begins, byte_after, byte_at, byte_before, end_of, first_of_line, is_in,
+    is_last, last_of_line, line_break, part, start_of,
 };
-use crate::finding::{Finding, in_quotes, marked, mended, pieces, removed, replaced, span_of};
+use crate::finding::{
+    Finding, in_quotes, marked, mended, pieces, removed, replaced, safe_if, span_of,
+};
+use crate::mistakes::dates::is_date;
 use crate::mistakes::keys::{at_equals, at_key, extra};
-use crate::mistakes::lists::{at_bracket, at_comma, at_value, unfinished_key};
-use crate::mistakes::numbers::thousands;
+use crate::mistakes::lists::{at_bracket, at_comma, at_value, is_assignment, unfinished_key};
+use crate::mistakes::numbers::{decimal_comma, thousands};
 use crate::mistakes::strings::quote_in_string;
-use crate::mistakes::values::unquoted_value;
+use crate::mistakes::values::{begins_number, unquoted_value};
 use crate::tables::text_in;
 use crate::words::{
-    AFTER_VALUE, COMMA_AFTER_VALUE, EXTRA_CLOSING, FLOAT_EXPECTED, HALF_DAY, HEADER_BRACKET,
-    JOINED, KEY_AFTER_HEADER, LAST_COMMA, Mistake, SECOND_KEY, STRING_EXPECTED, VALUE_OF_HEADER,
-    ZONE_NAME,
+    AFTER_VALUE, BARE_ARRAY, COMMA_AFTER_VALUE, EXTRA_CLOSING, FLOAT_EXPECTED, HALF_DAY,
+    HEADER_BRACKET, JOINED, KEY_AFTER_HEADER, LAST_COMMA, Mistake, OFFSET_SPACE, SECOND_KEY,
+    STRING_EXPECTED, TWO_STRINGS, VALUE_OF_HEADER, ZONE_NAME,
 };
 use toml_span_lex::span::Span;
 
-/// Returns the finding for the key at `at`, which should be on the next line. The replacement puts a line feed in place
-/// of the bytes `from..at`.
+/// Returns the finding for the key at `at`, which should be on the next line. The replacement puts a line end
+/// (`line_break`) in place of the bytes `from..at`.
 fn onto_next_line<'a>(mistake: Mistake, text: &'a str, from: usize, at: usize) -> Finding<'a>
     ensures { finding_content result ≡ spec.onto_next_line (texts mistake.entry) text.now from at }
 {
     let mark = span_of(at, end_of(Class::Dotted, text, at));
-    mended(mistake, mark, span_of(from, at), pieces("\n", "", ""))
+    mended(
+        mistake,
+        mark,
+        span_of(from, at),
+        pieces(line_break(text, at), "", ""),
+    )
+}
+
+/// Returns the offset of the value before the offset `at`, on the same line, as far as this is certain: the first
+/// non-blank byte after the first `=` on the line, which does not begin with a quote. Otherwise returns `at`.
+#[tactic(auto, unfolding(crate::specs::found::Wanted::value_before))]
+fn value_before(text: &str, at: usize) -> usize
+    ensures { result ≡ spec.value_before text.now at }
+{
+    let line = first_of_line(text, at);
+    let equals = end_of(Class::Left, text, line);
+    let value = end_of(Class::Blank, text, ahead(text, equals, 1));
+    if byte_at(text, equals) == b'=' && !matches!(byte_at(text, line), b'"' | b'\'') {
+        value.min(at)
+    } else {
+        at
+    }
+}
+
+/// Returns the finding for the comma at `at` after a value, which other values follow on the same line. The code is an
+/// array of these values, unless `#` follows, which may be in a string.
+#[tactic(auto, unfolding(crate::specs::found::Wanted::bare_array))]
+fn bare_array<'a>(text: &'a str, at: usize) -> Finding<'a>
+    ensures { finding_content result ≡ spec.bare_array text.now at }
+{
+    let value = value_before(text, at);
+    let last = last_of_line(text, at);
+    let end = ahead(text, at, 1);
+    if value == at || !are_all(Class::Uncommented, text, at, last) {
+        return marked(BARE_ARRAY, at, end);
+    }
+    let code = pieces("[", part(text, value, last), "]");
+    mended(BARE_ARRAY, span_of(at, end), span_of(value, last), code)
+}
+
+/// Returns whether nothing, a comment, a header or an assignment begins at the offset `at`.
+fn begins_statement(text: &str, at: usize) -> bool
+    ensures { result ≡ spec.begins_statement text.now at }
+{
+    matches!(byte_at(text, at), 0 | b'#' | b'[') || is_assignment(text, at)
+}
+
+/// Returns the finding for the comma at `at` at the end of a line. The replacement is safe only if a new statement
+/// follows: otherwise, the next line may belong to the value.
+#[tactic(auto, unfolding(crate::specs::found::Wanted::last_comma))]
+fn last_comma<'a>(text: &'a str, at: usize) -> Finding<'a>
+    ensures { finding_content result ≡ spec.last_comma text.now at }
+{
+    let below = end_of(Class::Gap, text, end_of(Class::Line, text, at));
+    safe_if(
+        removed(LAST_COMMA, at, ahead(text, at, 1)),
+        begins_statement(text, below),
+    )
 }
 
 /// Returns the finding for the comma at `at`, after a value on the same line.
@@ -41,17 +101,17 @@ fn comma_after_value<'a>(text: &'a str, at: usize) -> Finding<'a>
     if let Some(found) = thousands(text, at) {
         return found;
     }
+    if let Some(found) = decimal_comma(text, at) {
+        return found;
+    }
     if is_last(text, end) || byte_after(text, end) == b'#' {
-        removed(LAST_COMMA, at, end)
+        last_comma(text, at)
     } else if byte_at(text, end_of(Class::Left, text, end)) == b'=' {
-        mended(
-            COMMA_AFTER_VALUE,
-            span_of(at, end),
-            span_of(at, end_of(Class::Blank, text, end)),
-            pieces("\n", "", ""),
-        )
+        let edit = span_of(at, end_of(Class::Blank, text, end));
+        let code = pieces(line_break(text, at), "", "");
+        mended(COMMA_AFTER_VALUE, span_of(at, end), edit, code)
     } else {
-        marked(AFTER_VALUE, at, end)
+        bare_array(text, at)
     }
 }
 
@@ -154,15 +214,79 @@ fn is_zone(word: &str) -> bool
     matches!(word, "UTC" | "GMT")
 }
 
-/// Returns the finding for `UTC` or `GMT`, in `at..end`, after a value that ends with a digit, such as a time.
-#[tactic(auto, unfolding(crate::specs::found::Wanted::zone))]
-fn zone<'a>(text: &'a str, at: usize, end: usize) -> Finding<'a>
-    ensures { finding_content result ≡ spec.zone text.now at end }
+/// Returns the start of the date and time that end at `end`, or `end` if no date and time end there.
+#[tactic(auto, unfolding(crate::specs::found::Wanted::datetime_before))]
+fn datetime_before(text: &str, end: usize) -> usize
+    ensures { result ≡ spec.datetime_before text.now end }
 {
+    let clock = start_of(Class::Clock, text, end);
+    let date = clock.saturating_sub(11);
+    if is_date(text, date, clock.saturating_sub(1))
+        && byte_at(text, ahead(text, clock, 2)) == b':'
+    {
+        date
+    } else {
+        end
+    }
+}
+
+/// Returns whether an offset such as `+02:00` is in `at..end`.
+fn is_offset(text: &str, at: usize, end: usize) -> bool
+    ensures { result ≡ spec.is_offset text.now at end }
+{
+    let hours = ahead(text, at, 1);
+    let minutes = ahead(text, at, 4);
+    matches!(byte_at(text, at), b'+' | b'-')
+        && end_of(Class::Digit, text, hours) == ahead(text, at, 3)
+        && byte_at(text, ahead(text, at, 3)) == b':'
+        && end_of(Class::Digit, text, minutes) == end
+        && ahead(text, at, 6) == end
+}
+
+/// Recognizes `UTC`, `GMT` or an offset such as `+02:00` after a date and time and a blank. It is at `at`.
+#[tactic(auto, unfolding(crate::specs::found::Wanted::zone))]
+fn zone<'a>(text: &'a str, at: usize) -> Option<Finding<'a>>
+    ensures { option_map finding_content result ≡ spec.zone text.now at }
+{
+    let end = end_of(Class::Word, text, at);
     let before = start_of(Class::Blank, text, at);
-    let start = start_of(Class::Atom, text, before);
-    let code = pieces(part(text, start, before), "Z", "");
-    mended(ZONE_NAME, span_of(at, end), span_of(start, end), code)
+    let start = datetime_before(text, before);
+    let (time, name) = (part(text, start, before), part(text, at, end));
+    if start == before || before == at {
+        None
+    } else if is_zone(name) {
+        Some(mended(
+            ZONE_NAME,
+            span_of(at, end),
+            span_of(start, end),
+            pieces(time, "Z", ""),
+        ))
+    } else if is_offset(text, at, end) {
+        Some(mended(
+            OFFSET_SPACE,
+            span_of(at, end),
+            span_of(start, end),
+            pieces(time, name, ""),
+        ))
+    } else {
+        None
+    }
+}
+
+/// Returns the finding for the word at `at`, after a value on the same line that is neither a string nor in brackets.
+/// If the word begins with a letter, both are probably one string without quotes.
+#[tactic(auto, unfolding(crate::specs::found::Wanted::second_value))]
+fn second_value<'a>(text: &'a str, at: usize) -> Finding<'a>
+    ensures { finding_content result ≡ spec.second_value text.now at }
+{
+    let value = value_before(text, at);
+    let is_string = value < at
+        && are_all(Class::Element, text, value, at)
+        && !begins_number(byte_at(text, at));
+    if !is_string {
+        return marked(AFTER_VALUE, at, end_of(Class::Word, text, at));
+    }
+    unquoted_value(text, value)
 }
 
 /// Returns the finding for the word at `at`, after a value on the same line.
@@ -171,18 +295,47 @@ fn word_after<'a>(text: &'a str, at: usize) -> Finding<'a>
     ensures { finding_content result ≡ spec.word_after text.now at }
 {
     let end = end_of(Class::Word, text, at);
-    let is_time = is_in(Class::Digit, byte_before(text, at));
-    let word = part(text, at, end);
-    if is_time && is_half_day(word) {
+    if is_in(Class::Digit, byte_before(text, at)) && is_half_day(part(text, at, end)) {
         return half_day(text, at, end);
-    }
-    if is_time && is_zone(word) {
-        return zone(text, at, end);
     }
     if byte_after(text, end_of(Class::Dotted, text, at)) == b'=' {
         return onto_next_line(SECOND_KEY, text, start_of(Class::Blank, text, at), at);
     }
-    marked(AFTER_VALUE, at, end)
+    match zone(text, at) {
+        Some(found) => found,
+        None => second_value(text, at),
+    }
+}
+
+/// Returns the finding for the token at `at`, after a string on the same line: a second string, a key, or the rest of
+/// the string if it contains the quote that ends it.
+#[tactic(auto, unfolding(crate::specs::found::Wanted::after_string))]
+fn after_string<'a>(text: &'a str, at: usize) -> Finding<'a>
+    ensures { finding_content result ≡ spec.after_string text.now at }
+{
+    let is_apart = start_of(Class::Blank, text, at) < at;
+    let is_string = matches!(byte_at(text, at), b'"' | b'\'');
+    if is_apart && !is_string {
+        return word_after(text, at);
+    }
+    if is_apart {
+        return marked(TWO_STRINGS, at, ahead(text, at, 1));
+    }
+    match quote_in_string(text, at) {
+        Some(found) => found,
+        None => marked(AFTER_VALUE, at, end_of(Class::Word, text, at)),
+    }
+}
+
+/// Returns the finding for the `+` at `at`, after a value on the same line, with a blank before it.
+#[tactic(auto, unfolding(crate::specs::found::Wanted::plus))]
+fn plus<'a>(text: &'a str, at: usize) -> Finding<'a>
+    ensures { finding_content result ≡ spec.plus text.now at }
+{
+    match zone(text, at) {
+        Some(found) => found,
+        None => marked(AFTER_VALUE, at, ahead(text, at, 1)),
+    }
 }
 
 /// Recognizes the mistake in the token at `at`, after a value on the same line. `found` names the token, as in
@@ -198,7 +351,8 @@ fn after_value<'a>(found: &str, text: &'a str, at: usize) -> Option<Finding<'a>>
         "a right bracket" | "a right brace" => Some(removed(EXTRA_CLOSING, at, ahead(text, at, 1))),
         "a plus" if is_string => Some(marked(JOINED, at, ahead(text, at, 1))),
         "a period" | "a colon" | "a plus" if start < at => Some(unquoted_value(text, start)),
-        "an identifier" | "a string" if is_string => quote_in_string(text, at),
+        "a plus" => Some(plus(text, at)),
+        "an identifier" | "a string" if is_string => Some(after_string(text, at)),
         "an identifier" => Some(word_after(text, at)),
         _ => Some(marked(AFTER_VALUE, at, ahead(text, at, 1))),
     }

@@ -3,8 +3,6 @@
 //! - `contains=NAME` and `take=NAME`.
 //! - `required=TYPE=NAME`, `required_s=TYPE=NAME`, `optional=TYPE=NAME`, `optional_s=TYPE=NAME`.
 //! - The last call is `finalize`, or `finalize_back`, which passes the root.
-ghost use Rattle.std.specs.Prelude.{IfSome};
-ghost use Rattle.toml_span_typed.specs.TableHelper.{AllWhole, state_of};
 
 use crate::output::Out;
 use crate::trees::shown::push_back;
@@ -34,9 +32,7 @@ pub fn push_fields<'de>(
 
 /// Makes a helper for the root of a document. Returns `None` if the root is not whole or not a table, or if an
 /// allocation fails.
-fn opened<'de>(alloc: Global, root: &mut Value<'de>) -> Option<TableHelper<'de>>
-    ensures { IfSome result (λ helper. AllWhole (state_of helper)) }
-{
+fn opened<'de>(alloc: Global, root: &mut Value<'de>) -> Option<TableHelper<'de>> {
     if !root.is_whole() {
         return None;
     }
@@ -47,9 +43,7 @@ fn opened<'de>(alloc: Global, root: &mut Value<'de>) -> Option<TableHelper<'de>>
 }
 
 /// Makes calls on a helper, and prints each with its result. Returns `false` at an unknown call.
-fn push_calls<'de>(helper: &mut TableHelper<'de>, calls: &'de [String], out: &mut Out) -> bool
-    requires { AllWhole (state_of helper.old) }
-{
+fn push_calls<'de>(helper: &mut TableHelper<'de>, calls: &'de [String], out: &mut Out) -> bool {
     for call in calls {
         out.push_str(call.as_str());
         out.push_str(": ");
@@ -62,10 +56,7 @@ fn push_calls<'de>(helper: &mut TableHelper<'de>, calls: &'de [String], out: &mu
 }
 
 /// Makes one call, and prints the result. Returns `false` for an unknown call or type.
-fn push_call<'de>(helper: &mut TableHelper<'de>, call: &'de str, out: &mut Out) -> bool
-    requires { AllWhole (state_of helper.old) }
-    ensures { AllWhole (state_of helper.new) }
-{
+fn push_call<'de>(helper: &mut TableHelper<'de>, call: &'de str, out: &mut Out) -> bool {
     let Some((name, arguments)) = call.split_once('=') else {
         return false;
     };
@@ -97,10 +88,7 @@ fn push_field<'de>(
     how: &str,
     arguments: &'de str,
     out: &mut Out,
-) -> bool
-    requires { AllWhole (state_of helper.old) }
-    ensures { AllWhole (state_of helper.new) }
-{
+) -> bool {
     let Some((kind, name)) = arguments.split_once('=') else {
         return false;
     };
@@ -115,16 +103,12 @@ fn push_field<'de>(
 }
 
 /// Reads the field `name` as `T` with the call `how`, and prints the result. Returns `false` for an unknown call.
-#[tactic(auto, using(toml_span_typed::proofs::Whole::found_whole))]
 fn push_as<'de, T: Deserialize<'de> + Debug>(
     helper: &mut TableHelper<'de>,
     how: &str,
     name: &'de str,
     out: &mut Out,
-) -> bool
-    requires { AllWhole (state_of helper.old) }
-    ensures { AllWhole (state_of helper.new) }
-{
+) -> bool {
     match how {
         "required" => out.debug(helper.required::<T>(name)),
         "required_s" => push_spanned(helper.required_s::<T>(name), out),

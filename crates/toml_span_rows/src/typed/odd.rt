@@ -18,7 +18,6 @@ fn custom<'de>(message: &'de str, span: Span) -> DeserError<'de> {
 pub struct Odd;
 
 impl<'de> Deserialize<'de> for Odd {
-    #[tactic(auto, using(toml_span_typed::proofs::Whole::found_whole))]
     fn deserialize(alloc: Global, value: &mut Value<'de>) -> Result<Odd, Stop<DeserError<'de>>> {
         let span = value.span;
         if value.as_bool().is_some() {

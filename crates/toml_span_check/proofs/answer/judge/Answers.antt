@@ -1,4 +1,5 @@
 use Rattle.toml_span_lex.proofs.Common.{nat_tests, common_steps, ◌≡◌, ◌≤◌, ◌<◌, ℕ, List, [], Result, Ok, Err, IfOk, IsUtf8, length, ap, subst, sym, arith, AllocError}
+use Rattle.std.specs.Prelude.{string_bytes}
 use Rattle.std.specs.Str.{IsValidUpTo}
 use Rattle.toml_span_check.specs.declared.answer.Judged.{Judged}
 use Rattle.toml_span_check.specs.declared.answer.Judged.TheVariants.{Text, Document}
@@ -6,12 +7,14 @@ use Rattle.toml_span_check.specs.declared.answer.Task.{Task}
 use Rattle.toml_span_check.specs.declared.formats.Format.{Format}
 use Rattle.toml_span_lines.specs.Run.{bound}
 use Rattle.toml_span_check.specs.Answer.{Answer, too_long, not_utf8, IsRead, IsAnswer}
+use Rattle.toml_span_check.specs.Fixable.{one_error}
 use Rattle.toml_span_check.specs.Schemas.{Says}
+use Rattle.toml_span_check.specs.declared.fixable.Count.{Count}
 use Rattle.toml_span_check.specs.code.Judged.{Judges, JudgesText}
 use Rattle.toml_span_check.proofs.answer.judge.Goals as goal
 
 -- a text with one error and no complaint
-with_one : (errors : ℕ) (complaint out text : List ℕ) → let v : ℕ × List ℕ = (errors, complaint) in v ≡ (1, []) → out ≡ text → let a : Answer = (errors, out, complaint) in a ≡ (1, text, [])
+with_one : (errors : Count) (complaint out text : List ℕ) → let v : Count × List ℕ = (errors, complaint) in v ≡ (one_error, []) → out ≡ text → let a : Answer = (errors, out, complaint) in a ≡ (one_error, text, [])
 with_one errors complaint out text v h = grind (arith, nat_tests, common_steps)
 
 long : (says : Says) (format : Format) (task : Task) (pointer name bytes : List ℕ) (answer : Answer) → bound < length bytes → answer ≡ too_long format name → IsAnswer says format task pointer name bytes answer
@@ -47,5 +50,7 @@ not_utf8_fault-requires g c = subst (IsValidUpTo c.args.bytes.now) (sym c.valid_
 pub returns-in_ok-text-in-Err : goal.returns-in_ok-text-in-Err
 returns-in_ok-text-in-Err g c =
     let front = subst (IsValidUpTo c.args.bytes.now) (sym c.valid_up_to-at.ensures) c.in-Err.ensures.cases.1 in
+    let v : Count × List ℕ = (c.plain-in-Err.result.count, string_bytes c.plain-in-Err.result.complaint) in
+    let one = subst (λ (n : Count). v ≡ (n, [])) c.one-in-Err.ensures c.plain-in-Err.ensures in
     λ pointer. no_text _ _ c.args.task pointer _ _ _ _ c.if-bytes-gt-BOUND.false c.in-Err.ensures.cases.0 front
-    (with_one _ _ _ _ c.plain-in-Err.ensures c.in_ok-text-in-Err.ensures)
+    (with_one _ _ _ _ one c.in_ok-text-in-Err.ensures)

@@ -1,10 +1,11 @@
 use Rattle.toml_span_lex.proofs.Common.{◌≡◌, ℕ, List, [], Vec, Result, IfOk, ◌++◌, ◌∙◌, ap, codes, Global, AllocError, arith, nat_tests, common_steps}
 use Rattle.toml_span_check.specs.Answer.{Answer, plain_fault, nothing_there}
+use Rattle.toml_span_check.specs.Fixable.{one_error}
 use Rattle.toml_span_check.specs.declared.formats.Format.{Format}
 use Rattle.toml_span_check.proofs.answer.nothing_there.Goals as goal
 
 stdout : (r : Result (Vec ℕ Global) AllocError) (format : Format) (pointer name message : List ℕ) → message ≡ codes "no value at `" ++ pointer ++ codes "`" →
-    IfOk r (λ out. out.items ≡ plain_fault format (codes "nothing-there") message name) → IfOk r (λ out. let a : Answer = (1, out.items, []) in a ≡ nothing_there format pointer name)
+    IfOk r (λ out. out.items ≡ plain_fault format (codes "nothing-there") message name) → IfOk r (λ out. let a : Answer = (one_error, out.items, []) in a ≡ nothing_there format pointer name)
 stdout r format pointer name message is h = grind (arith, nat_tests, common_steps)
 
 pub returns : goal.returns

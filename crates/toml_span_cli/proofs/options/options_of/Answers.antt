@@ -4,7 +4,7 @@ use Rattle.clap.specs.Values as clap
 use Rattle.clap.specs.Words.{App, HasMatchesOf, all_of, fault_of, found_of, is_simple, is_simple_and_free, matches_of, rows_of}
 use Rattle.clap.specs.declared.error.Error.{Error}
 use Rattle.clap.specs.declared.parser.matches.ArgMatches.{ArgMatches}
-use Rattle.toml_span_cli.specs.Options.{asked, check, common, faults, forms, get, is_given, kind_of, options, program, refusals, schemas, value_of}
+use Rattle.toml_span_cli.specs.Options.{asked, check, common, faults, fixing_of, forms, get, is_given, kind_of, options, program, refusals, schemas, value_of}
 use Rattle.toml_span_cli.specs.declared.options.Mistake.{Mistake}
 use Rattle.toml_span_cli.specs.declared.options.Query.{Query}
 use Rattle.toml_span_cli.specs.declared.options.Query.TheVariants as queries
@@ -69,7 +69,7 @@ returns-in-Ok-clause-ok c =
           ∙ or-none c.get_strs-in-Ok.result _ refl
           ∙ ap (λ (o : Option (List (List ℕ))). unwrap_or o []) (c.get_strs-in-Ok.ensures ∙ all-row c.in_ok-matches.matches _ ∙ ap (all_of (70 ∷ 73 ∷ 76 ∷ 69 ∷ [])) these);
       quiet = c.is_given.ensures ∙ ap (λ rs. is_given rs (113 ∷ 117 ∷ 105 ∷ 101 ∷ 116 ∷ [])) these;
-      fixing = c.is_given-in-Ok.ensures ∙ ap (λ rs. is_given rs (102 ∷ 105 ∷ 120 ∷ [])) these;
+      fixes = c.fixing_of.ensures ∙ ap fixing_of these;
     }
 
 pub returns-in-Ok-clause-fails : goal.returns-in-Ok-clause-fails

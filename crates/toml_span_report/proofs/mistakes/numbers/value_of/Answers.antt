@@ -1,6 +1,5 @@
 use Rattle.toml_span_lex.proofs.Common.{◌≡◌, refl}
-use Rattle.toml_span_report.specs.found.Numbers.{next_value, value_of}
-use Rattle.std.specs.Prelude.{slice_index}
+use Rattle.toml_span_report.specs.found.Numbers.{value_of}
 use Rattle.toml_span_report.proofs.ByteLemmas.{value-step}
 use Rattle.toml_span_report.proofs.mistakes.numbers.value_of.Goals as goal
 
