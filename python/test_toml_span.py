@@ -1,7 +1,7 @@
 """Tests of the module: python3 test_toml_span.py FOLDER
 
-FOLDER has the stored runs of `toml-span`, as in crates/toml_span_cli/runs. A run tagged_NAME has a document in `stdin`,
-and its values as JSON, each scalar with its type, in `stdout`.
+FOLDER has the stored runs of `toml-span`, as `scripts/transcripts.py expand toml_span_cli FOLDER` writes them. A run
+tagged_NAME has a document in `stdin`, and its values as JSON, each scalar with its type, in `stdout`.
 """
 
 import ast
@@ -29,7 +29,7 @@ try:
 except ImportError:
     tomllib = None
 
-FOLDER = sys.argv.pop() if len(sys.argv) > 1 else os.path.join("..", "crates", "toml_span_cli", "runs")
+FOLDER = sys.argv.pop() if len(sys.argv) > 1 else sys.exit(__doc__)
 RUNS = sorted(glob.glob(os.path.join(FOLDER, "tagged_*")))
 DOCUMENTS = [os.path.join(run, "stdin") for run in RUNS if not os.path.exists(os.path.join(run, "status"))]
 

@@ -50,7 +50,10 @@ strict=(-Wall -Wextra -Wconversion -Werror -O2 "-I$lib/../include")
 sanitize=("-fsanitize=address,undefined" -fno-sanitize-recover=all -g)
 tests=scripts/c_tests
 runs=crates/toml_span_cli/runs
-documents=("$runs"/data/*.toml "$runs"/tagged_*/stdin)
+# (the stored runs as folders, in which tagged_NAME has a document in the file stdin)
+python3 scripts/transcripts.py expand toml_span_cli "$work/runs"
+documents=("$runs"/data/*.toml "$work"/runs/tagged_*/stdin)
+if [ ! -f "${documents[-1]}" ]; then fail 1 "no stored run tagged_NAME has a document"; fi
 
 # exits STATUS COMMAND..: whether a command ends with this status
 exits() { "${@:2}"; [ $? -eq "$1" ]; }
@@ -150,7 +153,7 @@ build hold "$archive" -Wl,--wrap=malloc,--wrap=realloc
 told "refused memory and each room" "$work/hold" "${documents[@]}"
 if has valgrind; then
     told "refused memory under valgrind" valgrind --quiet --error-exitcode=9 --leak-check=full \
-        --errors-for-leak-kinds=all "$work/hold" "$runs"/tagged_{escapes,table_arrays}/stdin \
+        --errors-for-leak-kinds=all "$work/hold" "$work"/runs/tagged_{escapes,table_arrays}/stdin \
         "$runs/data/settings.toml"
 fi
 build fuzz "$archive"
@@ -172,7 +175,7 @@ if command -v python3 >/dev/null; then
     told "the wheel" install_wheel
     if has mypy; then told "types of the module" mypy --strict --cache-dir "$work/types" python/src; fi
     cp python/{test_toml_span,example}.py "$tests/times.py" "$work"
-    told "tests of the module" "$work/venv/bin/python" "$work/test_toml_span.py" "$runs"
+    told "tests of the module" "$work/venv/bin/python" "$work/test_toml_span.py" "$work/runs"
     told "the example in Python" "$work/venv/bin/python" "$work/example.py" examples/c/example.toml
     told "the command in Python" exits 1 "$work/venv/bin/python" -m toml_span "$runs/data/settings.toml"
     measured "$work/venv/bin/python" "$work/times.py" "$work"

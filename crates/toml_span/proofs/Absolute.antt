@@ -5,12 +5,13 @@ use Rattle.toml_span_read.specs.Data.{ParsedValue as Read, parsed, ParsedInner, 
 use Rattle.toml_span.specs.declared.claims.ClaimKind.{ClaimKind}
 use Rattle.toml_span.specs.declared.claims.ClaimKind.TheVariants.{Passed, StandardTable, ArrayOfTables, TableElement}
 use Rattle.toml_span.specs.declared.claims.HeaderInfo.{HeaderInfo}
-use Rattle.toml_span.specs.Paths.{same_path, with_key, with_position, enter, target, elements_added, opened_by}
+use Rattle.toml_span_read.specs.Paths.{same_path, with_key, with_position, enter, target, elements_added, opened_by}
 use Rattle.toml_span.specs.Claims.{Claims, no_claims, claimed, scope, followed, key_claims, value_claims, inner_claims, item_claims, pair_claims, assignments_claims, section_claims, element, assigned, dotted, header_info, header_claim, array_claims, end_claims, header_claims}
 use Rattle.toml_span.specs.code.Placing.{assignment_claims}
 use Rattle.toml_span.specs.code.Machine.{graft}
 use Rattle.toml_span.specs.code.Relative.{under, pair_at, passing, opening, adding, ending, entered, through, section_at, counts_after_adding, counts_after_end, counts_after_entered, counts_after_through, counts_after}
-use Rattle.toml_span.proofs.Grafts.{fun_ext, graft-is, graft-itself, path_ext, same_step-self, under-followed}
+use Rattle.toml_span_read.proofs.PathLemmas.{same_step-self}
+use Rattle.toml_span.proofs.Grafts.{fun_ext, graft-is, graft-itself, path_ext, under-followed}
 
 -- claims that move with their path
 abbrev pub Moves : (Path → Claims) → Type 0

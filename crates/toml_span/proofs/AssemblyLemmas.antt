@@ -34,7 +34,7 @@ use Rattle.toml_span.specs.declared.sections.Assembly.{Assembly}
 use Rattle.toml_span.specs.code.Assembling.{AssembleReturns, AssemblyBorrows, IsAssemblyOf, IsBare, IsAssembledFrom, AssemblesTo, PlacesAtRoot, Remaining}
 use Rattle.toml_span.proofs.Refusals.{first-headed, some_part}
 use Rattle.toml_span_tree.proofs.Values.{inner_view-Table}
-use Rattle.toml_span.specs.Paths.{elements_added, opened_by}
+use Rattle.toml_span_read.specs.Paths.{elements_added, opened_by}
 use Rattle.toml_span.specs.Flat.{flat, ShowsExactly}
 use Rattle.toml_span.specs.Parsing.{IsBorrowedTree}
 use Rattle.toml_span.specs.code.Relative.{section_at, counts_after}

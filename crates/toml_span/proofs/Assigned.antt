@@ -14,7 +14,7 @@ use Rattle.toml_span.specs.declared.claims.ClaimKind.TheVariants.{Assigned}
 use Rattle.toml_span.specs.declared.branch.Branch.{Branch}
 use Rattle.toml_span.specs.declared.branch.Branch.TheViews.{out-Branch, roll-Branch}
 use Rattle.toml_span.specs.declared.branch.Branch.TheOpen.{Branch-F}
-use Rattle.toml_span.specs.Paths.{same_path, same_step}
+use Rattle.toml_span_read.specs.Paths.{same_path, same_step}
 use Rattle.toml_span.specs.Claims.{claimed, assigned, pair_info, value_claims}
 use Rattle.toml_span.specs.code.Machine.{Cell, CellMap, no_cells, change, with_claim, OkOrClash, earliest_clash, clash_found, show_all, put_all, graft}
 use Rattle.toml_span.specs.code.Placing.{Places, IsFinished, ValueGives}

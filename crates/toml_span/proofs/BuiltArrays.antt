@@ -15,7 +15,7 @@ use Rattle.toml_span.specs.declared.claims.HeaderInfo.{HeaderInfo}
 use Rattle.toml_span.specs.Borrowed.{KeySpans, IsBorrowedRight, strings_and_keys, elements_strings, AreBorrowedRight}
 use Rattle.toml_span.specs.Claims.{Claims, array_claims, header_claim}
 use Rattle.toml_span.specs.Ordered.{IsOrdered, AreOrdered}
-use Rattle.toml_span.specs.Paths.{same_path}
+use Rattle.toml_span_read.specs.Paths.{same_path}
 use Rattle.toml_span.specs.code.Built.{EntryBuilt, IsSection, MakesEntry}
 use Rattle.toml_span.specs.code.Machine.{CellMap, change, clash_found, graft, key_spans, no_cell, no_cells, put_all, with_claim}
 use Rattle.toml_span.specs.code.Placing.{Array, NamesAscend, Table, place_shown}

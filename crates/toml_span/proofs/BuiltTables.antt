@@ -24,7 +24,7 @@ use Rattle.toml_span.specs.Borrowed.{KeySpans, IsBorrowedRight, strings_and_keys
 use Rattle.toml_span.specs.Claims.{Claim, Claims, array_claims, claimed, header_claim}
 use Rattle.toml_span.specs.Clashes.{clash_kind}
 use Rattle.toml_span.specs.Ordered.{IsOrdered, HoldsOrdered}
-use Rattle.toml_span.specs.Paths.{same_path}
+use Rattle.toml_span_read.specs.Paths.{same_path}
 use Rattle.toml_span.specs.code.Borrowed.{table_held}
 use Rattle.toml_span.specs.code.Built.{BuildsOn, EntryAt, EntryBuilt, EntryBuildsOn, EntryRight, EntryShows, IsBuilt, built, IsByHeader, IsKeyFor, IsSection, IsTableCell, MakesEntry, Placed, is_assigned}
 use Rattle.toml_span.specs.code.ClaimInfos.{earliest_clash_info, with_name}

@@ -7,7 +7,7 @@ use Rattle.toml_span.specs.declared.claims.ClaimInfo.{ClaimInfo}
 use Rattle.toml_span.specs.declared.branch.Branch.{Branch}
 use Rattle.toml_span.specs.declared.branch.Branch.TheViews.{out-Branch, roll-Branch}
 use Rattle.toml_span.specs.declared.branch.Branch.TheOpen.{Branch-F}
-use Rattle.toml_span.specs.Paths.{same_path}
+use Rattle.toml_span_read.specs.Paths.{same_path}
 use Rattle.toml_span.specs.Claims.{Claims, no_claims, claimed, followed, table_claim}
 use Rattle.toml_span.specs.Flat.{by_header}
 use Rattle.toml_span.specs.code.ClaimInfos.{PlaceError, first, first_by_header, has_kind, remember, same_kind}

@@ -12,11 +12,12 @@ use Rattle.toml_span.specs.declared.claims.ClaimKind.TheVariants.{Dotted, Assign
 use Rattle.toml_span.specs.declared.claims.ClashInfo.{ClashInfo}
 use Rattle.toml_span.specs.Claims.{Claim, Claims, no_claims, claimed, scope, assigned, dotted, key_claims, value_claims, assignments_claims}
 use Rattle.toml_span.specs.code.Placing.{assignment_claims}
-use Rattle.toml_span.specs.Paths.{same_path, with_key}
+use Rattle.toml_span_read.specs.Paths.{same_path, with_key}
 use Rattle.toml_span.specs.code.ClaimInfos.{earliest_clash_info, has_kind, with_name}
 use Rattle.toml_span.specs.code.Machine.{CellMap, change, with_claim, show_all, put_all, clash_found, earliest_clash}
 use Rattle.toml_span.proofs.Claimed.{remember-cases, same_kind-eq}
-use Rattle.toml_span.proofs.Grafts.{put_all-followed, same_step-self}
+use Rattle.toml_span_read.proofs.PathLemmas.{same_step-self}
+use Rattle.toml_span.proofs.Grafts.{put_all-followed}
 use Rattle.toml_span.proofs.Shown.{show_all-infos}
 
 path-self : (p : Path) → same_path p p ≡ true

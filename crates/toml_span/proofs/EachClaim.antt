@@ -6,16 +6,8 @@ use Rattle.toml_span_read.proofs.BorrowLemmas.{all_append}
 use Rattle.toml_span_read.specs.Data.{ParsedValue as Read, parsed, ParsedInner, scalar, array, inline, ParsedItems, no_items, item, ParsedPairs, no_pairs, pair, ParsedAssignment, SimpleKey}
 use Rattle.toml_span.specs.Claims.{Claim, Claims, no_claims, claimed, scope, followed, dotted, assigned, element, key_claims, value_claims, inner_claims, item_claims, pair_claims, assignments_claims}
 use Rattle.toml_span.specs.Flat.{by_header, flat, all_claims, deciding_claim}
-use Rattle.toml_span.specs.Paths.{same_path, same_step, with_key, with_position}
-use Rattle.toml_span.proofs.Grafts.{same_step-eq}
-
--- ---- paths
-
-pub same_path-eq : (p q : Path) → same_path p q ≡ true → p ≡ q
-unfolding same_path
-same_path-eq [] [] h = refl
-same_path-eq (s ∷ p) (t ∷ q) h = let both = and_parts (same_step s t) (same_path p q) h in cc (same_step-eq s t both.0, same_path-eq p q both.1)
-same_path-eq p q h = absurd (false≢true h)
+use Rattle.toml_span_read.specs.Paths.{same_path, same_step, with_key, with_position}
+use Rattle.toml_span_read.proofs.PathLemmas.{same_path-eq}
 
 -- ---- claims
 

@@ -1,9 +1,9 @@
 -- States below a step, and claims one after another.
 use Rattle.std.specs.Option.{option_or}
 use Rattle.toml_span_lex.proofs.Common.{◌≡◌, true, false, [], ◌∷◌, Option, None, refl, sym, ap, ◌∙◌, inl, inr, cases_Bool, bytes_eq-Decides, arith, nat_tests, common_steps}
-use Rattle.std.proofs.lemmas.Bool.{eqb-true, eq-eqb}
 use Rattle.toml_span_tree.specs.Path.{Path, Step}
-use Rattle.toml_span.specs.Paths.{same_step, same_path}
+use Rattle.toml_span_read.specs.Paths.{same_step, same_path}
+use Rattle.toml_span_read.proofs.PathLemmas.{same_step-eq, same_step-self}
 use Rattle.toml_span.specs.Claims.{Claims, no_claims, claimed, scope, followed}
 use Rattle.toml_span.specs.code.Machine.{Cell, CellMap, no_cells, change, with_claim, with_inner, show_all, put_all, clash_found, graft}
 use Rattle.toml_span.specs.code.Relative.{step_down, under}
@@ -18,12 +18,6 @@ path_ext {A} {f} {g} here below = fun_ext at
     at : (p : Path) → f p ≡ g p
     at [] = here
     at (s ∷ p) = below s p
-
-pub same_step-eq : (s t : Step) → same_step s t ≡ true → s ≡ t
-same_step-eq s t h = grind (arith, nat_tests, common_steps, bytes_eq-Decides, eqb-true)
-
-pub same_step-self : (s : Step) → same_step s s ≡ true
-same_step-self s = grind (arith, nat_tests, common_steps, bytes_eq-Decides, eq-eqb)
 
 -- a state that is `sub` below a step, and f elsewhere
 pub graft-is : {A : Type 0} (s : Step) (f sub g : Path → A) → g [] ≡ f [] → (λ q. g (s ∷ q)) ≡ sub

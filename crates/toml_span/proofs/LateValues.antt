@@ -15,7 +15,7 @@ use Rattle.toml_span_read.proofs.InsideLemmas.{ascend_forward}
 use Rattle.toml_span_read.proofs.KeyOrder.{dotted_ascend}
 use Rattle.toml_span_read.proofs.SpanLaws.{value_lies}
 use Rattle.toml_span.specs.Claims.{Claim, Claims, no_claims, claimed, scope, key_claims, value_claims, assignments_claims}
-use Rattle.toml_span.specs.Paths.{same_path}
+use Rattle.toml_span_read.specs.Paths.{same_path}
 use Rattle.toml_span.specs.code.Built.{IsLate}
 use Rattle.toml_span.specs.code.Machine.{CellMap, Decided, no_cells, change, with_inner, decide, decided, show_all}
 use Rattle.toml_span.specs.code.Placing.{ScopeGives, assignment_claims}
@@ -23,7 +23,8 @@ use Rattle.toml_span.specs.code.Relative.{under}
 use Rattle.toml_span.specs.code.Tree.{plain, value_shows}
 use Rattle.toml_span_lex.specs.Key.{is_named}
 use Rattle.toml_span.proofs.Absolute.{key_claims-under, value_claims-under}
-use Rattle.toml_span.proofs.EachClaim.{Each, each-followed, key-each, same_path-eq, value-each}
+use Rattle.toml_span_read.proofs.PathLemmas.{same_path-eq}
+use Rattle.toml_span.proofs.EachClaim.{Each, each-followed, key-each, value-each}
 
 -- ---- what was read
 

@@ -9,11 +9,12 @@ use Rattle.toml_span.specs.declared.branch.Branch.{Branch, the_lemmas}
 use Rattle.toml_span.specs.declared.branch.Branch.TheOpen.{Branch-F}
 use Rattle.toml_span.specs.declared.branch.Branch.TheViews.{roll-Branch, out-Branch}
 use Rattle.toml_span.specs.Ordered.{IsOrdered}
-use Rattle.toml_span.specs.Paths.{same_step}
+use Rattle.toml_span_read.specs.Paths.{same_step}
 use Rattle.toml_span.specs.code.Machine.{Cell, CellMap, no_cell, no_cells, graft}
 use Rattle.toml_span.specs.code.Tree.{IsEntry, IsFresh, IsNamed, IsOpen, IsScope, IsTableOrArray, NoArray, Sound, sound, cell_at, cells, child, child_in, closed, closed_in, closed_cell, count_at, counts, entries, item, infos, or_closed, or_nothing, or_zero, own_cell}
 use Rattle.toml_span_lex.specs.Key.{is_named}
-use Rattle.toml_span.proofs.Grafts.{fun_ext, graft-is, path_ext, same_step-eq, same_step-self}
+use Rattle.toml_span_read.proofs.PathLemmas.{same_step-eq, same_step-self}
+use Rattle.toml_span.proofs.Grafts.{fun_ext, graft-is, path_ext}
 
 pub roll-out : (n : Branch) → roll-Branch (out-Branch n) ≡ n
 roll-out n = search (rules, the_lemmas)

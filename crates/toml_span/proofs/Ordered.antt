@@ -10,7 +10,7 @@ use Rattle.toml_span_tree.specs.declared.value.Value.{Value}
 use Rattle.toml_span_read.proofs.EarlierTree.{key_cmp, same_name}
 use Rattle.toml_span.specs.Ordered.{HasOneEach, InnerHasOneEach, ItemsHaveOneEach, MembersHaveOneEach, IsNameBefore, EachName, IsOrdered, HoldsOrdered, AreOrdered, MembersOrdered}
 use Rattle.toml_span_lex.specs.Key.{is_named}
-use Rattle.toml_span.proofs.Grafts.{same_step-self}
+use Rattle.toml_span_read.proofs.PathLemmas.{same_step-self}
 
 -- ---- names and entries
 

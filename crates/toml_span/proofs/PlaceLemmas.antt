@@ -18,7 +18,7 @@ use Rattle.toml_span.specs.declared.claims.HeaderInfo.{HeaderInfo}
 use Rattle.toml_span.specs.declared.claims.ClaimInfo.{ClaimInfo}
 use Rattle.toml_span.specs.declared.claims.ClashInfo.{ClashInfo}
 use Rattle.toml_span.specs.declared.sections.Assembly.{Assembly}
-use Rattle.toml_span.specs.Paths.{with_key, enter, elements_added, opened_by, section_path}
+use Rattle.toml_span_read.specs.Paths.{with_key, enter, elements_added, opened_by, section_path}
 use Rattle.toml_span.specs.Claims.{Claims, no_claims, claimed, scope, followed, key_claims, value_claims, inner_claims, pair_claims, assignments_claims, end_claims, header_claims, section_claims, claims_after, claims, header_info}
 use Rattle.toml_span.specs.Clashes.{NamedClash, clash_kind, clash_info}
 use Rattle.toml_span.specs.Flat.{by_header}

@@ -18,7 +18,7 @@ use Rattle.toml_span.specs.Clashes.{NamedClash, clash_kind}
 use Rattle.toml_span.specs.code.Machine.{OkOrClash, earliest_clash, clash_found, put_all, graft}
 use Rattle.toml_span.specs.code.Placing.{Reaches, Places, Passes}
 use Rattle.toml_span.specs.code.Relative.{under}
-use Rattle.toml_span.specs.Paths.{same_step}
+use Rattle.toml_span_read.specs.Paths.{same_step}
 use Rattle.toml_span.specs.code.Tree.{infos, entries, child, child_in, closed, closed_infos, cells, counts, is_array_kind, is_entry_kind, IsChild, IsFresh, IsHeld, IsNamed, IsScope, Sound}
 use Rattle.toml_span_lex.specs.Key.{is_named}
 use Rattle.toml_span.proofs.Grafts.{reported-followed, put_all-followed, reported-under, put_all-under}

@@ -13,7 +13,7 @@ use Rattle.std.specs.Option.{option_or}
 use Rattle.toml_span.specs.code.Machine.{CellMap, no_cells, clash_found, put_all}
 use Rattle.toml_span.specs.code.Relative.{section_at, counts_after}
 use Rattle.toml_span.specs.Claims.{Claims, header_info, followed, assignments_claims, section_claims, header_claims, claims_after, claims}
-use Rattle.toml_span.specs.Paths.{elements_added, opened_by, target}
+use Rattle.toml_span_read.specs.Paths.{elements_added, opened_by, target}
 use Rattle.toml_span.specs.code.RootTable.{latest_first, IsRootOf, AddsSection}
 use Rattle.toml_span.specs.code.Built.{IsBuilt, BuildsOn}
 use Rattle.toml_span.proofs.Absolute.{section_at-is, counts_after-is}

@@ -15,7 +15,7 @@ use Rattle.toml_span.specs.Borrowed.{KeySpans, IsBorrowedRight, strings_and_keys
 use Rattle.toml_span.specs.Claims.{Claim, Claims, no_claims, claimed, scope, assignments_claims}
 use Rattle.std.specs.Option.{option_or}
 use Rattle.toml_span.specs.Ordered.{IsOrdered, MembersOrdered}
-use Rattle.toml_span.specs.Paths.{same_path}
+use Rattle.toml_span_read.specs.Paths.{same_path}
 use Rattle.toml_span.specs.code.Borrowed.{own_spans, own_table, table_held}
 use Rattle.toml_span.specs.code.Built.{EntryAt, EntryRight, built, IsEmptyBelow, IsLate, IsSection}
 use Rattle.toml_span.specs.code.Machine.{Cell, CellMap, Decided, change, clash_found, decide, decided, earliest_clash, key_spans, no_cell, no_cells, put_all, show_all, with_claim, with_inner}

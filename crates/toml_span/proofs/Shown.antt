@@ -8,7 +8,7 @@ use Rattle.toml_span_read.specs.Data.{ParsedAssignment}
 use Rattle.toml_span.specs.Claims.{Claim, Claims, no_claims, claimed, scope, assignments_claims}
 use Rattle.toml_span.specs.Flat.{by_header, all_claims, deciding_claim, flat}
 use Rattle.toml_span.specs.Borrowed.{first_key}
-use Rattle.toml_span.specs.Paths.{same_path}
+use Rattle.toml_span_read.specs.Paths.{same_path}
 use Rattle.toml_span.specs.code.Machine.{Cell, CellMap, Decided, no_cells, decide, decided, key_spans, with_span, with_claim, with_inner, change, show_all, put_all}
 use Rattle.toml_span.specs.code.Placing.{place_shown}
 use Rattle.toml_span.specs.code.Tree.{plain}

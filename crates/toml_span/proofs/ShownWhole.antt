@@ -9,10 +9,10 @@ use Rattle.toml_span.specs.Claims.{claims, Claim, value_shape, assignments_claim
 use Rattle.toml_span.specs.Flat.{flat, ShowsExactly}
 use Rattle.toml_span.specs.Ordered.{HasOneEach, ItemsHaveOneEach, MembersHaveOneEach}
 use Rattle.toml_span.proofs.EachClaim.{flat-decides, Each, each-followed, assignments-each}
-use Rattle.toml_span.proofs.Grafts.{same_step-self}
+use Rattle.toml_span_read.proofs.PathLemmas.{same_step-self}
 use Rattle.toml_span.proofs.Ordered.{same-name}
 use Rattle.toml_span.specs.declared.claims.HeaderInfo.{HeaderInfo}
-use Rattle.toml_span.specs.Paths.{enter, with_key}
+use Rattle.toml_span_read.specs.Paths.{enter, with_key}
 
 -- ---- what is claimed has not been taken
 

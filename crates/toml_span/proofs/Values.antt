@@ -18,7 +18,7 @@ use Rattle.toml_span_read.specs.declared.value.ValKind.TheVariants as kinds
 use Rattle.toml_span_read.proofs.Views.{view_is, kind_view-Array, kind_view-Inline}
 use Rattle.toml_span.specs.code.ClaimInfos.{PlaceError}
 use Rattle.toml_span_lex.specs.declared.stop.Stop.TheVariants.{Memory, Fault}
-use Rattle.toml_span.specs.Paths.{same_step, same_path}
+use Rattle.toml_span_read.specs.Paths.{same_step, same_path}
 use Rattle.toml_span_lex.specs.declared.span.Span.{Span}
 use Rattle.toml_span.specs.Claims.{Claim, Claims, no_claims, claimed, scope, followed, value_claims, inner_claims, item_claims, assignments_claims, element, value_shape}
 use Rattle.toml_span.specs.Clashes.{NamedClash}

@@ -16,7 +16,7 @@ use Rattle.toml_span_tree.specs.declared.value.Value.{Value}
 use Rattle.toml_span_tree.specs.declared.value.ValueInner.TheFolds.{fold-Value}
 use Rattle.toml_span.specs.Claims.{Claims}
 use Rattle.toml_span.specs.Flat.{all_claims}
-use Rattle.toml_span.specs.Paths.{same_path}
+use Rattle.toml_span_read.specs.Paths.{same_path}
 
 -- ---- the strings and keys of a tree
 

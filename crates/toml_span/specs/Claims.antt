@@ -9,7 +9,7 @@ use Rattle.toml_span.specs.declared.claims.ClaimInfo.{ClaimInfo}
 use Rattle.toml_span.specs.declared.claims.ClaimKind.{ClaimKind}
 use Rattle.toml_span.specs.declared.claims.ClaimKind.TheVariants.{ArrayOfTables, TableElement, Dotted, Assigned}
 use Rattle.toml_span.specs.declared.claims.ClaimKind.TheVariants.{StandardTable, Passed}
-use Rattle.toml_span.specs.Paths.{with_key, with_position, enter, section_path, elements_added, opened_by}
+use Rattle.toml_span_read.specs.Paths.{with_key, with_position, enter, section_path, elements_added, opened_by}
 use Rattle.toml_span.specs.declared.claims.HeaderInfo.{HeaderInfo}
 
 -- A claim on `path`, made by a part of a header or key with this name. `info` has its kind and spans. `place` is what

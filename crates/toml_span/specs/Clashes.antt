@@ -10,7 +10,7 @@ use Rattle.toml_span.specs.declared.claims.ClashKind.{ClashKind}
 use Rattle.toml_span.specs.declared.claims.ClashKind.TheVariants.{DuplicateTable, DuplicateKey, RedefineAsArray}
 use Rattle.toml_span.specs.declared.claims.ClaimInfo.{ClaimInfo}
 use Rattle.toml_span.specs.declared.claims.ClashInfo.{ClashInfo}
-use Rattle.toml_span.specs.Paths.{same_path}
+use Rattle.toml_span_read.specs.Paths.{same_path}
 use Rattle.toml_span.specs.Claims.{Claim, Claims, no_claims, claimed, scope}
 
 -- How two claims on the same path clash, or None if they do not. The first argument is the earlier claim. Headers may

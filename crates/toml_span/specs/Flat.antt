@@ -6,7 +6,7 @@ use Rattle.std.specs.Option.{option_or}
 use Rattle.toml_span_tree.specs.Path.{Path, shape_table, Place, place_at}
 use Rattle.toml_span_tree.specs.Node.{Node}
 use Rattle.toml_span.specs.Claims.{Claim, Claims, no_claims, claimed, scope}
-use Rattle.toml_span.specs.Paths.{same_path}
+use Rattle.toml_span_read.specs.Paths.{same_path}
 use Rattle.toml_span.specs.declared.claims.ClaimKind.{ClaimKind}
 use Rattle.toml_span.specs.declared.claims.ClaimKind.TheVariants.{Dotted, Assigned}
 

@@ -7,7 +7,7 @@ use Rattle.toml_span_tree.specs.Node.{Node}
 use Rattle.toml_span_tree.specs.Value.{view}
 use Rattle.toml_span_tree.specs.declared.error.Error.{Error}
 use Rattle.toml_span_tree.specs.Error.{ErrorContent, content_of}
-use Rattle.toml_span_typed.specs.Errors.{Errors, one}
+use Rattle.toml_span_tree.specs.Errors.{Errors, one}
 use Rattle.toml_span.specs.Parsing.{IsTree, IsRefusal}
 use Rattle.toml_span_read.specs.Data.{depth_limit}
 

@@ -4,7 +4,6 @@ pub use Rattle.toml_span_tree.specs.Node
 pub use Rattle.toml_span_tree.specs.Path
 pub use Rattle.toml_span_tree.specs.Pointer
 pub use Rattle.toml_span_tree.specs.Value
-pub mod Paths
 pub mod Claims
 pub mod Clashes
 pub mod Flat

@@ -12,7 +12,7 @@ use Rattle.toml_span.specs.declared.claims.HeaderInfo.{HeaderInfo}
 use Rattle.toml_span.specs.declared.claims.ClaimKind.TheVariants.{Passed, TableElement}
 use Rattle.toml_span.specs.Claims.{Claim, Claims, no_claims, claimed, scope, followed, value_shape, key_claims, value_claims, inner_claims, item_claims, pair_claims, assignments_claims, element, assigned, dotted, header_claim, array_claims, end_claims, header_claims, section_claims, claims_after, claims}
 use Rattle.toml_span.specs.Flat.{all_claims}
-use Rattle.toml_span.specs.Paths.{with_key, with_position, enter, elements_added, opened_by}
+use Rattle.toml_span_read.specs.Paths.{with_key, with_position, enter, elements_added, opened_by}
 use Rattle.toml_span_c.proofs.Paths.{total}
 use Rattle.toml_span_c.proofs.Costs.{Cost, place_cost, prices, claims_cost}
 

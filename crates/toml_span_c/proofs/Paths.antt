@@ -1,8 +1,8 @@
 -- Lists of paths with prices, split by the first steps of the paths.
 use Rattle.toml_span_lex.proofs.Common.{◌≡◌, ◌≤◌, ◌+◌, ◌⊎◌, ℕ, false, List, [], ◌∷◌, refl, arith, if◌then◌else◌, nat_tests, common_steps}
 use Rattle.toml_span_tree.specs.Path.{Path, Step}
-use Rattle.toml_span.specs.Paths.{same_step}
-use Rattle.toml_span.proofs.Grafts.{same_step-self}
+use Rattle.toml_span_read.specs.Paths.{same_step}
+use Rattle.toml_span_read.proofs.PathLemmas.{same_step-self}
 
 -- the path is in the list at this price or a higher one
 abbrev pub Has : Path → ℕ → List (Path × ℕ) → Type 0

@@ -13,7 +13,7 @@ use Rattle.toml_span_tree.specs.Value.{view}
 use Rattle.toml_span_tree.specs.declared.value.Value.{Value}
 use Rattle.toml_span_laws.proofs.FirstClash.{mapped}
 use Rattle.toml_span.specs.declared.claims.HeaderInfo.{HeaderInfo}
-use Rattle.toml_span.specs.Paths.{elements_added, opened_by, section_path, enter, target, with_key, with_position}
+use Rattle.toml_span_read.specs.Paths.{elements_added, opened_by, section_path, enter, target, with_key, with_position}
 use Rattle.toml_span.specs.Claims.{Claim, Claims, key_claims, value_claims, inner_claims, item_claims, pair_claims, assignments_claims, end_claims, header_claims, section_claims, claims_after, claims, header_info}
 use Rattle.toml_span.specs.Flat.{flat}
 use Rattle.toml_span_laws.specs.Laws.{keys_in}

@@ -8,7 +8,7 @@ use Rattle.toml_span_tree.specs.Path.{Path, key, position, Shape, shape_scalar, 
 use Rattle.toml_span_read.specs.Data.{ParsedValue, parsed, scalar, ParsedAssignment, ParsedSection, last_end, SimpleKey}
 use Rattle.toml_span.specs.declared.claims.ClaimKind.{ClaimKind}
 use Rattle.toml_span.specs.declared.claims.ClaimKind.TheVariants.{Passed, StandardTable, Dotted, Assigned}
-use Rattle.toml_span.specs.Paths.{same_path, enter, target, opened_by}
+use Rattle.toml_span_read.specs.Paths.{same_path, enter, target, opened_by}
 use Rattle.toml_span.specs.Claims.{Claim, Claims, no_claims, claimed, table_claim, followed, key_claims, value_claims, inner_claims, item_claims, pair_claims, assignments_claims, end_claims, header_claims, section_claims, claims_after, claims}
 use Rattle.toml_span.specs.Clashes.{Resolves, clash, clash_among, clash_after}
 use Rattle.toml_span.specs.Flat.{all_claims, flat}

@@ -9,8 +9,8 @@ use Rattle.toml_span_tree.specs.Node.{Node, node, table, Members, no_members, me
 use Rattle.toml_span_tree.specs.Path.{Path, key, Place, shape_table, place_of}
 use Rattle.toml_span.specs.Flat.{ShowsExactly}
 use Rattle.toml_span.specs.Ordered.{EachName, MembersOrdered}
-use Rattle.toml_span_typed.specs.Errors.{Errors}
-use Rattle.toml_span.proofs.Grafts.{same_step-self}
+use Rattle.toml_span_tree.specs.Errors.{Errors}
+use Rattle.toml_span_read.proofs.PathLemmas.{same_step-self}
 use Rattle.toml_span_tree.specs.Value.{is_filled}
 use Rattle.toml_span_typed.specs.declared.de_helpers.table_helper.TableHelper.{TableHelper}
 use Rattle.toml_span_typed.specs.declared.de_helpers.table_helper.Unfinished.{Unfinished}

@@ -7,7 +7,7 @@ use Rattle.toml_span.specs.declared.claims.ClaimKind.TheVariants.{TableElement}
 use Rattle.toml_span.specs.Claims.{Claim, Claims, no_claims, claimed, scope, claims}
 use Rattle.toml_span.specs.Clashes.{NamedClash, clash_kind, clash, clash_among, clash_after, first_clash}
 use Rattle.toml_span.specs.Flat.{all_claims}
-use Rattle.toml_span.proofs.EachClaim.{same_path-eq}
+use Rattle.toml_span_read.proofs.PathLemmas.{same_path-eq}
 use Rattle.toml_span_laws.specs.Clashing.{IsIn, DoClash, IsPair, IsFirstPair}
 use Rattle.toml_span_laws.specs.Order.{claim_start}
 use Rattle.toml_span_laws.proofs.Apart.{IsLater, Pairs, in-left, in-right, pairs-join, pairs-split, rising-later, strictly}

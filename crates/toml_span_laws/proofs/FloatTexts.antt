@@ -7,7 +7,7 @@ use Rattle.toml_span_tree.specs.Value.{view}
 use Rattle.toml_span_tree.specs.declared.value.Value.{Value}
 use Rattle.toml_span.specs.Ordered.{HasOneEach, ItemsHaveOneEach, MembersHaveOneEach}
 use Rattle.toml_span.specs.Parsing.{IsTree}
-use Rattle.toml_span.proofs.Grafts.{same_step-eq, same_step-self}
+use Rattle.toml_span_read.proofs.PathLemmas.{same_step-eq, same_step-self}
 use Rattle.toml_span.proofs.Ordered.{one-each}
 use Rattle.toml_span_read.specs.Again.{IsScalarText, HasFloatTexts, ItemsHaveFloatTexts, MembersHaveFloatTexts}
 use Rattle.toml_span_laws.proofs.CleanedFloats.{cleaned_spells}

@@ -7,9 +7,9 @@ use Rattle.toml_span_read.specs.Grammar.{SpellsDocument}
 use Rattle.toml_span.specs.declared.claims.ClaimKind.TheVariants.{Passed, TableElement, Assigned}
 use Rattle.toml_span.specs.Claims.{Claim, Claims, no_claims, claimed, scope, claims}
 use Rattle.toml_span.specs.Flat.{by_header, all_claims, deciding_claim}
-use Rattle.toml_span.specs.Paths.{same_path}
-use Rattle.toml_span.proofs.Grafts.{same_step-self}
-use Rattle.toml_span.proofs.EachClaim.{same_path-eq, claims_at}
+use Rattle.toml_span_read.specs.Paths.{same_path}
+use Rattle.toml_span_read.proofs.PathLemmas.{same_path-eq, same_step-self}
+use Rattle.toml_span.proofs.EachClaim.{claims_at}
 use Rattle.toml_span.proofs.Refusals.{spelled-headed}
 use Rattle.toml_span_laws.proofs.Apart.{in-cases, Pairs, in-left, in-right, pairs-join, pairs-split}
 use Rattle.toml_span_laws.proofs.FirstClash.{cases_option, IsFree, AreFree, are-free}

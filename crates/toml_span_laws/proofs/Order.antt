@@ -15,7 +15,7 @@ use Rattle.toml_span.specs.Claims.{Claim, Claims, no_claims, claimed, scope, fol
 use Rattle.toml_span.specs.code.Placing.{assignment_claims}
 use Rattle.toml_span.specs.Flat.{all_claims}
 use Rattle.toml_span_laws.specs.Order.{claim_start, Follows, Ascends}
-use Rattle.toml_span.specs.Paths.{with_key, with_position, enter, elements_added, opened_by, section_path}
+use Rattle.toml_span_read.specs.Paths.{with_key, with_position, enter, elements_added, opened_by, section_path}
 
 -- ---- lists of claims
 

@@ -9,7 +9,7 @@ use Rattle.toml_span.specs.Clashes.{NamedClash, clash_info, clash_kind, clash, c
 use Rattle.toml_span.specs.code.ClaimInfos.{with_name}
 use Rattle.toml_span.specs.Flat.{all_claims, by_header, deciding_claim, flat}
 use Rattle.toml_span.proofs.EachClaim.{claims_at}
-use Rattle.toml_span.specs.Paths.{same_path, with_key, with_position, enter, target, opened_by, elements_added, section_path}
+use Rattle.toml_span_read.specs.Paths.{same_path, with_key, with_position, enter, target, opened_by, elements_added, section_path}
 use Rattle.toml_span.specs.declared.claims.ClaimInfo.{ClaimInfo}
 use Rattle.toml_span.specs.declared.claims.ClaimKind.{ClaimKind}
 use Rattle.toml_span.specs.declared.claims.ClaimKind.TheVariants.{Passed, StandardTable, ArrayOfTables, TableElement, Dotted, Assigned}

@@ -16,7 +16,7 @@ use Rattle.toml_span.specs.declared.claims.ClaimKind.TheVariants.{Passed, Standa
 use Rattle.toml_span.specs.Claims.{shape_claimed, Claim, Claims, no_claims, claimed, scope, followed, key_claims, value_claims, inner_claims, item_claims, pair_claims, assignments_claims, header_info, header_claims, section_claims, claims_after, claims, value_shape}
 use Rattle.toml_span.specs.Flat.{all_claims, flat}
 use Rattle.toml_span.specs.Parsing.{IsTree}
-use Rattle.toml_span.specs.Paths.{with_key, with_position, elements_added, opened_by, section_path}
+use Rattle.toml_span_read.specs.Paths.{with_key, with_position, elements_added, opened_by, section_path}
 use Rattle.toml_span.proofs.EachClaim.{flat-decides}
 use Rattle.toml_span_laws.specs.Clashing.{IsIn}
 use Rattle.toml_span_laws.proofs.Apart.{each-in}

@@ -7,9 +7,9 @@ use Rattle.toml_span.specs.declared.claims.ClaimKind.{ClaimKind}
 use Rattle.toml_span.specs.declared.claims.ClaimKind.TheVariants.{Passed, StandardTable, ArrayOfTables, TableElement, Assigned}
 use Rattle.toml_span.specs.declared.claims.HeaderInfo.{HeaderInfo}
 use Rattle.toml_span.specs.Claims.{Claim, Claims, no_claims, claimed, scope, followed, key_claims, value_claims, inner_claims, item_claims, pair_claims, assignments_claims, element, assigned, dotted, header_info, header_claim, array_claims, end_claims, header_claims, section_claims, claims_after, claims}
-use Rattle.toml_span.specs.Paths.{same_path, with_key, with_position, enter, target, elements_added, opened_by, section_path}
+use Rattle.toml_span_read.specs.Paths.{same_path, with_key, with_position, enter, target, elements_added, opened_by, section_path}
 use Rattle.toml_span.specs.code.Placing.{AreSections}
-use Rattle.toml_span.proofs.EachClaim.{same_path-eq}
+use Rattle.toml_span_read.proofs.PathLemmas.{same_path-eq}
 use Rattle.toml_span_laws.specs.Clashing.{IsIn, own}
 use Rattle.toml_span_laws.proofs.Apart.{in-left, in-right}
 

@@ -9,7 +9,7 @@ use Rattle.toml_span.specs.declared.claims.ClaimKind.TheVariants.{Passed, Standa
 use Rattle.toml_span.specs.declared.claims.HeaderInfo.{HeaderInfo}
 use Rattle.toml_span.specs.Claims.{Claim, Claims, no_claims, claimed, scope, header_claim, array_claims, end_claims, header_claims, followed, shape_claimed, value_shape, element, key_claims, value_claims, inner_claims, item_claims, pair_claims, assignments_claims, section_claims, claims_after, claims, header_info}
 use Rattle.toml_span.specs.Flat.{by_header}
-use Rattle.toml_span.specs.Paths.{with_key, with_position, enter, elements_added, opened_by, section_path}
+use Rattle.toml_span_read.specs.Paths.{with_key, with_position, enter, elements_added, opened_by, section_path}
 use Rattle.toml_span_tree.specs.Node.{Scalar}
 use Rattle.toml_span_read.specs.Grammar.{Spells, SpellsDocument, ItemsWith, PairsWith, AssignmentsWith, SectionsWith, SpellsScalar}
 use Rattle.toml_span.proofs.Grafts.{followed-assoc}

@@ -10,7 +10,7 @@ use Rattle.toml_span_read.specs.Grammar.{Spells, SpellsDocument, SpellsLines, It
 use Rattle.toml_span_read.specs.Keys.{SpellsKey}
 use Rattle.toml_span.specs.declared.claims.ClaimKind.TheVariants.{Dotted, Assigned, StandardTable}
 use Rattle.toml_span.specs.Claims.{Claim, Claims, no_claims, claimed, scope, followed, key_claims, value_claims, inner_claims, item_claims, pair_claims, assignments_claims, element, assigned, dotted, header_claim, end_claims, header_claims, section_claims, claims_after, claims, header_info}
-use Rattle.toml_span.specs.Paths.{with_key, with_position, enter, target, elements_added, opened_by, section_path}
+use Rattle.toml_span_read.specs.Paths.{with_key, with_position, enter, target, elements_added, opened_by, section_path}
 use Rattle.toml_span_laws.specs.Clashing.{DoClash, IsIn, own, IsPair, IsFirstPair}
 use Rattle.toml_span_laws.proofs.Apart.{in-cases, in-right, pairs-split, IsLater, Pairs, rising-later}
 use Rattle.toml_span_laws.proofs.OneScope.{Peaceful, do-clash, peaceful-across, peaceful-push, peaceful-two, two-of, path-self}

@@ -11,8 +11,9 @@ use Rattle.toml_span.specs.declared.claims.ClaimKind.TheVariants.{Assigned}
 use Rattle.toml_span.specs.Claims.{Claim, Claims, no_claims, claimed, scope, followed, value_claims, inner_claims, item_claims, pair_claims, value_shape, claims, key_claims, element, assigned, dotted, assignments_claims, header_claims, section_claims, claims_after}
 use Rattle.toml_span.specs.Clashes.{Resolves, clash_kind}
 use Rattle.toml_span.specs.Flat.{by_header, all_claims, deciding_claim, flat}
-use Rattle.toml_span.specs.Paths.{same_path, with_key, with_position, target, opened_by}
-use Rattle.toml_span.proofs.EachClaim.{same_path-eq, claims_at}
+use Rattle.toml_span_read.specs.Paths.{same_path, with_key, with_position, target, opened_by}
+use Rattle.toml_span_read.proofs.PathLemmas.{same_path-eq, same_step-self}
+use Rattle.toml_span.proofs.EachClaim.{claims_at}
 use Rattle.toml_span_read.proofs.ReadSound.{document_sound}
 use Rattle.toml_span_laws.proofs.Complete.{document_complete}
 use Rattle.toml_span_laws.specs.Clashing.{IsIn, DoClash}
@@ -24,7 +25,6 @@ use Rattle.toml_span_laws.proofs.OneScope.{path-self, Scene, claim-before, docum
 use Rattle.toml_span_laws.proofs.Order.{all_claims-followed}
 use Rattle.toml_span_laws.proofs.Scoped.{IsUnder, under-from, longer}
 use Rattle.toml_span_laws.specs.Again.{moved, moved_items, moved_pairs, moved_parts, moved_span, ReadsAgain, assignment_again}
-use Rattle.toml_span.proofs.Grafts.{same_step-self}
 use Rattle.toml_span_laws.specs.Moved.{moved_place, HasMovedPlaces, AssignsBrackets, text_again, at_x}
 use Rattle.toml_span_laws.proofs.FirstPair.{clash-blames, free-clash, free-of}
 use Rattle.toml_span_lex.specs.declared.span.Span.{Span}

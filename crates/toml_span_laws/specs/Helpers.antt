@@ -12,7 +12,7 @@ use Rattle.toml_span_tree.specs.declared.error.Error.{Error}
 use Rattle.toml_span_tree.specs.Error.{content_of, ErrorContent, unexpected_keys}
 use Rattle.toml_span_typed.specs.TableHelper.{AfterAllocError, State, keeping, missing, noted, remaining_keys}
 use Rattle.toml_span_typed.specs.TableHelper.{where_filled}
-use Rattle.toml_span_typed.specs.Errors.{Errors, all}
+use Rattle.toml_span_tree.specs.Errors.{Errors, all}
 use Rattle.toml_span_laws.specs.Document.{IsValueOf, subtree}
 
 -- the places of a table without those at the key with this name and below

@@ -6,7 +6,7 @@ ghost use Rattle.toml_span_lex.specs.Strings.{HasChange};
 ghost use Rattle.toml_span_lex.specs.declared.span.Span.{Span};
 ghost use Rattle.toml_span_lex.specs.declared.stop.Stop.{Stop};
 ghost use Rattle.toml_span_lex.specs.declared.stop.Stop.TheVariants.{Fault as refused};
-ghost use Rattle.toml_span_typed.specs.Errors.{Errors};
+ghost use Rattle.toml_span_tree.specs.Errors.{Errors};
 ghost use Rattle.toml_span_typed.specs.TableHelper.{OpensTable, Refuses, Requires, State, Tries};
 ghost use Rattle.toml_span_typed.specs.declared.de_helpers.table_helper.TableHelper.{TableHelper};
 ghost use Rattle.toml_span_typed.specs.declared.de_helpers.table_helper.Unfinished.{Unfinished};

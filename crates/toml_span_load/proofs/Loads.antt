@@ -3,7 +3,7 @@ use Rattle.toml_span_lex.proofs.Common.{ℕ, List, [], Result, Err, map, string_
 use Rattle.toml_span_lex.specs.declared.stop.Stop.{Stop}
 use Rattle.toml_span_lex.specs.declared.stop.Stop.TheVariants as stops
 use Rattle.toml_span_tree.specs.Node.{Node}
-use Rattle.toml_span_typed.specs.Errors.{Errors, all}
+use Rattle.toml_span_tree.specs.Errors.{Errors, all}
 use Rattle.toml_span_tree.specs.Error.{ErrorContent}
 use Rattle.toml_span.specs.FromText.{NotRead, NotReadWithWarnings}
 use Rattle.toml_span_load.specs.Load.{AreShown, NotLoadedWithWarnings, failed}

@@ -4,7 +4,7 @@ use Rattle.toml_span_lex.specs.declared.stop.Stop.{Stop}
 use Rattle.toml_span_lex.specs.declared.stop.Stop.TheVariants as stops
 use Rattle.toml_span_tree.specs.Error.{ErrorContent}
 use Rattle.toml_span_tree.specs.Node.{Node}
-use Rattle.toml_span_typed.specs.Errors.{Errors, all}
+use Rattle.toml_span_tree.specs.Errors.{Errors, all}
 use Rattle.toml_span.specs.FromText.{IsReadWithWarnings, NotRead, NotReadWithWarnings}
 use Rattle.toml_span_report.specs.Many.{AreReportTexts}
 use Rattle.toml_span_report.specs.Reads.{AreReportsOf}

@@ -3,9 +3,8 @@ use Rattle.toml_span_lex.proofs.Common.{◌≡◌, ℕ, ◌+◌, Bool, true, con
 use Rattle.std.specs.Cmp.{both_tied}
 use Rattle.std.proofs.Math.Path.{fun_ext}
 use Rattle.toml_span_tree.specs.Path.{Path}
-use Rattle.toml_span.specs.Paths.{elements_added, opened_by, same_path, same_step}
-use Rattle.toml_span.proofs.EachClaim.{same_path-eq}
-use Rattle.toml_span.proofs.Grafts.{same_step-self}
+use Rattle.toml_span_read.specs.Paths.{elements_added, opened_by, same_path, same_step}
+use Rattle.toml_span_read.proofs.PathLemmas.{same_path-eq, same_step-self}
 use Rattle.toml_span_read.specs.Data.{ParsedSection}
 use Rattle.toml_span_places.specs.code.Opened.{counts_after, counts_in, one_more, sorted_step}
 use Rattle.toml_span_places.specs.code.Opened.{sorted_steps}

@@ -4,7 +4,7 @@ use Rattle.toml_span_lex.specs.declared.key.Key.{Key}
 use Rattle.toml_span_tree.specs.declared.nodes.Step.{Step as Lent}
 use Rattle.toml_span_tree.specs.Path.{Path}
 use Rattle.toml_span_read.specs.Data.{ParsedSection, simple_key}
-use Rattle.toml_span.specs.Paths.{enter, target, with_key}
+use Rattle.toml_span_read.specs.Paths.{enter, target, with_key}
 use Rattle.toml_span_places.specs.Mentions.{Mentioned, by_header, header_mentions, inside, latest, steps_of}
 use Rattle.toml_span_places.specs.declared.keys.Role.TheVariants as roles
 use Rattle.toml_span_places.specs.declared.tables.TableForm.TheVariants as forms

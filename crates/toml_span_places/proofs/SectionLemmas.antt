@@ -3,7 +3,7 @@ use Rattle.toml_span_lex.proofs.Common.{◌≡◌, ◌∙◌, ℕ, ◌+◌, ◌<
 use Rattle.toml_span_tree.specs.Path.{Path}
 use Rattle.toml_span_read.specs.Data.{ParsedSection, parsed_section}
 use Rattle.toml_span_read.specs.declared.section.Section.{Section}
-use Rattle.toml_span.specs.Paths.{elements_added, opened_by}
+use Rattle.toml_span_read.specs.Paths.{elements_added, opened_by}
 use Rattle.toml_span_places.specs.Mentions.{Mentioned, mentions_after, section_mentions}
 use Rattle.toml_span_places.specs.code.Opened.{counts_after}
 use Rattle.toml_span_places.proofs.OpenedLemmas.{counts_next}

@@ -8,7 +8,7 @@ use Rattle.toml_span_tree.specs.Path.{Path}
 use Rattle.toml_span_tree.specs.declared.nodes.Step.{Step as Lent}
 use Rattle.toml_span_read.specs.Data.{SimpleKey, ParsedValue, parsed, ParsedInner, scalar, array, inline, ParsedItems}
 use Rattle.toml_span_read.specs.Data.{no_items, item, ParsedPairs, no_pairs, pair, pairs_onto, ParsedSection}
-use Rattle.toml_span.specs.Paths.{elements_added, opened_by, section_path, with_key, with_position}
+use Rattle.toml_span_read.specs.Paths.{elements_added, opened_by, section_path, with_key, with_position}
 use Rattle.toml_span_places.specs.declared.mentions.Details.{Details}
 use Rattle.toml_span_places.specs.declared.mentions.Mention.{Mention}
 use Rattle.toml_span_places.specs.declared.keys.Role.{Role}

@@ -5,7 +5,7 @@ use Rattle.toml_span_lex.specs.Bytes.{line_feed}
 use Rattle.toml_span_lex.specs.declared.span.Span.{Span}
 use Rattle.toml_span_tree.specs.Path.{Path}
 use Rattle.toml_span_read.specs.Data.{ParsedSection}
-use Rattle.toml_span.specs.Paths.{same_path}
+use Rattle.toml_span_read.specs.Paths.{same_path}
 use Rattle.toml_span_places.specs.Literals.{byte_before}
 use Rattle.toml_span_places.specs.Sections.{SectionMention, document_sections}
 use Rattle.toml_span_places.specs.declared.points.InsertionPoint.{InsertionPoint}

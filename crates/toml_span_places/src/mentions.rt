@@ -4,7 +4,7 @@ ghost use Rattle.std.specs.Prelude.{◌≡◌, ◌++◌, ◌∷◌, [], IfOk, On
 ghost use Rattle.toml_span_read.specs.Data.{parsed_section, parsed_value, parsed_assignment, onto, no_items};
 ghost use Rattle.toml_span_read.specs.Data.{pairs_onto, no_pairs, simple_key};
 ghost use Rattle.toml_span_tree.specs.Nodes.{step_of};
-ghost use Rattle.toml_span.specs.Paths.{target};
+ghost use Rattle.toml_span_read.specs.Paths.{target};
 ghost use Rattle.toml_span_places.specs.Mentions as spec;
 ghost use Rattle.toml_span_places.specs.Mentions.{below, mentioned, steps_of};
 ghost use Rattle.toml_span_places.specs.code.Opened.{counts_of, counts_after};

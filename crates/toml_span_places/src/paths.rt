@@ -2,7 +2,7 @@
 ghost use Rattle.std.specs.Prelude.{◌≡◌, ◌++◌, ◌∷◌, [], IfOk, map};
 ghost use Rattle.toml_span_tree.specs.Nodes.{step_of};
 ghost use Rattle.toml_span_read.specs.Data.{simple_key};
-ghost use Rattle.toml_span.specs.Paths as spec;
+ghost use Rattle.toml_span_read.specs.Paths as spec;
 ghost use Rattle.toml_span_places.specs.Mentions as mentions;
 ghost use Rattle.toml_span_places.specs.Mentions.{inside, steps_of};
 ghost use Rattle.toml_span_places.specs.code.Opened.{counts_of};
@@ -70,7 +70,7 @@ fn same_step(step: &Step<'_>, other: &Step<'_>) -> bool
     }
 }
 
-#[tactic(auto, unfolding(toml_span::specs::Paths::same_path))]
+#[tactic(auto, unfolding(toml_span_read::specs::Paths::same_path))]
 /// Returns whether two paths are equal.
 pub(crate) fn same_path(path: &[Step<'_>], other: &[Step<'_>]) -> bool
     ensures { result ≡ spec.same_path (map step_of path.now) (map step_of other.now) }

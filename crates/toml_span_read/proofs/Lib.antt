@@ -26,3 +26,4 @@ pub mod NumbersMove
 pub mod DatesMove
 pub mod Undated
 pub mod GapStarts
+pub mod PathLemmas

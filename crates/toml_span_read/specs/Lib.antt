@@ -4,6 +4,7 @@ pub mod Numbers
 pub mod Numerals
 pub mod Dates
 pub mod Data
+pub mod Paths
 pub mod Earlier
 pub mod Grammar
 pub mod Places

@@ -9,7 +9,7 @@ use Rattle.toml_span_tree.specs.Diagnostic.{labels_of, primary}
 use Rattle.toml_span_tree.specs.Error.{ErrorContent, Kind, unexpected_keys, unexpected_value, unexpected, out_of_range}
 use Rattle.toml_span_tree.specs.Error.{missing_field, deprecated}
 use Rattle.toml_span_tree.specs.Message.{code_of, display_text}
-use Rattle.toml_span_typed.specs.Errors.{Errors, all}
+use Rattle.toml_span_tree.specs.Errors.{Errors, all}
 use Rattle.toml_span_report.specs.Repairs as repairs
 use Rattle.toml_span_report.specs.Help.{range_help}
 use Rattle.toml_span_report.specs.Many.{AreReportTexts}

@@ -3,7 +3,7 @@ ghost use Rattle.std.specs.Prelude.{◌≡◌, [], IfOk, OnOk, map, string_bytes
 ghost use Rattle.std.specs.Option.{option_to_list};
 ghost use Rattle.toml_span_tree.specs.Diagnostic.{label_content, labels_of};
 ghost use Rattle.toml_span_tree.specs.Error.{content_of, kind_of};
-ghost use Rattle.toml_span_typed.specs.Errors.{all};
+ghost use Rattle.toml_span_tree.specs.Errors.{all};
 ghost use Rattle.toml_span_report.specs.Errors as spec;
 ghost use Rattle.toml_span_report.specs.Errors.{AddsReports, AreReports, AreShown, IsReport, ReportsError};
 ghost use Rattle.toml_span_report.specs.Help.{range_help};
@@ -28,7 +28,7 @@ use std::alloc::{AllocError, Global};
 use toml_span_lex::span::Span;
 use toml_span_lex::stop::Stop;
 use toml_span_tree::{Error, ErrorKind, Label};
-use toml_span_typed::DeserError;
+use toml_span_tree::DeserError;
 
 /// Returns the message for the report of `error`, to be used if no recognized mistake has a headline.
 fn message(alloc: Global, error: &Error<'_>) -> Result<String, AllocError>

@@ -11,7 +11,7 @@ use crate::report::Report;
 use std::alloc::{AllocError, Global};
 use toml_span_lex::stop::Stop;
 use toml_span_tree::Error;
-use toml_span_typed::DeserError;
+use toml_span_tree::DeserError;
 
 /// Appends the report of each warning to `reports`. `text` is the source. If an allocation fails, `reports` may have
 /// the reports of some warnings.

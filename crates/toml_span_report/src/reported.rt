@@ -11,7 +11,7 @@ use std::alloc::{AllocError, Global};
 use std::fmt;
 use std::fmt::{Display, Formatter, Write};
 use toml_span_lex::stop::Stop;
-use toml_span_typed::DeserError;
+use toml_span_tree::DeserError;
 
 /// The reports of the errors and warnings of one read. Unlike a `DeserError`, a `Reported` does not borrow from the
 /// source, so a function that reads a file can return a `Reported` and drop the source.

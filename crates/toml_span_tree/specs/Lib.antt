@@ -1,6 +1,7 @@
 pub mod Date
 pub mod Diagnostic
 pub mod Error
+pub mod Errors
 pub mod Float
 pub mod Json
 pub mod Lending

@@ -2,6 +2,7 @@
 #![tactic(auto)]
 
 mod date;
+mod deser_error;
 mod diagnostic;
 mod error;
 mod float;
@@ -16,6 +17,7 @@ pub mod pointer;
 mod value;
 
 pub use date::DateText;
+pub use deser_error::{DeserError, ErrorIter, Unmerged};
 pub use diagnostic::{Diagnostic, Label};
 pub use error::{Error, ErrorKind};
 pub use float::FloatText;

@@ -5,7 +5,7 @@ use Rattle.toml_span_tree.specs.Value.{items_view, view}
 use Rattle.toml_span_tree.specs.declared.value.Value.{Value}
 use Rattle.toml_span_tree.specs.Error.{ErrorContent}
 use Rattle.toml_span_typed.specs.code.Arrays.{AddsRead, AreRead}
-use Rattle.toml_span_typed.specs.Errors.{Errors, all}
+use Rattle.toml_span_tree.specs.Errors.{Errors, all}
 use Rattle.toml_span_typed.specs.Reads.{EachReads, elements, errors, nodes_of}
 
 module _ {T : Type 0} (reads : Node → Result T Errors → Node → Type 0) where

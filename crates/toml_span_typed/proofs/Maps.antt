@@ -5,7 +5,7 @@ use Rattle.toml_span_tree.specs.Node.{Node}
 use Rattle.toml_span_tree.specs.Value.{members_view, view}
 use Rattle.toml_span_tree.proofs.Values.{Entry}
 use Rattle.toml_span_typed.proofs.Arrays.{errors_push}
-use Rattle.toml_span_typed.specs.Errors.{Errors}
+use Rattle.toml_span_tree.specs.Errors.{Errors}
 use Rattle.toml_span_typed.specs.code.Maps.{AddsEntry}
 use Rattle.toml_span_typed.specs.Maps.{EntriesRead, holding, holding_read, names_of, shown_pair, values_of}
 use Rattle.toml_span_typed.specs.Reads.{EachReads, errors}

@@ -7,7 +7,7 @@ use Rattle.toml_span_tree.specs.declared.value.Value.{Value}
 use Rattle.toml_span_tree.specs.Error.{ErrorContent}
 use Rattle.toml_span_tree.specs.Node.{Node, node, taken, scalar, array, table, item, no_items}
 use Rattle.toml_span_tree.specs.Value.{items_view}
-use Rattle.toml_span_typed.specs.Errors.{Errors, all, one}
+use Rattle.toml_span_tree.specs.Errors.{Errors, all, one}
 use Rattle.toml_span_typed.specs.code.Arrays.{ReadsOrKeeps}
 use Rattle.toml_span_typed.specs.Reads.{Answers, Taken, errors, nodes_of}
 use Rattle.toml_span_typed.specs.Tuples.{IsReadAs, JoinsTwo, RefusesLength, StopsWith, holds_two, other_length, pair_reads}

@@ -4,7 +4,7 @@ use Rattle.toml_span_lex.proofs.Common.{◌≡◌, List, [], ◌∷◌, ◌++◌
 use Rattle.toml_span_tree.specs.Node.{Node}
 use Rattle.toml_span_tree.specs.Error.{ErrorContent}
 use Rattle.toml_span_typed.specs.code.WithWarnings.{AddsWithWarnings, AreReadWithWarnings}
-use Rattle.toml_span_typed.specs.Errors.{Errors}
+use Rattle.toml_span_tree.specs.Errors.{Errors}
 use Rattle.toml_span_typed.specs.Reads.{elements, errors}
 use Rattle.toml_span_typed.specs.WithWarnings.{EachWithWarnings, Extends}
 use Rattle.toml_span_typed.proofs.Arrays.{elements_push, errors_push}

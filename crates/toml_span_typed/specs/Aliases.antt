@@ -7,7 +7,7 @@ use Rattle.toml_span_tree.specs.Error.{ErrorContent, deprecated, duplicate_key}
 use Rattle.toml_span_tree.specs.declared.value.Value.{Value}
 use Rattle.toml_span_tree.specs.Node.{Node, entry_at}
 use Rattle.toml_span_tree.specs.Value.{view}
-use Rattle.toml_span_typed.specs.Errors.{Errors, all}
+use Rattle.toml_span_tree.specs.Errors.{Errors, all}
 use Rattle.toml_span_typed.specs.TableHelper.{AfterAllocError, State, keeping, missing, noted, without}
 
 -- the error `DuplicateKey` for the key with this name, at its span; `first` is the span of the earlier key

@@ -9,7 +9,7 @@ use Rattle.toml_span_tree.specs.declared.error.Error.{Error}
 use Rattle.toml_span_tree.specs.Error.{content_of}
 use Rattle.toml_span_tree.specs.Node.{Node}
 use Rattle.toml_span_tree.specs.Value.{inner_of, is_filled, text_in}
-use Rattle.toml_span_typed.specs.Errors.{Errors, all, one}
+use Rattle.toml_span_tree.specs.Errors.{Errors, all, one}
 use Rattle.toml_span_typed.specs.Parse.{Parses}
 use Rattle.toml_span_typed.specs.TableHelper.{AfterAllocError, Requires, State, found, keeping, missing, noted}
 use Rattle.toml_span_typed.specs.TableHelper.{with_unasked}

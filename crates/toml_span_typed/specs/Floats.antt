@@ -7,7 +7,7 @@ use Rattle.toml_span_lex.specs.declared.stop.Stop.{Stop}
 use Rattle.toml_span_lex.specs.declared.stop.Stop.TheVariants as stop
 use Rattle.toml_span_tree.specs.Float.{float_text}
 use Rattle.toml_span_tree.specs.Node.{Node, node, scalar, float}
-use Rattle.toml_span_typed.specs.Errors.{Errors, one}
+use Rattle.toml_span_tree.specs.Errors.{Errors, one}
 use Rattle.toml_span_typed.specs.Reads.{beyond_range, or_out_of, refused}
 
 abbrev pub if_finite : Option Float → Option Float

@@ -1,4 +1,3 @@
-pub mod Errors
 pub mod Floats
 pub mod Reads
 pub mod TableHelper

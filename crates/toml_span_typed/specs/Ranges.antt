@@ -6,7 +6,7 @@ use Rattle.toml_span_lex.specs.declared.span.Span.{Span}
 use Rattle.toml_span_tree.specs.Error.{ErrorContent, marked}
 use Rattle.toml_span_tree.specs.Node.{Node}
 use Rattle.toml_span_tree.specs.Value.{inner_of, integer_in, span_of}
-use Rattle.toml_span_typed.specs.Errors.{Errors, one}
+use Rattle.toml_span_tree.specs.Errors.{Errors, one}
 
 unfoldable pub range_message : ℤ → ℤ → ℤ → List ℕ
 range_message low high found = codes "expected a value in " ++ signed_decimal low ++ codes "..=" ++ signed_decimal high

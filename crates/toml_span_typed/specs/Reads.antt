@@ -8,7 +8,7 @@ use Rattle.toml_span_tree.specs.Node.{FloatValue, Node, node, taken, scalar, arr
 use Rattle.toml_span_tree.specs.Node.{datetime, Items, no_items, item}
 use Rattle.toml_span_tree.specs.Value.{wrong_kind, span_of}
 use Rattle.toml_span_tree.specs.Error.{ErrorContent, out_of_range}
-use Rattle.toml_span_typed.specs.Errors.{Errors, one, all}
+use Rattle.toml_span_tree.specs.Errors.{Errors, one, all}
 
 abbrev pub result_map : {T U E : Type 0} → (T → U) → Result T E → Result U E
 result_map f (Ok x) = Ok (f x)

@@ -1,7 +1,7 @@
 -- Reading the remaining entries of a table as another type.
 use Rattle.std.specs.Prelude.{◌≡◌, Option, Some, None, Result, Ok, Err}
 use Rattle.toml_span_tree.specs.Node.{Node, no_members, node, table}
-use Rattle.toml_span_typed.specs.Errors.{Errors, all}
+use Rattle.toml_span_tree.specs.Errors.{Errors, all}
 use Rattle.toml_span_typed.specs.TableHelper.{State, keeping}
 
 -- the state without entries

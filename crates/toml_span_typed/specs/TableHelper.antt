@@ -16,7 +16,7 @@ use Rattle.toml_span_tree.specs.Error.{ErrorContent, content_of, missing_field, 
 use Rattle.toml_span_tree.specs.Node.{Members, Node, entry_at, member, no_members, node, table}
 use Rattle.toml_span_tree.specs.Value.{all_members_whole, is_filled, members_view, span_of, view}
 use Rattle.std.specs.BTreeMap.{BTreeMap}
-use Rattle.toml_span_typed.specs.Errors.{Errors, all}
+use Rattle.toml_span_tree.specs.Errors.{Errors, all}
 use Rattle.toml_span_typed.specs.Reads.{refused}
 use Rattle.toml_span_typed.specs.declared.de_helpers.table_helper.TableHelper.{TableHelper}
 use Rattle.toml_span_typed.specs.declared.de_helpers.table_helper.Unfinished.{Unfinished}

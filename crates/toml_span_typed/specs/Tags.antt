@@ -8,7 +8,7 @@ use Rattle.toml_span_lex.specs.declared.stop.Stop.TheVariants as stop
 use Rattle.toml_span_tree.specs.Error.{ErrorContent, unexpected_value}
 use Rattle.toml_span_tree.specs.Node.{Node, node, scalar, text}
 use Rattle.toml_span_tree.specs.Value.{inner_of, wrong_kind}
-use Rattle.toml_span_typed.specs.Errors.{Errors, one}
+use Rattle.toml_span_tree.specs.Errors.{Errors, one}
 use Rattle.toml_span_typed.specs.TableHelper.{State, found, keeping, missing, noted}
 
 -- the first of the tags that equals the text

@@ -7,7 +7,7 @@ use Rattle.toml_span_lex.specs.declared.stop.Stop.TheVariants as stop
 use Rattle.toml_span_tree.specs.Error.{ErrorContent, custom}
 use Rattle.toml_span_tree.specs.Node.{Node, array, item, no_items, node}
 use Rattle.toml_span_tree.specs.Value.{wrong_kind}
-use Rattle.toml_span_typed.specs.Errors.{Errors, all, one}
+use Rattle.toml_span_tree.specs.Errors.{Errors, all, one}
 use Rattle.toml_span_typed.specs.Reads.{Taken, errors, nodes_of}
 
 -- an array of these two values

@@ -7,7 +7,7 @@ use Rattle.toml_span_lex.specs.declared.stop.Stop.TheVariants as stop
 use Rattle.toml_span_tree.specs.Error.{ErrorContent}
 use Rattle.toml_span_tree.specs.Node.{Node, node, array}
 use Rattle.toml_span_typed.specs.Aliases.{lacks}
-use Rattle.toml_span_typed.specs.Errors.{Errors, all}
+use Rattle.toml_span_tree.specs.Errors.{Errors, all}
 use Rattle.toml_span_typed.specs.Reads.{Joins, nodes_of, refused}
 use Rattle.toml_span_typed.specs.TableHelper.{AfterAllocError, State, found, keeping, noted}
 

@@ -1,5 +1,4 @@
 -- Definitions for functions that only this project calls. Nothing else in `specs/` cites them.
-pub mod Errors
 pub mod Arrays
 pub mod Integers
 pub mod Maps

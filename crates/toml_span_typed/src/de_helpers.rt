@@ -4,14 +4,13 @@ ghost use Rattle.toml_span_lex.specs.declared.stop.Stop.TheVariants.{Fault};
 ghost use Rattle.toml_span_tree.specs.Error.{content_of};
 ghost use Rattle.toml_span_tree.specs.Node.{node};
 ghost use Rattle.toml_span_tree.specs.Value.{inner_view, is_taken, wrong_kind, view};
-ghost use Rattle.toml_span_typed.specs.Errors.{one};
+ghost use Rattle.toml_span_tree.specs.Errors.{one};
 ghost use Rattle.toml_span_typed.specs.Parse.{Parses, ReportsRefusal};
 ghost use Rattle.toml_span_typed.specs.Reads.{Taken};
 
 mod strings;
 mod table_helper;
 
-use crate::deser_error::DeserError;
 use std::alloc::{AllocError, Global};
 use std::borrow::CowStr;
 use std::fmt::Display;
@@ -20,7 +19,7 @@ pub use strings::{parse_with, parsed};
 pub use table_helper::{TableHelper, Unfinished, name_of};
 use toml_span_lex::span::Span;
 use toml_span_lex::stop::Stop;
-use toml_span_tree::{Error, ErrorKind, Value, ValueInner};
+use toml_span_tree::{DeserError, Error, ErrorKind, Value, ValueInner};
 
 /// Returns the error `Wanted` at `span`. `expected` describes the expected value, such as "a table". `found` is the
 /// value that is there instead; the error contains the name of its kind. Does not allocate.

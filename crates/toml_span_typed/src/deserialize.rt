@@ -3,7 +3,7 @@ ghost use Rattle.std.specs.Prelude.{◌≡◌, ◌+◌, ◌≤◌, IfOk, IsTrue,
 ghost use Rattle.toml_span_tree.specs.Error.{content_of};
 ghost use Rattle.toml_span_tree.specs.Node.{Node};
 ghost use Rattle.toml_span_tree.specs.Value.{is_whole, view};
-ghost use Rattle.toml_span_typed.specs.Errors.{Errors};
+ghost use Rattle.toml_span_tree.specs.Errors.{Errors};
 ghost use Rattle.toml_span_typed.specs.Fields.{lacking};
 ghost use Rattle.toml_span_typed.specs.code.Arrays.{ReadsOrKeeps};
 ghost use Rattle.toml_span_typed.specs.Reads.{Answers};
@@ -18,12 +18,11 @@ mod scalars;
 mod spanned;
 mod tuples;
 
-use crate::deser_error::DeserError;
 pub use holders::Parsed;
 pub use ranges::InRange;
 use std::alloc::{AllocError, Global};
 use toml_span_lex::stop::Stop;
-use toml_span_tree::{Error, Value};
+use toml_span_tree::{DeserError, Error, Value};
 
 /// A type that can be read from a value.
 ///

@@ -2,7 +2,6 @@
 #![tactic(auto)]
 
 pub mod de_helpers;
-mod deser_error;
 mod deserialize;
 mod read_name;
 mod read_table;
@@ -14,8 +13,8 @@ mod with_warnings;
 #[doc(hidden)]
 pub mod words_are_alias_deprecated_flatten_optional_or_parsed_range_unique_with_warnings {}
 
-pub use deser_error::{DeserError, ErrorIter, Unmerged};
 pub use deserialize::{Deserialize, InRange, Parsed};
 #[doc(hidden)]
 pub use toml_span_lex::spanned::Spanned;
+pub use toml_span_tree::{DeserError, ErrorIter, Unmerged};
 pub use with_warnings::DeserializeWithWarnings;

@@ -3,17 +3,16 @@ ghost use Rattle.std.specs.Prelude.{◌≡◌, ◌+◌, ◌≤◌, IfOk, IsTrue,
 ghost use Rattle.toml_span_tree.specs.Error.{ErrorContent, content_of};
 ghost use Rattle.toml_span_tree.specs.Node.{Node};
 ghost use Rattle.toml_span_tree.specs.Value.{is_whole, view};
-ghost use Rattle.toml_span_typed.specs.Errors.{Errors};
+ghost use Rattle.toml_span_tree.specs.Errors.{Errors};
 ghost use Rattle.toml_span_typed.specs.Fields.{lacking};
 ghost use Rattle.toml_span_typed.specs.WithWarnings.{AnswersWithWarnings, Extends};
 ghost use Rattle.toml_span_typed.specs.code.WithWarnings.{ReadsOrKeepsWithWarnings};
 
 mod lists;
 
-use crate::deser_error::DeserError;
 use std::alloc::{AllocError, Global};
 use toml_span_lex::stop::Stop;
-use toml_span_tree::{Error, Value};
+use toml_span_tree::{DeserError, Error, Value};
 
 /// A type whose reads can warn. It should not also implement `Deserialize`, whose reads would lose the warnings.
 ///

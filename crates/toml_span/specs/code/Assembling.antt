@@ -16,7 +16,7 @@ use Rattle.toml_span.specs.code.Placing.{Places, AreSections}
 use Rattle.toml_span.specs.code.Relative.{section_at, counts_after}
 use Rattle.toml_span.specs.code.Tree.{counts, cells, IsScope}
 use Rattle.toml_span.specs.code.Machine.{no_cells, clash_found, put_all, named_clash}
-use Rattle.toml_span.specs.Paths.{elements_added, opened_by}
+use Rattle.toml_span_read.specs.Paths.{elements_added, opened_by}
 use Rattle.toml_span.specs.declared.claims.Clash.{Clash}
 use Rattle.toml_span.specs.Clashes.{first_clash}
 use Rattle.toml_span.specs.Borrowed.{AreBorrowedRight}

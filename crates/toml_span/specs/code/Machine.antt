@@ -11,7 +11,7 @@ use Rattle.toml_span.specs.declared.claims.ClaimInfo.{ClaimInfo}
 use Rattle.toml_span.specs.Claims.{Claim, Claims, no_claims, claimed, scope}
 use Rattle.toml_span.specs.Flat.{by_header}
 use Rattle.toml_span.specs.code.ClaimInfos.{PlaceError, earliest_clash_info, remember, with_name}
-use Rattle.toml_span.specs.Paths.{same_path, same_step}
+use Rattle.toml_span_read.specs.Paths.{same_path, same_step}
 use Rattle.toml_span.specs.Clashes.{NamedClash}
 use Rattle.toml_span.specs.declared.claims.Clash as code
 use Rattle.toml_span_lex.specs.declared.stop.Stop.TheVariants.{Memory, Fault}

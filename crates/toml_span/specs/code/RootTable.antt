@@ -5,7 +5,7 @@ use Rattle.toml_span_lex.specs.Bytes.{left_bracket}
 use Rattle.toml_span_read.specs.Data.{ParsedSection}
 use Rattle.toml_span_read.specs.Read as read
 use Rattle.toml_span.specs.Claims.{claims}
-use Rattle.toml_span.specs.Paths.{elements_added, opened_by}
+use Rattle.toml_span_read.specs.Paths.{elements_added, opened_by}
 use Rattle.toml_span.specs.code.Built.{IsBuilt}
 use Rattle.toml_span.specs.code.Machine.{no_cells, put_all, clash_found}
 use Rattle.toml_span.specs.code.Placing.{Table}

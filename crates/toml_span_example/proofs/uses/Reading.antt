@@ -9,7 +9,7 @@ use Rattle.toml_span_tree.specs.Error.{ErrorContent, content_of, missing_field}
 use Rattle.toml_span_tree.specs.Node.{Node, node, Members, taken, scalar, array, table, text, integer, float, boolean, datetime}
 use Rattle.toml_span_tree.specs.Path.{Path, Place, Shape, shape_taken, shape_scalar, shape_array, shape_table, key, place_of, shape_of}
 use Rattle.toml_span_tree.specs.Value.{view}
-use Rattle.toml_span_typed.specs.Errors.{Errors, one}
+use Rattle.toml_span_tree.specs.Errors.{Errors, one}
 use Rattle.toml_span_typed.specs.Reads.{Gives, read_integer, unsigned}
 use Rattle.toml_span_typed.specs.TableHelper.{State, OpensTable, Requires, fresh, missing}
 use Rattle.toml_span.specs.Claims.{claims}

@@ -7,7 +7,7 @@ use Rattle.toml_span_tree.specs.declared.error.Error.{Error}
 use Rattle.toml_span_tree.specs.Error.{ErrorContent, content_of, missing_field}
 use Rattle.toml_span_tree.specs.Node.{Node, node, Inner, taken, scalar, array, table, no_items, no_members}
 use Rattle.toml_span_tree.specs.Path.{Path, Place, Shape, shape_taken, shape_scalar, shape_array, shape_table, key}
-use Rattle.toml_span_typed.specs.Errors.{Errors, one}
+use Rattle.toml_span_tree.specs.Errors.{Errors, one}
 use Rattle.toml_span_typed.specs.Reads.{read_integer, unsigned}
 use Rattle.toml_span_read.specs.Data.{depth_limit}
 use Rattle.toml_span.specs.Parsing.{IsRefusal}

@@ -4,7 +4,7 @@ ghost use Rattle.toml_span_tree.specs.Path.{Path, position};
 ghost use Rattle.toml_span.specs.declared.claims.ClaimKind.TheVariants.{Assigned, Dotted, Passed};
 ghost use Rattle.toml_span.specs.Flat.{all_claims, deciding_claim};
 ghost use Rattle.toml_span.specs.Claims.{Claim, claims};
-ghost use Rattle.toml_span.specs.Paths.{same_path};
+ghost use Rattle.toml_span_read.specs.Paths.{same_path};
 ghost use Rattle.toml_span.specs.Clashes.{NamedClash, Resolves, first_clash, clash};
 ghost use Rattle.toml_span_read.specs.Data.{ParsedSection};
 ghost use Rattle.toml_span_read.specs.Grammar.{SpellsDocument};

@@ -4,7 +4,7 @@ use Rattle.std.specs.Global.{Global}
 use Rattle.std.specs.Map.{lookup}
 use Rattle.toml_span_tree.specs.Path.{Path, Step, key, position}
 use Rattle.toml_span_read.specs.Data.{ParsedSection}
-use Rattle.toml_span.specs.Paths.{same_path, target, with_position}
+use Rattle.toml_span_read.specs.Paths.{same_path, target, with_position}
 use Rattle.toml_span_places.specs.declared.opened.ElementCounts.{ElementCounts}
 use Rattle.toml_span_places.specs.declared.opened.SortedStep.{SortedStep}
 use Rattle.toml_span_places.specs.declared.opened.SortedStep.TheVariants as sorted

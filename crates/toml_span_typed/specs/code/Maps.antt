@@ -2,7 +2,7 @@
 use Rattle.std.specs.Prelude.{◌≡◌, ℕ, List, [], ◌∷◌, ◌++◌, Result}
 use Rattle.toml_span_tree.specs.Error.{ErrorContent}
 use Rattle.toml_span_tree.specs.Node.{Node}
-use Rattle.toml_span_typed.specs.Errors.{Errors}
+use Rattle.toml_span_tree.specs.Errors.{Errors}
 use Rattle.toml_span_typed.specs.Reads.{errors}
 use Rattle.toml_span_typed.specs.Maps.{holding_read}
 

@@ -2,7 +2,7 @@
 use Rattle.std.specs.Prelude.{◌≡◌, ◌++◌, [], ◌∷◌, List, Option, Some, None, Result, Ok, Err}
 use Rattle.toml_span_tree.specs.Error.{ErrorContent}
 use Rattle.toml_span_tree.specs.Node.{Node}
-use Rattle.toml_span_typed.specs.Errors.{Errors, all}
+use Rattle.toml_span_tree.specs.Errors.{Errors, all}
 use Rattle.toml_span_typed.specs.Reads.{elements, errors}
 use Rattle.toml_span_typed.specs.WithWarnings.{EachWithWarnings}
 

@@ -6,12 +6,11 @@ ghost use Rattle.toml_span_typed.specs.Fields.{ParsesAll, ParsesWith};
 ghost use Rattle.toml_span_typed.specs.Reads.{Taken};
 
 use crate::de_helpers::{parse, unparsed};
-use crate::deser_error::DeserError;
 use std::alloc::Global;
 use std::fmt::Display;
 use std::str::FromStr;
 use toml_span_lex::stop::Stop;
-use toml_span_tree::Value;
+use toml_span_tree::{DeserError, Value};
 
 /// Does the same as `parse`, but returns the error in a `DeserError`, so that `deserialize` can pass it on with `?`.
 pub fn parsed<'de, T: FromStr<Err = E>, E: Display + Drop>(

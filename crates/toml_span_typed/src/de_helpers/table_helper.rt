@@ -14,7 +14,6 @@ mod tags;
 mod with_warnings;
 
 use crate::de_helpers::expected;
-use crate::deser_error::DeserError;
 use crate::deserialize::{Deserialize, read_or_keep};
 use std::alloc::{AllocError, Global};
 pub use tags::name_of;
@@ -22,7 +21,7 @@ use toml_span_lex::key::Key;
 use toml_span_lex::span::Span;
 use toml_span_lex::spanned::Spanned;
 use toml_span_lex::stop::Stop;
-use toml_span_tree::{Error, ErrorKind, Table, Value, ValueInner};
+use toml_span_tree::{DeserError, Error, ErrorKind, Table, Value, ValueInner};
 
 /// Reads the entries of a table one by one.
 ///
@@ -66,7 +65,7 @@ impl<'de> From<Unfinished<'de>> for Stop<DeserError<'de>> {
 impl<'de> TableHelper<'de> {
     ghost use Rattle.std.specs.Prelude.{[], ◌∷◌, IsTrue, OnOk, OnErr, false};
     ghost use Rattle.toml_span_tree.specs.Value.{is_taken, is_whole};
-    ghost use Rattle.toml_span_typed.specs.Errors.{all};
+    ghost use Rattle.toml_span_tree.specs.Errors.{all};
     ghost use Rattle.toml_span_typed.specs.Reads.{Taken, result_map, spanned};
     ghost use Rattle.toml_span_typed.specs.TableHelper.{AllWhole, EndsWithErrors, Finalizes, HoldsRest, Leaves};
     ghost use Rattle.toml_span_typed.specs.TableHelper.{OpensTable, Refuses};

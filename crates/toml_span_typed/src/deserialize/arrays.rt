@@ -6,11 +6,10 @@ ghost use Rattle.toml_span_typed.specs.code.Arrays.{AddsRead, Answered};
 ghost use Rattle.toml_span_typed.specs.Reads.{ReadsAll, Taken, array_reads, nodes_of, result_map};
 
 use crate::de_helpers::refused;
-use crate::deser_error::DeserError;
 use crate::deserialize::{Deserialize, read_or_keep};
 use std::alloc::{AllocError, Global};
 use toml_span_lex::stop::Stop;
-use toml_span_tree::{Error, Value, ValueInner};
+use toml_span_tree::{DeserError, Error, Value, ValueInner};
 
 impl<'de, T: Deserialize<'de>> Deserialize<'de> for Vec<T> {
     ghost reads = { λ v r w. array_reads T.reads v (result_map (λ x. x.items) r) w };

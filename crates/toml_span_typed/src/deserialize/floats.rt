@@ -5,13 +5,12 @@ ghost use Rattle.toml_span_typed.specs.Floats.{finite_float, or_beyond, read_num
 ghost use Rattle.toml_span_typed.specs.Reads.{Gives, Never};
 
 use crate::de_helpers::refused;
-use crate::deser_error::DeserError;
 use crate::deserialize::Deserialize;
 use crate::deserialize::integers::out_of_range;
 use std::alloc::Global;
 use toml_span_lex::span::Span;
 use toml_span_lex::stop::Stop;
-use toml_span_tree::{Value, ValueInner};
+use toml_span_tree::{DeserError, Value, ValueInner};
 
 /// Returns the `f64` nearest to the float `text`, or `None` if the `f64` is not finite.
 fn double_of(text: &str) -> Option<f64>

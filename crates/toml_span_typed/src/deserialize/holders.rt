@@ -4,14 +4,13 @@ ghost use Rattle.toml_span_typed.specs.Fields.{AsParsed, AsRead, AsSome};
 ghost use Rattle.toml_span_typed.specs.Reads.{Taken, result_map};
 
 use crate::de_helpers::parsed;
-use crate::deser_error::DeserError;
 use crate::deserialize::Deserialize;
 use std::alloc::{AllocError, Global};
 use std::char::ParseCharError;
 use std::fmt::Display;
 use std::str::FromStr;
 use toml_span_lex::stop::Stop;
-use toml_span_tree::Value;
+use toml_span_tree::{DeserError, Value};
 
 impl<'de, T: Deserialize<'de>> Deserialize<'de> for Box<T> {
     ghost reads = { λ v r w. T.reads v (result_map (λ b. b.value) r) w };

@@ -1,18 +1,17 @@
 //! Reads of integers.
 ghost use Rattle.std.specs.Prelude.{◌≡◌, ◌^◌, ℤ, Option, codes, false};
 ghost use Rattle.toml_span_tree.specs.Value.{is_taken, view};
-ghost use Rattle.toml_span_typed.specs.Errors.{one};
+ghost use Rattle.toml_span_tree.specs.Errors.{one};
 ghost use Rattle.toml_span_typed.specs.code.Integers.{Converts};
 ghost use Rattle.toml_span_typed.specs.Reads.{Answers, Gives, Never, read_integer, beyond_range, unsigned, signed};
 
 use crate::de_helpers::refused;
-use crate::deser_error::DeserError;
 use crate::deserialize::Deserialize;
 use std::alloc::Global;
 use std::num::TryFromIntError;
 use toml_span_lex::span::Span;
 use toml_span_lex::stop::Stop;
-use toml_span_tree::{Error, ErrorKind, Value, ValueInner};
+use toml_span_tree::{DeserError, Error, ErrorKind, Value, ValueInner};
 
 /// Returns the error `OutOfRange` at `span`, for the number type called `name`.
 pub(crate) fn out_of_range<'s>(name: &'s str, span: Span) -> DeserError<'s>

@@ -9,13 +9,12 @@ ghost use Rattle.toml_span_typed.specs.Maps.{ReadsEntries, hashed_reads, holding
 ghost use Rattle.toml_span_typed.specs.Reads.{Taken, result_map};
 
 use crate::de_helpers::refused;
-use crate::deser_error::DeserError;
 use crate::deserialize::{Deserialize, read_or_keep};
 use std::alloc::{AllocError, Global};
 use std::collections::{BTreeMap, HashMap};
 use toml_span_lex::key::Key;
 use toml_span_lex::stop::Stop;
-use toml_span_tree::{Error, Table, Value, ValueInner};
+use toml_span_tree::{DeserError, Error, Table, Value, ValueInner};
 
 impl<'de, T: Deserialize<'de>> Deserialize<'de> for BTreeMap<String, T> {
     ghost reads = { λ v r w. table_reads T.reads v (result_map (λ m. map shown_pair m.entries) r) w };

@@ -7,7 +7,6 @@ ghost use Rattle.toml_span_typed.specs.Ranges as spec;
 ghost use Rattle.toml_span_typed.specs.Ranges.{in_range, range_fault};
 ghost use Rattle.toml_span_typed.specs.Reads.{Unchanged, result_map};
 
-use crate::deser_error::DeserError;
 use crate::deserialize::Deserialize;
 use std::alloc::{AllocError, Global};
 use std::borrow::CowStr;
@@ -15,7 +14,7 @@ use std::fmt::Write;
 use std::num::TryFromIntError;
 use toml_span_lex::span::Span;
 use toml_span_lex::stop::Stop;
-use toml_span_tree::{Error, ErrorKind, Value};
+use toml_span_tree::{DeserError, Error, ErrorKind, Value};
 
 /// An integer from `LOW` to `HIGH`, both included. `read_table!` reads a field with `range(LOW..=HIGH)` as this type.
 #[derive(Debug, Drop)]

@@ -7,12 +7,11 @@ ghost use Rattle.toml_span_typed.specs.Reads.{Answers, Gives, Never, Unchanged, 
 ghost use Rattle.toml_span_typed.specs.Reads.{read_float, read_datetime};
 
 use crate::de_helpers::refused;
-use crate::deser_error::DeserError;
 use crate::deserialize::Deserialize;
 use std::alloc::Global;
 use std::borrow::CowStr;
 use toml_span_lex::stop::Stop;
-use toml_span_tree::{DateText, FloatText, Value, ValueInner};
+use toml_span_tree::{DateText, DeserError, FloatText, Value, ValueInner};
 
 impl<'de> Deserialize<'de> for bool {
     ghost reads = { Gives read_boolean };

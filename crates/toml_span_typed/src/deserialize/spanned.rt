@@ -1,12 +1,11 @@
 //! Reads of a value with its span.
 ghost use Rattle.toml_span_typed.specs.Reads.{spanned};
 
-use crate::deser_error::DeserError;
 use crate::deserialize::Deserialize;
 use std::alloc::Global;
 use toml_span_lex::spanned::Spanned;
 use toml_span_lex::stop::Stop;
-use toml_span_tree::Value;
+use toml_span_tree::{DeserError, Value};
 
 impl<'de, T: Deserialize<'de>> Deserialize<'de> for Spanned<T> {
     ghost reads = { spanned T.reads (λ s. s.value) (λ s. s.span) };

@@ -5,13 +5,12 @@ ghost use Rattle.toml_span_typed.specs.Reads.{Taken};
 ghost use Rattle.toml_span_typed.specs.Tuples.{RefusesLength, StopsWith, holds_two, other_length, pair_reads};
 
 use crate::de_helpers::refused;
-use crate::deser_error::DeserError;
 use crate::deserialize::{Deserialize, read_or_keep};
 use std::alloc::Global;
 use std::borrow::CowStr;
 use toml_span_lex::span::Span;
 use toml_span_lex::stop::Stop;
-use toml_span_tree::{Error, ErrorKind, Value, ValueInner};
+use toml_span_tree::{DeserError, Error, ErrorKind, Value, ValueInner};
 
 // Toolchain: an `impl` for `[T; N]` is refused ("a struct that owns memory and names a lifetime has a field that holds
 // a `&mut`, or ..").

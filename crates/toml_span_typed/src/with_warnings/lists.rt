@@ -8,11 +8,10 @@ ghost use Rattle.toml_span_typed.specs.Reads.{nodes_of, result_map};
 ghost use Rattle.toml_span_typed.specs.WithWarnings.{Extends, ReadsAllWithWarnings, array_with_warnings};
 
 use crate::de_helpers::refused;
-use crate::deser_error::DeserError;
 use crate::with_warnings::{DeserializeWithWarnings, read_or_keep};
 use std::alloc::{AllocError, Global};
 use toml_span_lex::stop::Stop;
-use toml_span_tree::{Error, Value, ValueInner};
+use toml_span_tree::{DeserError, Error, Value, ValueInner};
 
 impl<'de, T: DeserializeWithWarnings<'de>> DeserializeWithWarnings<'de> for Vec<T> {
     ghost reads = { λ v r warnings more. array_with_warnings T.reads v (result_map (λ x. x.items) r) warnings more };

@@ -1,6 +1,6 @@
 use Rattle.toml_span_lex.proofs.Common.{[], ◌++◌, ap, map, sym}
 use Rattle.toml_span_read.specs.Data.{parsed_section}
-use Rattle.toml_span.specs.Paths.{opened_by}
+use Rattle.toml_span_read.specs.Paths.{opened_by}
 use Rattle.toml_span_places.specs.Mentions.{mentioned, mentions_after}
 use Rattle.toml_span_places.proofs.SectionLemmas.{listed_section}
 use Rattle.toml_span_places.proofs.mentions.mentions.Goals as goal

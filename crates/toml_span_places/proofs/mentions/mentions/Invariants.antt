@@ -1,6 +1,6 @@
 use Rattle.toml_span_lex.proofs.Common.{◌≡◌, ◌++◌, List, drop, map}
 use Rattle.toml_span_read.specs.Data.{ParsedSection, parsed_section}
-use Rattle.toml_span.specs.Paths.{elements_added, opened_by}
+use Rattle.toml_span_read.specs.Paths.{elements_added, opened_by}
 use Rattle.toml_span_places.specs.code.Opened.{counts_of}
 use Rattle.toml_span_places.specs.Mentions.{mentioned, mentions, mentions_after}
 use Rattle.toml_span_places.proofs.mentions.mentions.Given as goal

@@ -1,5 +1,5 @@
 use Rattle.toml_span_lex.proofs.Common.{List, map}
-use Rattle.toml_span_typed.specs.Errors.{all}
+use Rattle.toml_span_tree.specs.Errors.{all}
 use Rattle.toml_span_report.specs.Errors.{AddsReports}
 use Rattle.toml_span_report.specs.Report.{ReportContent, report_content}
 use Rattle.toml_span_report.specs.declared.report.Severity.TheVariants as severities

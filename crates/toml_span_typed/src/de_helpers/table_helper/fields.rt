@@ -5,11 +5,10 @@ ghost use Rattle.toml_span_typed.specs.Fields.{Asks, Finishes, FinishesInto, Kee
 ghost use Rattle.toml_span_typed.specs.TableHelper.{AllWhole, HoldsRest, Tries, found, state_of};
 
 use crate::de_helpers::table_helper::{TableHelper, missing_field};
-use crate::deser_error::DeserError;
 use crate::deserialize::{Deserialize, read_or_keep};
 use std::alloc::AllocError;
 use toml_span_lex::stop::Stop;
-use toml_span_tree::Value;
+use toml_span_tree::{DeserError, Value};
 
 impl<'de> TableHelper<'de> {
     /// Reads the field of this name: records the name, moves its entry out of the table, and reads the value.

@@ -2,7 +2,7 @@
 ghost use Rattle.std.specs.Prelude.{◌≡◌, ◌+◌, ◌≤◌, IfOk, OnErr, Result, false, map, option_map};
 ghost use Rattle.toml_span_tree.specs.Error.{content_of};
 ghost use Rattle.toml_span_tree.specs.Value.{is_taken, view};
-ghost use Rattle.toml_span_typed.specs.Errors.{all};
+ghost use Rattle.toml_span_tree.specs.Errors.{all};
 ghost use Rattle.toml_span_typed.specs.Fields.{kept, lacking};
 ghost use Rattle.toml_span_typed.specs.Rests.{ReadsRest, emptied, remaining};
 ghost use Rattle.toml_span_typed.specs.TableHelper.{AllWhole, AfterAllocError, missing, state_of};
@@ -11,12 +11,11 @@ ghost use Rattle.toml_span_typed.specs.Tags.{IsNameOf, IsUnexpected, among, aske
 ghost use Rattle.toml_span_typed.specs.code.Tags.{tag_result};
 
 use crate::de_helpers::table_helper::{TableHelper, missing_field};
-use crate::deser_error::DeserError;
 use crate::deserialize::{Deserialize, read_or_keep};
 use std::alloc::{AllocError, Global};
 use std::mem;
 use toml_span_lex::stop::Stop;
-use toml_span_tree::{Error, ErrorKind, Table, Value, ValueInner};
+use toml_span_tree::{DeserError, Error, ErrorKind, Table, Value, ValueInner};
 
 impl<'de> TableHelper<'de> {
     /// Reads the field of this name, which must be a string that equals one of `tags`. Returns this tag. Records the

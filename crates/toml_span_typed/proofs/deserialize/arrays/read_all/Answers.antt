@@ -1,6 +1,6 @@
 use Rattle.toml_span_lex.proofs.Common.{◌≡◌, ◌∷◌, ◌++◌, [], ap, sym, ◌∙◌, append_assoc, arith, common_steps, into_iter_items}
 use Rattle.toml_span_tree.specs.Value.{all_whole, is_whole, items_view, view}
-use Rattle.toml_span_typed.specs.code.Errors.{all_of_option}
+use Rattle.toml_span_tree.specs.code.Errors.{all_of_option}
 use Rattle.toml_span_typed.proofs.Arrays.{nodes_push, read_more}
 use Rattle.toml_span_typed.proofs.Whole.{right}
 use Rattle.toml_span_typed.proofs.deserialize.arrays.read_all.Goals as goal

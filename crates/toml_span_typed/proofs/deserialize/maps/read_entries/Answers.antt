@@ -1,7 +1,7 @@
 use Rattle.toml_span_lex.proofs.Common.{◌≡◌, List, [], ◌∷◌, ◌++◌, ap, sym, ◌∙◌, append_assoc, arith, common_steps}
 use Rattle.toml_span_tree.specs.Value.{all_members_whole, is_whole, members_view, view}
 use Rattle.toml_span_tree.proofs.Values.{Entry}
-use Rattle.toml_span_typed.specs.code.Errors.{all_of_option}
+use Rattle.toml_span_tree.specs.code.Errors.{all_of_option}
 use Rattle.toml_span_typed.proofs.Maps.{entry_more}
 use Rattle.toml_span_typed.proofs.Whole.{right}
 use Rattle.toml_span_typed.proofs.deserialize.maps.read_entries.Goals as goal

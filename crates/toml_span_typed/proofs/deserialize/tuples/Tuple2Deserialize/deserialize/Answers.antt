@@ -1,7 +1,7 @@
 use Rattle.toml_span_lex.proofs.Common.{ap, map, sym, ◌∙◌}
 use Rattle.toml_span_tree.specs.Error.{content_of}
 use Rattle.toml_span_tree.specs.Value.{view}
-use Rattle.toml_span_typed.specs.code.Errors.{all_of_option}
+use Rattle.toml_span_tree.specs.code.Errors.{all_of_option}
 use Rattle.toml_span_typed.proofs.Tuples.{pair_failed}
 use Rattle.toml_span_typed.proofs.deserialize.tuples.Tuple2Deserialize.deserialize.Goals as goal
 

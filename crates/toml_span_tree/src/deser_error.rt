@@ -2,15 +2,15 @@
 ghost use Rattle.std.specs.Prelude.{◌≡◌, ◌++◌, length, slice_get, option_map, OnOk, OnErr, IfErr, IfOk, Some, map};
 ghost use Rattle.std.specs.Iterator.{YieldsFirstBy, item_count};
 ghost use Rattle.toml_span_tree.specs.Error.{content_of};
-ghost use Rattle.toml_span_typed.specs.Errors.{all};
-ghost use Rattle.toml_span_typed.specs.code.Errors.{all_of_option};
+ghost use Rattle.toml_span_tree.specs.Errors.{all};
+ghost use Rattle.toml_span_tree.specs.code.Errors.{all_of_option};
 
+use crate::error::Error;
 use std::alloc::{AllocError, Global};
 use std::fmt::{Display, Formatter, Write};
 use std::marker::Model;
 use std::{fmt, mem};
 use toml_span_lex::stop::Stop;
-use toml_span_tree::Error;
 
 /// The errors of a typed read, in the order in which they were found. There is at least one.
 #[derive(Debug, Drop)]
@@ -20,8 +20,8 @@ pub struct DeserError<'s> {
 }
 
 impl<'s> Model for DeserError<'s> {
-    ghost use Rattle.toml_span_typed.specs.Errors.{Errors};
-    ghost use Rattle.toml_span_typed.specs.code.Errors.{faults_in};
+    ghost use Rattle.toml_span_tree.specs.Errors.{Errors};
+    ghost use Rattle.toml_span_tree.specs.code.Errors.{faults_in};
     ghost use Rattle.toml_span_tree.specs.Error.{content_of};
 
     ghost Value = { Errors };
@@ -30,7 +30,7 @@ impl<'s> Model for DeserError<'s> {
 }
 
 impl<'s> From<Error<'s>> for DeserError<'s> {
-    ghost use Rattle.toml_span_typed.specs.Errors.{one};
+    ghost use Rattle.toml_span_tree.specs.Errors.{one};
     ghost use Rattle.toml_span_tree.specs.Error.{content_of};
 
     ghost from_gives = { λ error faults. faults ≡ one (content_of error) };
@@ -54,7 +54,7 @@ impl<'s> From<DeserError<'s>> for Stop<DeserError<'s>> {
 }
 
 impl Display for DeserError<'_> {
-    ghost use Rattle.toml_span_typed.specs.Errors.{lines};
+    ghost use Rattle.toml_span_tree.specs.Errors.{lines};
 
     ghost output = { λ faults. Some (lines (all faults)) };
 
@@ -198,7 +198,7 @@ pub struct ErrorIter<'a, 's> {
 impl<'a, 's> Model for ErrorIter<'a, 's> {
     ghost use Rattle.std.specs.Prelude.{List, ◌++◌, map};
     ghost use Rattle.toml_span_tree.specs.Error.{ErrorContent, content_of};
-    ghost use Rattle.toml_span_typed.specs.code.Errors.{last_left};
+    ghost use Rattle.toml_span_tree.specs.code.Errors.{last_left};
 
     ghost Value = { List ErrorContent };
 

@@ -1,7 +1,7 @@
 use Rattle.toml_span_lex.proofs.Common.{map, take, HasWritten, IsPlainFormatter}
 use Rattle.toml_span_tree.specs.Error.{content_of}
-use Rattle.toml_span_typed.specs.Errors.{lines}
-use Rattle.toml_span_typed.proofs.deser_error.DeserErrorDisplay.fmt.Given as goal
+use Rattle.toml_span_tree.specs.Errors.{lines}
+use Rattle.toml_span_tree.proofs.deser_error.DeserErrorDisplay.fmt.Given as goal
 
 abbrev pub invariant-loop-error : goal.invariant-loop-error
 invariant-loop-error g l =
