@@ -190,7 +190,7 @@ class Loads(unittest.TestCase):
     def test_the_deepest_document_in_a_small_thread(self):
         headers = "".join(f"[[{'.'.join('h' * parts)}]]\n" for parts in range(1, 129))
         found = []
-        size = threading.stack_size(512 * 1024)
+        size = threading.stack_size(704 * 1024)
         try:
             thread = threading.Thread(target=lambda: found.append(toml_span.loads(headers + "k." * 127 + "k = 1")))
             thread.start()
