@@ -5,8 +5,10 @@ The checker (PROGRAM with the arguments that come before an option) runs on file
 script derives what `--format github` and `--format sarif` must write from `--format json`, with lines and columns that
 it counts itself: lines that are escaped in the way that GitHub's runner undoes, and a document with the members of the
 SARIF 2.1.0 schema. The rules of the document must be the codes of all errors that a row of toml_span_rows reports, the
-two of files that are not text, and those of schemas. No line of `--format short` may be a command.
+two of files that are not text, and those of schemas, each with the title of its page, if it has one. No line of
+`--format short` may be a command.
 """
+import functools
 import json
 import os
 import re
@@ -120,9 +122,22 @@ def all_codes():
     """Returns the codes of all errors that a row reports, those of whole files, and those of schemas."""
     with open(f"{CRATES}/toml_span_rows/stdout", encoding="utf-8") as rows:
         told = re.findall(r"(?m)^parse .*\n    error ([a-z-]+) ", rows.read())
-    with open(f"{CRATES}/toml_span_cli/src/schema_pages.rt", encoding="utf-8") as pages:
+    with open(f"{CRATES}/toml_span_commands/src/schema_pages.rt", encoding="utf-8") as pages:
         schemas = re.findall(r'(?m)^ +"(schema[a-z-]*)",$', pages.read())
     return sorted({*told, *schemas, "too-many-errors", "newer-toml", "not-utf-8", "too-long"})
+
+
+@functools.lru_cache(maxsize=None)
+def page_of(program, code):
+    """Returns what `explain` prints for a code, or "" if it has no page."""
+    ran = subprocess.run([program, "explain", code], stdout=subprocess.PIPE, stderr=subprocess.PIPE, check=False)
+    return "" if ran.returncode else ran.stdout.decode()
+
+
+def title_of(program, code):
+    """Returns the title of the page of a code as a sentence, or "" if it has no page."""
+    title = page_of(program[0], code).partition("\n")[0].removeprefix(f"{code}: ")
+    return title and f"{title[0].upper()}{title[1:]}."
 
 
 def check(program, names):
@@ -143,7 +158,9 @@ def check(program, names):
     expect("the rules", all_codes(), sorted(rule["id"] for rule in driver["rules"]))
     expect("the members of the driver", {"name", "version", "rules"}, {*driver})
     for rule in driver["rules"]:
-        expect("the members of a rule", ["text"], [*rule.pop("shortDescription"), *(rule.keys() - {"id"})])
+        title = rule.pop("shortDescription")
+        expect("the members of a rule", ["text"], [*title, *(rule.keys() - {"id"})])
+        expect("the title of a rule", title_of(program, rule["id"]) or title["text"], title["text"])
     results = [result(*it) for it in zip(faults, texts)]
     wanted = {"tool": {}, "columnKind": "unicodeCodePoints", "results": results}
     expect("the document for SARIF", {"$schema": log["$schema"], "version": "2.1.0", "runs": [wanted]}, log)

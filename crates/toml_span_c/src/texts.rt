@@ -1,7 +1,7 @@
 //! The calls that describe errors, and functions that write a text to the caller's array.
 ghost use Rattle.std.specs.Prelude.{◌≡◌, ◌≢◌, ℕ, List, IsUtf8};
 ghost use Rattle.toml_span_tree.specs.Message.{display_text};
-ghost use Rattle.toml_span_report.specs.Errors.{IsReport};
+ghost use Rattle.toml_span_mistakes.specs.Errors.{IsReport};
 ghost use Rattle.toml_span_report.specs.declared.colours.Style.TheVariants.{Plain};
 ghost use Rattle.toml_span_c.specs.Calls.{Fills, Holds, IsDocument, IsInvalid, IsStatus};
 ghost use Rattle.toml_span_c.specs.Faults as spec;
@@ -9,7 +9,7 @@ ghost use Rattle.toml_span_c.specs.Faults as spec;
 use crate::answer::{Answer, answer_to};
 use crate::faults::code_name;
 use std::alloc::Global;
-use toml_span_report::{Style, render_error};
+use toml_span_mistakes::{Style, render_error};
 
 /// Writes as much of the text to `out` as fits, and sets `length` to the length of the whole text.
 pub(crate) fn put_front(out: &mut [u8], length: &mut usize, text: &str)

@@ -13,6 +13,7 @@ use crate::statements::{Statement, is_clash, statement_of};
 use std::alloc::{AllocError, Global};
 use toml_span::Error;
 use toml_span::de::parse;
+use toml_span_mistakes::error_report;
 use toml_span_report::Report;
 
 /// The maximum number of errors to look for.
@@ -76,7 +77,7 @@ fn error_at(
     ensures { IfOk result (IsErrorOf text.now error.now) }
 {
     let place = error.span.start;
-    let report = Report::from_error(alloc, error, text)?;
+    let report = error_report(alloc, error, text)?;
     Ok(ErrorAt {
         report: settled(alloc, text, report)?,
         place,

@@ -13,6 +13,7 @@ use std::alloc::{AllocError, Global};
 use toml_span::de::parse;
 use toml_span::{Error, Stop};
 use toml_span_lex::span::Span;
+use toml_span_mistakes::error_report;
 use toml_span_places::{Replacement, replace_all};
 use toml_span_report::{Replacement as Repair, Report};
 use toml_span_safety::bytes::bytes_in;
@@ -189,7 +190,7 @@ fn with_error_fixed(
     ensures { IfOk result (λ new. spec.FixesError statement.now (content_of error.now) way
         (option_map string_bytes new)) }
 {
-    let report = Report::from_error(alloc, error, statement)?;
+    let report = error_report(alloc, error, statement)?;
     let new = repaired(alloc, statement, 0, report.replacements.as_slice(), way)?;
     Ok(new)
 }

@@ -3,18 +3,18 @@ use Rattle.std.specs.Prelude.{◌≤◌, ℕ, Bool, true, false, ◌||◌, List,
 use Rattle.std.specs.Prelude.{if◌then◌else◌}
 use Rattle.std.specs.Io.KnownBytes.{Keeps}
 use Rattle.toml_span_check.specs.Schemas.{no_schema}
-use Rattle.toml_span_cli.specs.Check.{PerformsCheck}
-use Rattle.toml_span_cli.specs.Commands.{command_named}
-use Rattle.toml_span_cli.specs.Say.{Prints, Warns}
-use Rattle.toml_span_cli.specs.Show.{PerformsShow}
-use Rattle.toml_span_cli.specs.Start.{Starts}
-use Rattle.toml_span_cli.specs.Words.{is_file, is_help, is_version}
-use Rattle.toml_span_cli.specs.declared.commands.Command.{Command}
-use Rattle.toml_span_cli.specs.declared.commands.Command.TheVariants as commands
+use Rattle.toml_span_commands.specs.Check.{PerformsCheck}
+use Rattle.toml_span_commands.specs.Commands.{command_named}
+use Rattle.toml_span_commands.specs.Say.{Prints, Warns}
+use Rattle.toml_span_commands.specs.Show.{PerformsShow}
+use Rattle.toml_span_commands.specs.Start.{Starts}
+use Rattle.toml_span_commands.specs.Words.{is_file, is_help, is_version}
+use Rattle.toml_span_commands.specs.declared.commands.Command.{Command}
+use Rattle.toml_span_commands.specs.declared.commands.Command.TheVariants as commands
 use Rattle.toml_span_cli.specs.declared.dispatch.Request.{Request}
 use Rattle.toml_span_cli.specs.declared.dispatch.Request.TheVariants as requests
-use Rattle.toml_span_cli.specs.declared.help.TheConstants.{HELP, VERSION}
-use Rattle.toml_span_cli.specs.declared.options.Query.TheVariants as queries
+use Rattle.toml_span_commands.specs.declared.help.TheConstants.{HELP, VERSION}
+use Rattle.toml_span_commands.specs.declared.options.Query.TheVariants as queries
 
 -- the request for this command; without a command, a check of files if `is_file`, otherwise an unknown request
 abbrev pub named : Option Command → Bool → Request

@@ -1,11 +1,1 @@
-pub mod Check
-pub mod Colours
-pub mod Commands
 pub mod Dispatch
-pub mod Explain
-pub mod Options
-pub mod Paths
-pub mod Say
-pub mod Show
-pub mod Start
-pub mod Words

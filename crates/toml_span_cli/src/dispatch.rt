@@ -2,26 +2,25 @@
 ghost use Rattle.std.specs.Prelude.{◌≡◌, ◌≤◌, IfOk, false, map, string_bytes};
 ghost use Rattle.toml_span_cli.specs.Dispatch.{Dispatches, Performs};
 ghost use Rattle.toml_span_cli.specs.Dispatch as spec;
-ghost use Rattle.toml_span_cli.specs.Say.{Warns};
 
-use crate::check::check;
-use crate::commands::{Command, NAMES, command_named, help_of};
-use crate::edit::{edit, edit_help};
-use crate::explain::explain;
-use crate::fmt::fmt;
-use crate::help::{HELP, VERSION};
 use crate::lsp::lsp;
-use crate::options::Query;
-use crate::say::{quoted_word, say, say_misuse};
-use crate::show::show;
-use crate::start::start;
-use crate::words::{is_file, is_help, is_version};
 use std::alloc::{AllocError, Global};
 use std::fs;
 use toml_span_check::input::Host;
 use toml_span_check::schemas::NoSchemas;
+use toml_span_commands::check::check;
+use toml_span_commands::commands::{Command, command_named};
+use toml_span_commands::edit::edit;
+use toml_span_commands::explain::explain;
+use toml_span_commands::fmt::fmt;
+use toml_span_commands::help::{HELP, VERSION};
+use toml_span_commands::helping::{help, say_unknown};
+use toml_span_commands::options::Query;
+use toml_span_commands::say::say;
+use toml_span_commands::show::show;
+use toml_span_commands::start::start;
+use toml_span_commands::words::{is_file, is_help, is_version};
 use toml_span_lines::sink::Sink;
-use toml_span_report::nearest;
 
 /// The request that the first argument makes.
 #[derive(Clone, Copy, PartialEq, Eq)]
@@ -54,64 +53,6 @@ fn request_of(word: &str, exists: bool) -> Request
         Some(command) => Request::Command(command),
         None if is_file(word) || exists => Request::Files,
         None => Request::Unknown,
-    }
-}
-
-/// Prints to `errors` that an argument is neither a command nor a file, and the most similar command, if one is
-/// similar. Returns status 2, or 3 if the write fails.
-fn say_unknown<E: Sink>(alloc: Global, word: &str, errors: &mut E) -> Result<u8, AllocError>
-    requires { E.failed errors.old ≡ false }
-    ensures { IfOk result (λ status.
-        Warns (E.contents errors.old) (E.contents errors.new) (E.failed errors.new) 2 status) }
-{
-    let shown = quoted_word(alloc, word)?;
-    let mut text = format!(in alloc; "error: no such command or file: {shown}\n")?;
-    if let Some(name) = nearest(alloc, word, &NAMES)? {
-        text.push_str("help: a command with a similar name exists: `")?;
-        text.push_str(name)?;
-        text.push_str("`\n")?;
-    }
-    text.push_str("help: `toml-span --help` lists the commands\n")?;
-    Ok(say(errors, text.as_str(), 2))
-}
-
-/// Carries out `help`: prints the help of the program or of a command, or that the arguments are wrong. `words` are
-/// `help` and its arguments. Returns the exit status.
-fn help<O: Sink, E: Sink>(
-    alloc: Global,
-    words: &[String],
-    out: &mut O,
-    errors: &mut E,
-) -> Result<u8, AllocError>
-    requires out { O.failed out.old ≡ false }
-    requires errors { E.failed errors.old ≡ false }
-    ensures { IfOk result (λ status. status ≤ 4) }
-{
-    match words {
-        [_, name] if !is_help(name.as_str()) => match command_named(name.as_str()) {
-            Some(command) => say_help(alloc, command, out),
-            None => say_unknown(alloc, name.as_str(), errors),
-        },
-        [_, _, _, ..] => say_misuse(alloc, Command::Help, "`help` takes one command", errors),
-        _ => Ok(say(out, HELP, 0)),
-    }
-}
-
-/// Prints the help of a command. Returns the exit status.
-fn say_help<O: Sink>(alloc: Global, command: Command, out: &mut O) -> Result<u8, AllocError>
-    requires { O.failed out.old ≡ false }
-    ensures { IfOk result (λ status. status ≤ 4) }
-{
-    match command {
-        Command::Set
-        | Command::Rename
-        | Command::Remove
-        | Command::Add
-        | Command::Append
-        | Command::Insert
-        | Command::Move
-        | Command::Edit => { Ok(say(out, edit_help(alloc, command)?.as_str(), 0)) }
-        _ => Ok(say(out, help_of(command), 0)),
     }
 }
 

@@ -1,12 +1,12 @@
 //! The command `lsp`.
 ghost use Rattle.std.specs.Prelude.{◌≡◌, ◌≤◌, IfOk, false};
 
-use crate::commands::Command;
-use crate::help::LSP;
-use crate::say::{say, say_misuse};
-use crate::words::is_help;
 use std::alloc::{AllocError, Global};
 use toml_span_check::input::Host;
+use toml_span_commands::commands::Command;
+use toml_span_commands::help::LSP;
+use toml_span_commands::say::{say, say_misuse};
+use toml_span_commands::words::is_help;
 use toml_span_lines::sink::Sink;
 use toml_span_lines::tracked::Tracked;
 use toml_span_lsp::serve;

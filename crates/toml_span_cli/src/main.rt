@@ -3,36 +3,16 @@
 
 ghost use Rattle.std.specs.Prelude.{◌≤◌, IfOk};
 
-mod answers;
-mod arguments;
-mod changes;
-mod check;
-mod colours;
-mod commands;
 mod dispatch;
-mod edit;
-mod explain;
-mod files;
-mod fmt;
-mod help;
 mod lsp;
-mod making;
-mod options;
-mod paths;
-mod say;
-mod schema_pages;
-mod schemas;
-mod show;
-mod start;
-mod words;
 
-use crate::colours::wants_colours;
 use crate::dispatch::dispatch;
-use crate::words::given_words;
 use std::alloc::AllocError;
 use std::io::IsTerminal;
 use std::process::ExitCode;
 use toml_span_check::input::Host;
+use toml_span_commands::colours::wants_colours;
+use toml_span_commands::words::given_words;
 use toml_span_lines::tracked::Tracked;
 
 /// Runs the program, and returns the exit status.

@@ -4,8 +4,9 @@ use std::collections::BTreeMap;
 use toml_span::value::{Key, Table};
 use toml_span::{DeserError, Span, Stop, Value, parse};
 use toml_span_check::lints::{github_line, sarif_document, sarif_result};
+use toml_span_mistakes::reports_of;
 use toml_span_report::Severity::{Error, Warning};
-use toml_span_report::{Report, Severity, Style, nearest, render_all, reports_of};
+use toml_span_report::{Report, Severity, Style, nearest, render_all};
 
 /// The name of the file, for reports.
 const NAME: &str = "Cargo.toml";

@@ -8,8 +8,8 @@ use Rattle.toml_span_tree.specs.Error.{ErrorContent}
 use Rattle.toml_span.specs.FromText.{NotRead, NotReadWithWarnings}
 use Rattle.toml_span_load.specs.Load.{AreShown, NotLoadedWithWarnings, failed}
 use Rattle.toml_span_report.specs.Report.{ReportContent, report_content}
-use Rattle.toml_span_report.specs.declared.reported.Reported.{Reported}
-use Rattle.toml_span_report.specs.Reported.{AreReported, AreReportsOfStop}
+use Rattle.toml_span_mistakes.specs.declared.reported.Reported.{Reported}
+use Rattle.toml_span_mistakes.specs.Reported.{AreReported, AreReportsOfStop}
 use Rattle.toml_span_report.specs.declared.colours.Style.{Style}
 
 pub are_told : {T : Type 0} (reads : Node → Result T Errors → Node → Type 0) (style : Style) (name text : List ℕ) (stop : Stop Errors) (reports : List ReportContent) (out : List ℕ)

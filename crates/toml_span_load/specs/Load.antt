@@ -7,12 +7,12 @@ use Rattle.toml_span_tree.specs.Node.{Node}
 use Rattle.toml_span_tree.specs.Errors.{Errors, all}
 use Rattle.toml_span.specs.FromText.{IsReadWithWarnings, NotRead, NotReadWithWarnings}
 use Rattle.toml_span_report.specs.Many.{AreReportTexts}
-use Rattle.toml_span_report.specs.Reads.{AreReportsOf}
+use Rattle.toml_span_mistakes.specs.Reads.{AreReportsOf}
 use Rattle.toml_span_report.specs.Report.{ReportContent, report_content}
-use Rattle.toml_span_report.specs.Reported.{AreReported}
+use Rattle.toml_span_mistakes.specs.Reported.{AreReported}
 use Rattle.toml_span_report.specs.Visible.{visible}
 use Rattle.toml_span_report.specs.declared.colours.Style.TheVariants as styles
-use Rattle.toml_span_report.specs.declared.reported.Reported as reported
+use Rattle.toml_span_mistakes.specs.declared.reported.Reported as reported
 use Rattle.toml_span_load.specs.declared.LoadError.{LoadError}
 use Rattle.toml_span_load.specs.declared.LoadError.TheVariants.{Memory, Io, Reported}
 use Rattle.toml_span_load.specs.declared.Unreadable.{Unreadable}

@@ -17,8 +17,9 @@ use std::{fmt, fs, io};
 use toml_span::{
     DeserError, Deserialize, DeserializeWithWarnings, Error, Stop, from_str, from_str_with_warnings,
 };
+use toml_span_mistakes::{Reported, Style, reports_of};
+use toml_span_report::render_all;
 use toml_span_report::visible::push_visible;
-use toml_span_report::{Reported, Style, render_all, reports_of};
 
 /// Why a file could not be read as a type.
 #[derive(Debug, Drop)]

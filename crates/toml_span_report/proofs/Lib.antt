@@ -1,4 +1,3 @@
-pub mod ByteLemmas
 pub mod PlaceLemmas
 pub mod LineEndLemmas
 pub mod StripLemmas

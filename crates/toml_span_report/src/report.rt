@@ -30,7 +30,7 @@ pub struct Replacement {
     pub is_safe: bool,
 }
 
-/// A message about a text, with labels at spans of the text. `from_error` makes a report from an error. A program can
+/// A message about a text, with labels at spans of the text. `toml_span_mistakes` makes reports of errors. A program can
 /// also build its own reports step by step:
 /// `Report::warning(alloc, "name-twice", "the name appears twice")?.primary(span, "here")?`.
 ///

@@ -14,7 +14,7 @@ use Rattle.toml_span_tree.specs.declared.value.Value.{Value}
 use Rattle.toml_span_lex.specs.Lines.{line_info}
 use Rattle.toml_span_read.specs.Data.{depth_limit}
 use Rattle.toml_span_report.specs.Names.{nearest}
-use Rattle.toml_span_report.specs.UnknownKeys.{listed, named}
+use Rattle.toml_span_mistakes.specs.UnknownKeys.{listed, named}
 use Rattle.toml_span.specs.Parsing.{IsRefusal, IsTree}
 use Rattle.toml_span_serde.specs.declared.misfit.Expected.{Expected}
 use Rattle.toml_span_serde.specs.declared.misfit.Expected.TheVariants as expected

@@ -3,7 +3,7 @@ use Rattle.std.specs.Prelude.{◌≡◌, ℕ, List, ◌++◌, Option, None, Some
 use Rattle.toml_span_lex.specs.declared.stop.Stop.{Stop}
 use Rattle.toml_span_lex.specs.declared.stop.Stop.TheVariants as stop
 use Rattle.toml_span_tree.specs.Error.{content_of}
-use Rattle.toml_span_report.specs.Errors.{IsReport, ReportsError}
+use Rattle.toml_span_mistakes.specs.Errors.{IsReport, ReportsError}
 use Rattle.toml_span_report.specs.Rendering.{report_text}
 use Rattle.toml_span_report.specs.Report.{ReportContent, with_help}
 use Rattle.toml_span_report.specs.declared.colours.Style.{Style}

@@ -5,7 +5,7 @@ ghost use Rattle.std.specs.Prelude.{◌≡◌, ◌++◌, [], IfOk, Some, codes, 
 ghost use Rattle.toml_span_tree.specs.Error.{content_of, custom, kind_of, marked};
 ghost use Rattle.toml_span_tree.specs.Diagnostic.{labels_of, label_content, message_of};
 ghost use Rattle.toml_span_tree.specs.Message.{code_of};
-ghost use Rattle.toml_span_report.specs.UnknownKeys.{named};
+ghost use Rattle.toml_span_mistakes.specs.UnknownKeys.{named};
 ghost use Rattle.toml_span_serde.specs.Misfits.{content_of_error, content_of_misfit, expected_text, kind_of_reason};
 ghost use Rattle.toml_span_serde.specs.Misfits.{kind_of_twice, kinds_text, meant_by, more_kinds_text, name_of};
 ghost use Rattle.toml_span_serde.specs.Misfits.{reason_text, words_of};

@@ -6,7 +6,8 @@ ghost use Rattle.toml_span_serde.specs.Shown.{IsErrorText, IsMisfitText, with_me
 use crate::misfit::{Error, Misfit};
 use std::alloc::{AllocError, Global};
 use toml_span_lex::stop::Stop;
-use toml_span_report::{Report, Style, render, render_error};
+use toml_span_mistakes::{error_report, render_error};
+use toml_span_report::{Report, Style, render};
 
 /// Returns an error of `from_str` as the text of a report: a message, and the source line with marks. For an unknown
 /// key or variant, the report suggests the expected name that is nearest, if one is near enough.
@@ -39,7 +40,7 @@ fn render_misfit(
     ensures { IfOk result (λ out. IsMisfitText style misfit.now name.now text.now (string_bytes out)) }
 {
     let error = misfit.to_error(alloc)?;
-    let report = Report::from_error(alloc, &error, text)?;
+    let report = error_report(alloc, &error, text)?;
     let report = helped(alloc, misfit.reason.meant(alloc)?, report)?;
     render(alloc, style, &report, name, text)
 }

@@ -1,7 +1,7 @@
 //! The first example in README.md: parses a text, and describes a value or the error.
 use std::alloc::{AllocError, Global};
 use toml_span::parse;
-use toml_span_report::{Style, render_stop};
+use toml_span_mistakes::{Style, render_stop};
 
 /// Returns a sentence with the span of the value at `/server/port`, or that there is no such value. If the text is not
 /// valid TOML, returns the report of the error.

@@ -1,5 +1,5 @@
 use Rattle.toml_span_lex.proofs.Common.{ℕ, List, subst, string_bytes}
-use Rattle.toml_span_report.specs.Errors.{IsReport}
+use Rattle.toml_span_mistakes.specs.Errors.{IsReport}
 use Rattle.toml_span_report.specs.declared.colours.Style.TheVariants.{Plain}
 use Rattle.toml_span_tree.specs.Error.{content_of}
 use Rattle.toml_span_c.specs.Calls.{Fills}

@@ -1,5 +1,5 @@
 use Rattle.toml_span_lex.proofs.Common.{take, map, ◌++◌, codes, string_bytes, HasWritten, IsPlainFormatter, flat_map}
-use Rattle.toml_span_report.specs.UnknownKeys.{named}
+use Rattle.toml_span_mistakes.specs.UnknownKeys.{named}
 use Rattle.toml_span_serde.proofs.misfit.write_more.Given as goal
 
 abbrev pub invariant-loop-name : goal.invariant-loop-name

@@ -1,5 +1,5 @@
 use Rattle.toml_span_lex.proofs.Common.{ap, subst, ◌∙◌, IfOk-weaker}
-use Rattle.toml_span_report.specs.Errors.{ReportsError}
+use Rattle.toml_span_mistakes.specs.Errors.{ReportsError}
 use Rattle.toml_span_report.specs.Rendering.{report_text}
 use Rattle.toml_span_report.specs.Report.{report_content}
 use Rattle.toml_span_report.specs.declared.report.Severity.TheVariants as severities

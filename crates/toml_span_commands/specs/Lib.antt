@@ -1,0 +1,10 @@
+pub mod Check
+pub mod Colours
+pub mod Commands
+pub mod Explain
+pub mod Options
+pub mod Paths
+pub mod Say
+pub mod Show
+pub mod Start
+pub mod Words

@@ -1,0 +1,262 @@
+-- The arguments of `check` and `get`. The crate `clap` parses them, as its definitions `matches_of` and `fault_of`
+-- state.
+use Rattle.std.specs.Prelude.{◌≡◌, ◌==◌, ◌&&◌, ◌||◌, not, ℕ, Bool, true, false, List, [], ◌∷◌, length, Option, Some, None, codes}
+use Rattle.std.specs.Prelude.{unwrap_or, if◌then◌else◌, Result, Ok, Err}
+use Rattle.std.specs.Str.{bytes_eq}
+use Rattle.clap.specs.Lexer.{usize_max}
+use Rattle.clap.specs.Kinds.{Kinds, or_else}
+use Rattle.clap.specs.Faults.{fault_of}
+use Rattle.clap.specs.Words.{App, Row, Rule, all_of, first_of, matches_of, new_app, new_rule, with_rule}
+use Rattle.clap.specs.declared.builder.action.ArgAction.TheVariants.{Append, SetTrue}
+use Rattle.clap.specs.declared.error.kind.ErrorKind.{ErrorKind}
+use Rattle.clap.specs.declared.error.kind.ErrorKind.TheVariants.{ArgumentConflict, InvalidValue, MissingRequiredArgument}
+use Rattle.toml_span_check.specs.declared.answer.Task.{Task}
+use Rattle.toml_span_check.specs.declared.answer.Task.TheVariants.{Check, Show}
+use Rattle.toml_span_check.specs.declared.answer.Form.{Form}
+use Rattle.toml_span_check.specs.declared.answer.Form.TheVariants as form
+use Rattle.toml_span_check.specs.declared.fixing.FixLevel.{FixLevel}
+use Rattle.toml_span_check.specs.declared.fixing.FixLevel.TheVariants.{Safe, Unsafe}
+use Rattle.toml_span_check.specs.declared.formats.Format.{Format}
+use Rattle.toml_span_check.specs.declared.formats.Format.TheVariants.{Text, Short, Json, Github, Sarif}
+use Rattle.toml_span_check.specs.declared.newer.Version.{Version}
+use Rattle.toml_span_check.specs.declared.newer.Version.TheVariants as version
+use Rattle.toml_span_check.specs.declared.schemas.Chooser.{Chooser}
+use Rattle.toml_span_check.specs.declared.schemas.Chooser.TheVariants.{Files, Arguments}
+use Rattle.toml_span_commands.specs.declared.options.Fixing.{Fixing}
+use Rattle.toml_span_commands.specs.declared.options.Fixing.TheVariants as fixings
+use Rattle.toml_span_commands.specs.declared.options.Mistake.{Mistake}
+use Rattle.toml_span_commands.specs.declared.options.Mistake.TheVariants as mistake
+use Rattle.toml_span_commands.specs.declared.options.Query.{Query}
+use Rattle.toml_span_commands.specs.declared.options.Query.TheVariants as queries
+use Rattle.toml_span_check.specs.Words.{is_bytes}
+use Rattle.toml_span_commands.specs.Words.{has}
+use Rattle.toml_span_report.specs.declared.Style.{Style}
+use Rattle.toml_span_report.specs.declared.Style.TheVariants.{Plain, Coloured}
+
+-- ---- the options of each command
+
+-- `--NAME`
+abbrev pub flag : List ℕ → Rule
+flag name = record (new_rule name) { long = Some name; action = Some SetTrue }
+
+-- `--NAME VALUE`, with a default
+abbrev pub with_default : List ℕ → List ℕ → Rule
+with_default name default = record (new_rule name) { long = Some name; defaults = default ∷ [] }
+
+-- `--NAME VALUE`, any number of times
+abbrev pub several : List ℕ → Rule
+several name = record (new_rule name) { long = Some name; action = Some Append }
+
+-- `--NAME VALUE`
+abbrev pub optional : List ℕ → Rule
+optional name = record (new_rule name) { long = Some name }
+
+-- any number of names; without a name, `.`
+abbrev pub files : Rule
+files = record (new_rule (codes "FILE")) {
+  range = Some (record { start_inclusive = 0; end_inclusive = usize_max });
+  defaults = codes "." ∷ [];
+}
+
+-- a required argument
+abbrev pub required : List ℕ → Rule
+required name = record (new_rule name) { required = true }
+
+-- the program `app` with a version, and so with the option `--version`
+abbrev pub with_version : App → App
+with_version app = record app { top = record app.top { has_version = true } }
+
+-- `[--format FORMAT] [--color WHEN]`
+unfoldable pub common : App
+common =
+    with_rule (with_rule (with_version (new_app (codes "toml-span"))) (with_default (codes "format") (codes "text")))
+    (with_default (codes "color") (codes "auto"))
+
+-- `[--format FORMAT] [--color WHEN] [--schema FILE] [--catalog FILE] [--schema-map URL=FILE].. [--no-formats]`
+unfoldable pub schemas : App
+schemas =
+    with_rule (with_rule (with_rule (with_rule common (optional (codes "schema"))) (optional (codes "catalog")))
+    (several (codes "schema-map"))) (flag (codes "no-formats"))
+
+-- `check [..] [--quiet] [--fix] [--unsafe-fixes] [--diff] [--toml VERSION] [--exclude GLOB].. [--stdin-name NAME]
+-- [FILE..]`, with the options for schemas
+unfoldable pub check : App
+check =
+    with_rule (with_rule (with_rule (with_rule (with_rule (with_rule (with_rule (with_rule schemas
+    (flag (codes "quiet"))) (flag (codes "fix"))) (flag (codes "unsafe-fixes"))) (flag (codes "diff")))
+    (with_default (codes "toml") (codes "auto"))) (several (codes "exclude")))
+    (with_default (codes "stdin-name") (codes "-"))) files
+
+-- `[--format FORMAT] [--color WHEN] [--json] [--raw] [--toml] [--tagged] [--items]`
+unfoldable pub forms : App
+forms =
+    with_rule (with_rule (with_rule (with_rule (with_rule common (flag (codes "json"))) (flag (codes "raw")))
+    (flag (codes "toml"))) (flag (codes "tagged"))) (flag (codes "items"))
+
+-- `get [--format FORMAT] [--color WHEN] [--json] [--raw] [--toml] [--tagged] [--items] FILE PATH`
+unfoldable pub get : App
+get = with_rule (with_rule forms (required (codes "FILE"))) (required (codes "PATH"))
+
+abbrev pub program : Query → App
+program queries.Check = check
+program queries.Get = get
+
+-- ---- the meaning of the options
+
+-- the value of the option or argument `name`, or an empty text if it has no value
+abbrev pub value_of : List Row → List ℕ → List ℕ
+value_of rows name = unwrap_or (first_of name rows) []
+
+-- the values of an option that may be repeated
+abbrev pub values_of : List Row → List ℕ → List (List ℕ)
+values_of rows name = unwrap_or (all_of name rows) []
+
+abbrev pub is_given : List Row → List ℕ → Bool
+is_given rows name = bytes_eq (value_of rows name) (codes "true")
+
+abbrev pub style_named : List ℕ → Bool → Option Style
+style_named name auto_is_coloured =
+    if bytes_eq name (codes "always") then Some Coloured
+    else if bytes_eq name (codes "never") then Some Plain
+    else if bytes_eq name (codes "auto") then Some (if auto_is_coloured then Coloured else Plain)
+    else None
+
+abbrev pub format_named : List ℕ → Style → Option Format
+format_named name style =
+    if bytes_eq name (codes "text") then Some (Text style)
+    else if bytes_eq name (codes "short") then Some Short
+    else if bytes_eq name (codes "json") then Some Json
+    else if bytes_eq name (codes "github") then Some Github
+    else if bytes_eq name (codes "sarif") then Some Sarif
+    else None
+
+-- `chosen` is the form that the flags so far have chosen, if any. Returns the form after one more flag, which chooses
+-- `form` if it is set, or a mistake if two flags choose a form.
+abbrev pub with_form : Result (Option Form) Mistake → Bool → Form → Result (Option Form) Mistake
+with_form chosen false form = chosen
+with_form (Ok None) true form = Ok (Some form)
+with_form (Ok (Some earlier)) true form = Err mistake.Forms
+with_form (Err mistake) true form = Err mistake
+
+-- the form in which to print the value, if a flag chooses one; a mistake if several flags do
+abbrev pub form_of : List Row → Result (Option Form) Mistake
+form_of rows =
+    with_form (with_form (with_form (with_form (with_form (Ok None)
+    (is_given rows (codes "json")) form.Plain) (is_given rows (codes "raw")) form.Raw)
+    (is_given rows (codes "toml")) form.Toml) (is_given rows (codes "tagged")) form.Tagged)
+    (is_given rows (codes "items")) form.Items
+
+abbrev pub shows : Result (Option Form) Mistake → Result Task Mistake
+shows (Ok chosen) = Ok (Show (unwrap_or chosen form.Plain))
+shows (Err mistake) = Err mistake
+
+abbrev pub version_named : List ℕ → Option Version
+version_named name =
+    if bytes_eq name (codes "auto") then Some version.Auto
+    else if bytes_eq name (codes "1.0") then Some version.Toml10
+    else if bytes_eq name (codes "1.1") then Some version.Toml11
+    else None
+
+-- `Arguments` if `--schema` or `--catalog` has a value that is not empty, otherwise `Files`
+abbrev pub chooser_of : List Row → Chooser
+chooser_of rows =
+    if length (value_of rows (codes "schema")) == 0 && length (value_of rows (codes "catalog")) == 0 then Files
+    else Arguments
+
+abbrev pub checks : Option Version → Chooser → Result Task Mistake
+checks (Some version) chooser = Ok (Check version chooser)
+checks None chooser = Err mistake.Version
+
+-- whether each of these values contains an `=`
+unfoldable pub are_maps : List (List ℕ) → Bool
+are_maps [] = true
+are_maps (m ∷ ms) = if has 61 m then are_maps ms else false
+
+abbrev pub level_of : List Row → FixLevel
+level_of rows = if is_given rows (codes "unsafe-fixes") then Unsafe else Safe
+
+-- what to do with the fixes of errors
+abbrev pub fixing_of : List Row → Fixing
+fixing_of rows =
+    if is_given rows (codes "fix")
+    then (if is_given rows (codes "diff") then fixings.Diff (level_of rows) else fixings.Write (level_of rows))
+    else fixings.No
+
+-- whether there is an option that needs `--fix`, but not `--fix`
+abbrev pub lacks_fix : List Row → Bool
+lacks_fix rows =
+    not (is_given rows (codes "fix")) && (is_given rows (codes "diff") || is_given rows (codes "unsafe-fixes"))
+
+-- the task, or the mistake in the arguments
+abbrev pub task_of : Query → List Row → Result Task Mistake
+task_of queries.Check rows =
+    if are_maps (values_of rows (codes "schema-map"))
+    then (if lacks_fix rows then Err mistake.Fix
+    else checks (version_named (value_of rows (codes "toml"))) (chooser_of rows))
+    else Err mistake.Map
+task_of queries.Get rows =
+    if is_bytes (value_of rows (codes "PATH")) then Err mistake.Path
+    else shows (form_of rows)
+
+-- the format and the task; SARIF is a mistake if the task is to print a value
+abbrev pub with_task : Format → Task → Result (Format × Task) Mistake
+with_task Sarif (Show form) = Err mistake.Sarif
+with_task format task = Ok (format, task)
+
+abbrev pub asked_of : Format → Result Task Mistake → Result (Format × Task) Mistake
+asked_of format (Ok task) = with_task format task
+asked_of format (Err mistake) = Err mistake
+
+abbrev pub with_format : Option Format → Result Task Mistake → Result (Format × Task) Mistake
+with_format (Some format) task = asked_of format task
+with_format None task = Err mistake.Format
+
+abbrev pub with_style : Option Style → Query → List Row → Result (Format × Task) Mistake
+with_style (Some style) query rows =
+    with_format (format_named (value_of rows (codes "format")) style) (task_of query rows)
+with_style None query rows = Err mistake.Color
+
+-- the format and the task, or the mistake in the arguments
+abbrev pub asked : Query → List Row → Bool → Result (Format × Task) Mistake
+asked query rows auto_is_coloured = with_style (style_named (value_of rows (codes "color")) auto_is_coloured) query rows
+
+-- the options in the arguments `words`, with their values
+unfoldable pub options : Query → List (List ℕ) → List Row
+options query words = matches_of (program query) words
+
+-- What the arguments `words` mean, if they are right: the format and the task, the path of the value to print, the
+-- patterns of files to leave out, the names of the files, whether to print nothing, and what to do with fixes.
+pub record Asks (query : Query) (words : List (List ℕ)) (auto_is_coloured : Bool) (format : Format) (task : Task)
+    (pointer : List ℕ) (excludes names : List (List ℕ)) (is_quiet : Bool) (fixing : Fixing) : Type 0 where
+  pub what : asked query (options query words) auto_is_coloured ≡ Ok (format, task)
+  pub place : pointer ≡ value_of (options query words) (codes "PATH")
+  pub left_out : excludes ≡ unwrap_or (all_of (codes "exclude") (options query words)) []
+  pub files : names ≡ unwrap_or (all_of (codes "FILE") (options query words)) []
+  pub quiet : is_quiet ≡ is_given (options query words) (codes "quiet")
+  pub fixes : fixing ≡ fixing_of (options query words)
+
+-- ---- mistakes in the options
+
+abbrev pub kind_of : Mistake → ErrorKind
+kind_of mistake.Format = InvalidValue
+kind_of mistake.Color = InvalidValue
+kind_of mistake.Version = InvalidValue
+kind_of mistake.Forms = ArgumentConflict
+kind_of mistake.Path = InvalidValue
+kind_of mistake.Sarif = ArgumentConflict
+kind_of mistake.Map = InvalidValue
+kind_of mistake.Fix = MissingRequiredArgument
+
+abbrev pub mistake_kinds : Result (Format × Task) Mistake → Kinds
+mistake_kinds (Ok what) = []
+mistake_kinds (Err mistake) = kind_of mistake ∷ []
+
+-- the kinds of error that clap may return for the arguments `words`, such as `DisplayHelp` if they ask for help; empty
+-- if clap finds no mistake
+unfoldable pub refusals : Query → List (List ℕ) → Kinds
+refusals query words = fault_of (program query) words
+
+-- the kinds of error that the arguments `words` may cause; empty if they are right
+abbrev pub faults : Query → List (List ℕ) → Bool → Kinds
+faults query words auto_is_coloured =
+    or_else (refusals query words) (mistake_kinds (asked query (options query words) auto_is_coloured))

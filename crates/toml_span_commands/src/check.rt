@@ -1,0 +1,439 @@
+//! The command `check`.
+ghost use Rattle.std.specs.Prelude.{◌≡◌, ◌≤◌, ⊤, IfOk, MatchOption, None, false, map, string_bytes};
+ghost use Rattle.toml_span_commands.specs.Check.{AsksForFixing, ChecksFixed, PerformsCheck, ShowsChanges};
+
+use crate::answers::{Answer, failed};
+use crate::edit::escaped;
+use crate::files::{read_file, replace};
+use crate::options::{Fixing, Options, Query, options_of};
+use crate::say::say;
+use crate::schemas::FileSchemas;
+use crate::start::start;
+use std::alloc::{AllocError, Global};
+use std::io::IsTerminal;
+use toml_span_check::answer::Task;
+use toml_span_check::fixing::{FixLevel, Fixed, with_fixes};
+use toml_span_check::input::{Host, Inputs};
+use toml_span_check::newer::with_older_forms;
+use toml_span_check::words::shown_word;
+use toml_span_files::unified;
+use toml_span_lines::run::BOUND;
+use toml_span_lines::sink::Sink;
+use toml_span_report::visible::visible;
+
+/// The fixes of the files so far.
+#[derive(Drop)]
+struct Fixes {
+    level: FixLevel,
+    /// Whether to print what the fixes would change, and to write no file.
+    is_diff: bool,
+    /// The number of fixes.
+    errors: usize,
+    /// The number of files with fixes.
+    files: usize,
+    /// What the fixes would change, for standard output. Empty unless `is_diff`.
+    changes: String,
+    /// The lines for standard error.
+    lines: String,
+    /// The exit status: 3 if a file can't be written. With `is_diff`, 2 if a file can't be read, and 1 if one would
+    /// change.
+    status: u8,
+    ghost small: { status ≤ 3 },
+}
+
+/// Fixes errors of `text` as `with_fixes` does, and then replaces syntax that the version of TOML in `task` lacks.
+/// Returns the new text with the number of fixes and replacements. `name` is the name of the file.
+fn fixed(
+    alloc: Global,
+    text: &str,
+    task: Task,
+    level: FixLevel,
+    name: &str,
+) -> Result<Fixed, AllocError> {
+    let made = with_fixes(alloc, text, level)?;
+    let Task::Check(version, _) = task else {
+        return Ok(made);
+    };
+    let older = with_older_forms(alloc, made.text.as_str(), version, name)?;
+    Ok(Fixed {
+        text: older.text,
+        count: made.count.saturating_add(older.count),
+    })
+}
+
+impl Fixes {
+    /// Adds the line and the status of the answer for a file that can't be read or written.
+    fn fail(&mut self, answer: &Answer) -> Result<(), AllocError> {
+        self.lines.push_str(answer.errors.as_str())?;
+        self.status = self.status.max(answer.status.min(3));
+        Ok(())
+    }
+
+    /// Writes the fixed text of the file `name` or, if `is_diff`, adds what would change. `text` is the text of the
+    /// file, and `shown` its name in reports.
+    fn put(
+        &mut self,
+        alloc: Global,
+        host: &Host,
+        name: &str,
+        shown: &str,
+        text: &str,
+        made: &Fixed,
+    ) -> Result<(), AllocError> {
+        let new = made.text.as_str();
+        if self.is_diff {
+            let shown = shown_word(alloc, shown)?;
+            let shown = visible(alloc, shown.as_str())?;
+            let changes = unified(alloc, shown.as_str(), text, new)?;
+            self.changes.push_str(changes.as_str())?;
+            self.status = self.status.max(1);
+        } else if let Some(answer) = replace(alloc, &host.rt, name, text.as_bytes(), new)? {
+            return self.fail(&answer);
+        }
+        self.errors = self.errors.saturating_add(made.count);
+        self.files = self.files.saturating_add(1);
+        Ok(())
+    }
+
+    /// Fixes errors of a file as `fixed` does, and calls `put` if there were fixes. `shown` is the name of the file in
+    /// reports: that of standard input if `name` is `-`.
+    ///
+    /// A file that can't be read, is larger than 16 MiB or is not valid UTF-8 has no fixes. The check that follows
+    /// reports what is wrong with it. If `is_diff`, no check follows, and a line says why a file can't be read.
+    /// Standard input is only read if `is_diff`.
+    fn add_file(
+        &mut self,
+        alloc: Global,
+        host: &mut Host,
+        task: Task,
+        name: &str,
+        shown: &str,
+    ) -> Result<(), AllocError> {
+        if name == "-" && !self.is_diff {
+            return Ok(());
+        }
+        let bytes = match read_file(alloc, host, name)? {
+            Ok(bytes) => bytes,
+            Err(reason) if self.is_diff => {
+                return self.fail(&failed(alloc, "error: cannot read ", name, reason.as_str(), 2)?);
+            }
+            Err(_) => return Ok(()),
+        };
+        if bytes.len() > BOUND {
+            return Ok(());
+        }
+        let Ok(text) = str::from_utf8(bytes.as_slice()) else {
+            return Ok(());
+        };
+        let made = fixed(alloc, text, task, self.level, shown)?;
+        if made.count == 0 {
+            return Ok(());
+        }
+        self.put(alloc, host, name, shown, text, &made)
+    }
+
+    /// Calls `add_file` for the file `name` or, if it is a directory, for each file found below it.
+    fn add_named(
+        &mut self,
+        alloc: Global,
+        host: &mut Host,
+        options: &Options<'_>,
+        name: &str,
+    ) -> Result<(), AllocError> {
+        let files = host.find(alloc, options.excludes.as_slice(), name)?;
+        for file in &files {
+            let file = file.as_str();
+            let shown = if file == "-" {
+                options.stdin_name
+            } else {
+                file
+            };
+            self.add_file(alloc, host, options.task, file, shown)?;
+        }
+        Ok(())
+    }
+
+    /// Removes what would be printed.
+    fn silence(&mut self, alloc: Global) {
+        self.changes = String::new(alloc);
+        self.lines = String::new(alloc);
+    }
+
+    /// Adds the line that says how many errors were fixed, or would be fixed, in how many files. Adds nothing without
+    /// fixes.
+    fn add_total(&mut self, alloc: Global) -> Result<(), AllocError> {
+        let (errors, files) = (self.errors, self.files);
+        if errors == 0 {
+            return Ok(());
+        }
+        let verb = if self.is_diff { "would fix" } else { "fixed" };
+        let error_word = if errors == 1 { "error" } else { "errors" };
+        let file_word = if files == 1 { "file" } else { "files" };
+        let line = format!(in alloc; "{verb} {errors} {error_word} in {files} {file_word}\n")?;
+        self.lines.push_str(line.as_str())
+    }
+}
+
+/// Fixes each file that `options` names, and each file found below a directory that `options` names (see `add_file`).
+/// With `--quiet`, there is nothing to print.
+fn fix_files(
+    alloc: Global,
+    options: &Options<'_>,
+    level: FixLevel,
+    is_diff: bool,
+    host: &mut Host,
+) -> Result<Fixes, AllocError> {
+    let mut fixes = Fixes {
+        level,
+        is_diff,
+        errors: 0,
+        files: 0,
+        changes: String::new(alloc),
+        lines: String::new(alloc),
+        status: 0,
+    };
+    for name in options.names.as_slice() {
+        fixes.add_named(alloc, host, options, *name)?;
+    }
+    fixes.add_total(alloc)?;
+    if options.is_quiet {
+        fixes.silence(alloc);
+    }
+    Ok(fixes)
+}
+
+/// Files, and standard input, which has a name of its own.
+#[derive(Drop)]
+struct NamedInputs {
+    host: Host,
+    stdin_name: String,
+    /// Whether standard input has been found, and not read yet.
+    is_waiting: bool,
+}
+
+impl Inputs for NamedInputs {
+    ghost log = { λ _. None };
+
+    fn find(
+        &mut self,
+        alloc: Global,
+        excludes: &[&str],
+        name: &str,
+    ) -> Result<Vec<String>, AllocError> {
+        if name == "-" {
+            self.is_waiting = true;
+            let mut found = Vec::new(alloc);
+            found.push(String::from_str(alloc, self.stdin_name.as_str())?)?;
+            return Ok(found);
+        }
+        self.host.find(alloc, excludes, name)
+    }
+
+    fn read(&mut self, alloc: Global, name: &str) -> Result<Result<Vec<u8>, String>, AllocError> {
+        if self.is_waiting && name == self.stdin_name.as_str() {
+            self.is_waiting = false;
+            self.host.read(alloc, "-")
+        } else {
+            self.host.read(alloc, name)
+        }
+    }
+}
+
+/// Returns the `FileSchemas` for the options about schemas in `words`. If the arguments `words` are wrong, returns the
+/// `FileSchemas` without options.
+fn file_schemas(alloc: Global, words: &[String], host: &Host) -> Result<FileSchemas, AllocError> {
+    match options_of(alloc, Query::Check, words, false) {
+        Ok(options) => FileSchemas::new(alloc, host.rt, &options.schemas),
+        Err(error) if error.kind() == clap::error::ErrorKind::OutOfMemory => Err(AllocError),
+        Err(_) => Ok(FileSchemas::without_options(alloc, host.rt)),
+    }
+}
+
+/// Returns the name that the arguments `words` give standard input: `-` if they give none, or are wrong.
+fn stdin_name(alloc: Global, words: &[String]) -> Result<String, AllocError> {
+    match options_of(alloc, Query::Check, words, false) {
+        Ok(options) => String::from_str(alloc, options.stdin_name),
+        Err(error) if error.kind() == clap::error::ErrorKind::OutOfMemory => Err(AllocError),
+        Err(_) => String::from_str(alloc, "-"),
+    }
+}
+
+/// Carries out `--fix`. Returns the fixes, and whether `--diff` is given. Returns `None` if the arguments don't have the
+/// option `--fix`, or are wrong. `words` are the name of the command, or of the program, and the arguments.
+fn fix(
+    alloc: Global,
+    words: &[String],
+    is_coloured: bool,
+    host: &mut Host,
+) -> Result<Option<(bool, Fixes)>, AllocError>
+    ensures { IfOk result (λ made. MatchOption made ⊤ (λ fixes.
+        AsksForFixing (map (λ w. string_bytes w) words.now) is_coloured fixes.0)) }
+{
+    match options_of(alloc, Query::Check, words, is_coloured) {
+        Ok(options) => match options.fixing {
+            Fixing::No => Ok(None),
+            Fixing::Write(level) => {
+                let fixes = fix_files(alloc, &options, level, false, host)?;
+                Ok(Some((false, fixes)))
+            }
+            Fixing::Diff(level) => {
+                let fixes = fix_files(alloc, &options, level, true, host)?;
+                Ok(Some((true, fixes)))
+            }
+        },
+        Err(error) if error.kind() == clap::error::ErrorKind::OutOfMemory => Err(AllocError),
+        Err(_) => Ok(None),
+    }
+}
+
+/// Prints the lines of `fixes`, and then what they would change. Returns the exit status.
+fn show_changes<O: Sink, E: Sink>(
+    alloc: Global,
+    fixes: Fixes,
+    host: &Host,
+    out: &mut O,
+    errors: &mut E,
+) -> Result<u8, AllocError>
+    requires out { O.failed out.old ≡ false }
+    requires errors { E.failed errors.old ≡ false }
+    ensures { IfOk result (ShowsChanges (O.contents out.old) (O.contents out.new)
+        (E.contents errors.old) (E.contents errors.new)) }
+{
+    let Fixes {
+        level: _,
+        is_diff: _,
+        errors: _,
+        files: _,
+        changes,
+        lines,
+        status,
+    } = fixes;
+    let changes = escaped(alloc, changes, host.rt.stdout().is_terminal())?;
+    match say(errors, lines.as_str(), 0) {
+        0 => Ok(say(out, changes.as_str(), status)),
+        _ => Ok(3),
+    }
+}
+
+/// Prints the lines of `fixes`, and then checks the files. Returns the exit status of the check, but at least the
+/// status of `fixes`, and 3 if the lines can't be written.
+fn check_fixed<O: Sink, E: Sink>(
+    alloc: Global,
+    fixes: &Fixes,
+    words: &[String],
+    is_coloured: bool,
+    is_watched: bool,
+    inputs: &mut NamedInputs,
+    schemas: &mut FileSchemas,
+    out: &mut O,
+    errors: &mut E,
+) -> u8
+    requires out { O.failed out.old ≡ false }
+    requires errors { E.failed errors.old ≡ false }
+    ensures { ChecksFixed (map (λ w. string_bytes w) words.now) is_coloured is_watched
+        (O.contents out.old) (O.contents out.new) (O.failed out.new)
+        (E.contents errors.old) (E.contents errors.new) (E.failed errors.new) result }
+{
+    match say(errors, fixes.lines.as_str(), 0) {
+        0 => {
+            let checked = start(
+                alloc,
+                Query::Check,
+                words,
+                is_coloured,
+                is_watched,
+                inputs,
+                schemas,
+                out,
+                errors,
+            );
+            checked.max(fixes.status)
+        }
+        _ => 3,
+    }
+}
+
+/// Carries out `check` with these schemas, and returns the exit status. The other parameters are those of the function
+/// `check`.
+fn check_with<O: Sink, E: Sink>(
+    alloc: Global,
+    words: &[String],
+    is_coloured: bool,
+    is_watched: bool,
+    host: &mut Host,
+    inputs: &mut NamedInputs,
+    schemas: &mut FileSchemas,
+    out: &mut O,
+    errors: &mut E,
+) -> Result<u8, AllocError>
+    requires out { O.failed out.old ≡ false }
+    requires errors { E.failed errors.old ≡ false }
+    ensures { IfOk result (λ status. PerformsCheck (map (λ w. string_bytes w) words.now) is_coloured is_watched
+        (O.contents out.old) (O.contents out.new) (O.failed out.new)
+        (E.contents errors.old) (E.contents errors.new) (E.failed errors.new) status) }
+{
+    match fix(alloc, words, is_coloured, host)? {
+        Some((true, fixes)) => show_changes(alloc, fixes, host, out, errors),
+        Some((false, fixes)) => Ok(check_fixed(
+            alloc,
+            &fixes,
+            words,
+            is_coloured,
+            is_watched,
+            inputs,
+            schemas,
+            out,
+            errors,
+        )),
+        None => Ok(start(
+            alloc,
+            Query::Check,
+            words,
+            is_coloured,
+            is_watched,
+            inputs,
+            schemas,
+            out,
+            errors,
+        )),
+    }
+}
+
+/// Checks files. With `--fix`, first fixes their errors, or prints with `--diff` what this would change, and checks
+/// nothing. Returns the exit status.
+///
+/// `words` are the name of the command, or of the program, and the arguments. `is_coloured` says whether `--color auto`
+/// means colors, and `is_watched` whether standard error is a terminal.
+pub fn check<O: Sink, E: Sink>(
+    alloc: Global,
+    words: &[String],
+    is_coloured: bool,
+    is_watched: bool,
+    host: &mut Host,
+    out: &mut O,
+    errors: &mut E,
+) -> Result<u8, AllocError>
+    requires out { O.failed out.old ≡ false }
+    requires errors { E.failed errors.old ≡ false }
+    ensures { IfOk result (λ status. PerformsCheck (map (λ w. string_bytes w) words.now) is_coloured is_watched
+        (O.contents out.old) (O.contents out.new) (O.failed out.new)
+        (E.contents errors.old) (E.contents errors.new) (E.failed errors.new) status) }
+{
+    let mut schemas = file_schemas(alloc, words, host)?;
+    let mut inputs = NamedInputs {
+        host: Host { rt: host.rt },
+        stdin_name: stdin_name(alloc, words)?,
+        is_waiting: false,
+    };
+    check_with(
+        alloc,
+        words,
+        is_coloured,
+        is_watched,
+        host,
+        &mut inputs,
+        &mut schemas,
+        out,
+        errors,
+    )
+}

@@ -1,0 +1,263 @@
+//! The commands that edit a file.
+ghost use Rattle.std.specs.Prelude.{◌≡◌, ◌≤◌, IfOk, false};
+
+use crate::answers::{Answer, failed, give, printed};
+use crate::arguments::{Arguments, Show, arguments_asked};
+use crate::changes::{PathEdit, change_of, count_of, option_changes, script_changes};
+use crate::commands::{Command, help_of};
+use crate::files::{read_file, unedited};
+use crate::help::EDITING;
+use crate::making::{Refusal, new_text};
+use crate::say::misuse_text;
+use std::alloc::{AllocError, Global};
+use std::io::IsTerminal;
+use toml_span::Stop;
+use toml_span_check::input::{Host, Inputs};
+use toml_span_check::words::is_bytes;
+use toml_span_files::{Failed, Failure, LIMIT, edit_file, unified};
+use toml_span_lines::sink::Sink;
+use toml_span_report::visible::{push_char, visible};
+
+/// Returns a text as it is printed. For a terminal, characters that terminals act on are escaped, except tabs and line
+/// ends.
+pub(crate) fn escaped(
+    alloc: Global,
+    text: String,
+    is_terminal: bool,
+) -> Result<String, AllocError> {
+    if !is_terminal {
+        return Ok(text);
+    }
+    let mut out = String::new(alloc);
+    for c in text.as_str().chars() {
+        match c {
+            '\t' | '\r' | '\n' => out.push(c)?,
+            _ => push_char(&mut out, c)?,
+        }
+    }
+    Ok(out)
+}
+
+/// Returns the answer for edits that were refused for the reason in `stop`. Fails if `stop` is `Stop::Memory`.
+fn refused(alloc: Global, file: &str, stop: Stop<Refusal>) -> Result<Answer, AllocError> {
+    let refusal = stop.fault()?;
+    let reason = refusal.message.as_str();
+    let mut answer = failed(alloc, "error: cannot edit ", file, reason, 1)?;
+    if refusal.is_table {
+        answer
+            .errors
+            .push_str("help: `--replace-table` replaces all of it\n")?;
+    }
+    Ok(answer)
+}
+
+/// Makes edits without replacing the file. Returns the answer, which prints the result or, with `--diff`, how the
+/// result differs from the file.
+fn show(
+    alloc: Global,
+    file: &str,
+    changes: &[PathEdit<'_>],
+    asked: &Arguments<'_>,
+    host: &mut Host,
+) -> Result<Answer, AllocError> {
+    let bytes = match read_file(alloc, host, file)? {
+        Ok(bytes) => bytes,
+        Err(reason) => {
+            return failed(alloc, "error: cannot read ", file, reason.as_str(), 2);
+        }
+    };
+    let (is_string, replaces_tables) = (asked.is_string, asked.replaces_tables);
+    let new = match new_text(alloc, bytes.as_slice(), changes, is_string, replaces_tables) {
+        Ok(new) => new,
+        Err(stop) => return refused(alloc, file, stop),
+    };
+    if new.len() > LIMIT {
+        return unedited(alloc, file, &Failure::ResultTooLong, Some(asked.options));
+    }
+    if asked.show != Show::Diff {
+        return Ok(printed(alloc, escaped(alloc, new, host.rt.stdout().is_terminal())?));
+    }
+    let old = str::from_utf8(bytes.as_slice()).unwrap_or("");
+    let name = visible(alloc, file)?;
+    let diff = unified(alloc, name.as_str(), old, new.as_str())?;
+    Ok(printed(alloc, escaped(alloc, diff, host.rt.stdout().is_terminal())?))
+}
+
+/// Makes edits, and replaces the file. Returns the answer.
+fn write(
+    alloc: Global,
+    file: &str,
+    changes: &[PathEdit<'_>],
+    asked: &Arguments<'_>,
+    host: &mut Host,
+) -> Result<Answer, AllocError> {
+    let (is_string, replaces_tables) = (asked.is_string, asked.replaces_tables);
+    let make = |bytes: &[u8]| new_text(alloc, bytes, changes, is_string, replaces_tables);
+    match edit_file(&host.rt, file, asked.options, make) {
+        Ok(_) => Ok(printed(alloc, String::new(alloc))),
+        Err(Failed::Edit(stop)) => refused(alloc, file, stop),
+        Err(Failed::File(failure)) => unedited(alloc, file, &failure, Some(asked.options)),
+    }
+}
+
+/// Makes edits, and returns the answer. For `-`, `--dry-run` and `--diff`, does what `show` does; otherwise replaces
+/// the file.
+fn perform(
+    alloc: Global,
+    file: &str,
+    changes: &[PathEdit<'_>],
+    asked: &Arguments<'_>,
+    host: &mut Host,
+) -> Result<Answer, AllocError> {
+    if file == "-" || asked.show != Show::No {
+        show(alloc, file, changes, asked, host)
+    } else {
+        write(alloc, file, changes, asked, host)
+    }
+}
+
+/// Reads a script from standard input, and makes its edits in the file `file`. Returns the answer.
+fn perform_script(
+    alloc: Global,
+    file: &str,
+    asked: &Arguments<'_>,
+    host: &mut Host,
+) -> Result<Answer, AllocError> {
+    let bytes = match host.read(alloc, "-")? {
+        Ok(bytes) => bytes,
+        Err(reason) => return failed(alloc, "error: cannot read ", "-", reason.as_str(), 2),
+    };
+    let Ok(script) = str::from_utf8(bytes.as_slice()) else {
+        return failed(
+            alloc,
+            "error: cannot read ",
+            "-",
+            "it is not valid UTF-8",
+            2,
+        );
+    };
+    match script_changes(alloc, script) {
+        Ok(changes) => perform(alloc, file, changes.as_slice(), asked, host),
+        Err(stop) => {
+            let reason = stop.fault()?;
+            failed(alloc, "error: cannot read ", "-", reason.as_str(), 2)
+        }
+    }
+}
+
+/// Returns the help text of a command that edits.
+pub(crate) fn edit_help(alloc: Global, command: Command) -> Result<String, AllocError> {
+    let mut text = String::from_str(alloc, help_of(command))?;
+    text.push_str(EDITING)?;
+    Ok(text)
+}
+
+/// Returns the answer for wrong arguments. `message` says what is wrong.
+fn misuse(alloc: Global, command: Command, message: &str) -> Result<Answer, AllocError> {
+    Ok(Answer {
+        out: String::new(alloc),
+        errors: misuse_text(alloc, command, message)?,
+        status: 2,
+    })
+}
+
+/// Returns the answer for a wrong number of arguments. `given` is this number.
+fn miscounted(alloc: Global, command: Command, given: usize) -> Result<Answer, AllocError> {
+    let wanted = count_of(command).saturating_add(1);
+    let arguments = if wanted == 1 { "argument" } else { "arguments" };
+    let message = format!(in alloc; "expected {wanted} {arguments}, found {given}")?;
+    misuse(alloc, command, message.as_str())
+}
+
+/// Makes the edits of the options `-e` or, without `-e`, of the script on standard input. Returns the answer.
+fn edit_by_script(
+    alloc: Global,
+    asked: &Arguments<'_>,
+    host: &mut Host,
+) -> Result<Answer, AllocError> {
+    let [file] = asked.words.as_slice() else {
+        return miscounted(alloc, Command::Edit, asked.words.len());
+    };
+    if asked.edits.is_empty() {
+        if *file == "-" {
+            let message = "standard input can't be both the file and the edits: use `-e`";
+            return misuse(alloc, Command::Edit, message);
+        }
+        return perform_script(alloc, *file, asked, host);
+    }
+    match option_changes(alloc, asked.edits.as_slice()) {
+        Ok(changes) => perform(alloc, *file, changes.as_slice(), asked, host),
+        Err(stop) => {
+            let message = stop.fault()?;
+            misuse(alloc, Command::Edit, message.as_str())
+        }
+    }
+}
+
+/// Makes the edit that the arguments describe. Returns the answer.
+fn edit_once(
+    alloc: Global,
+    command: Command,
+    asked: &Arguments<'_>,
+    host: &mut Host,
+) -> Result<Answer, AllocError> {
+    let words = asked.words.as_slice();
+    let [file, rest @ ..] = words else {
+        return miscounted(alloc, command, words.len());
+    };
+    match change_of(command, rest) {
+        Some(change) => match change.wrong_path(alloc)? {
+            Some(message) => misuse(alloc, command, message.as_str()),
+            None => perform(alloc, *file, &[change], asked, host),
+        },
+        None => miscounted(alloc, command, words.len()),
+    }
+}
+
+/// Parses the arguments of a command that edits, and carries out the command. Returns the answer.
+fn answer_of(
+    alloc: Global,
+    command: Command,
+    words: &[String],
+    host: &mut Host,
+) -> Result<Answer, AllocError> {
+    if words.iter().any(|word| is_bytes(word.as_str())) {
+        return misuse(alloc, command, "an argument is not valid UTF-8");
+    }
+    let asked = match arguments_asked(alloc, command, words) {
+        Ok(asked) => asked,
+        Err(stop) => {
+            let message = stop.fault()?;
+            return misuse(alloc, command, message.as_str());
+        }
+    };
+    if asked.is_help {
+        return Ok(printed(alloc, edit_help(alloc, command)?));
+    }
+    if command == Command::Edit {
+        edit_by_script(alloc, &asked, host)
+    } else {
+        edit_once(alloc, command, &asked, host)
+    }
+}
+
+/// Carries out a command that edits. `words` are the name of the command and its arguments. Returns the exit status.
+pub fn edit<O: Sink, E: Sink>(
+    alloc: Global,
+    command: Command,
+    words: &[String],
+    host: &mut Host,
+    out: &mut O,
+    errors: &mut E,
+) -> Result<u8, AllocError>
+    requires out { O.failed out.old ≡ false }
+    requires errors { E.failed errors.old ≡ false }
+    ensures { IfOk result (λ status. status ≤ 4) }
+{
+    let arguments = match words {
+        [_, rest @ ..] => rest,
+        [] => words,
+    };
+    let answer = answer_of(alloc, command, arguments, host)?;
+    Ok(give(&answer, out, errors))
+}

@@ -1,0 +1,157 @@
+//! The command `explain`.
+ghost use Rattle.std.specs.Prelude.{◌≡◌, ◌≤◌, IfOk, false, option_map};
+ghost use Rattle.toml_span_commands.specs.Explain as spec;
+
+use crate::commands::Command;
+use crate::help::EXPLAIN;
+use crate::say::{quoted_word, say, say_misuse};
+use crate::schema_pages::{SCHEMA_CODES, schema_page};
+use crate::words::is_help;
+use std::alloc::{AllocError, Global};
+use toml_span_lines::sink::Sink;
+use toml_span_report::{CODES, explain as page_of_error, nearest};
+
+/// The codes of `check` and `get` that are neither in `CODES` nor in `SCHEMA_CODES`.
+const OWN_CODES: [&str; 4] = ["too-many-errors", "not-utf-8", "too-long", "nothing-there"];
+
+/// The explanation of `too-many-errors`.
+const TOO_MANY_ERRORS: &str = "\
+more errors than are reported
+
+At most 100 errors of a file are reported, and fewer if it is larger than
+1.28 MiB. Correct some of them and check again.";
+
+/// The explanation of `not-utf-8`.
+const NOT_UTF_8: &str = "\
+a file that is not valid UTF-8
+
+TOML files are UTF-8. This one has another encoding, such as Latin-1 or UTF-16,
+or it is not a text file.
+
+    iconv -f LATIN1 -t UTF-8 old.toml >new.toml";
+
+/// The explanation of `too-long`.
+const TOO_LONG: &str = "\
+a file that is larger than 16 MiB
+
+The program reads TOML files of at most 16 MiB. Split the file.";
+
+/// The explanation of `nothing-there`.
+const NOTHING_THERE: &str = "\
+no value at the given path
+
+The file is valid, but has no value at the path of `toml-span get`.
+
+    toml-span get Cargo.toml /package/name
+    toml-span get Cargo.toml /package/keywords/0
+    toml-span get Cargo.toml ''                     # the whole document";
+
+/// Returns the explanation of a code, or `None` for an unknown code.
+#[tactic(auto, unfolding(crate::specs::Explain::page_of))]
+fn page_of(code: &str) -> Option<&'static str>
+    ensures { option_map (λ page. page.now) result ≡ spec.page_of code.now }
+{
+    match code {
+        "too-many-errors" => Some(TOO_MANY_ERRORS),
+        "not-utf-8" => Some(NOT_UTF_8),
+        "too-long" => Some(TOO_LONG),
+        "nothing-there" => Some(NOTHING_THERE),
+        _ => match schema_page(code) {
+            Some(page) => Some(page),
+            None => page_of_error(code),
+        },
+    }
+}
+
+/// Returns the first line of an explanation.
+fn title_of(page: &str) -> &str {
+    match page.split_once('\n') {
+        Some((title, _)) => title,
+        None => page,
+    }
+}
+
+/// Appends a line for each code in `list`: the code, and the first line of its explanation.
+fn push_titles(out: &mut String, list: &[&str]) -> Result<(), AllocError> {
+    for code in list {
+        out.push_str(*code)?;
+        for _ in code.len()..31 {
+            out.push(' ')?;
+        }
+        out.push_str(title_of(page_of(*code).unwrap_or("")))?;
+        out.push('\n')?;
+    }
+    Ok(())
+}
+
+/// Prints all codes with the first lines of their explanations. Returns the exit status.
+fn say_all<O: Sink>(alloc: Global, out: &mut O) -> Result<u8, AllocError>
+    requires { O.failed out.old ≡ false }
+    ensures { IfOk result (λ status. status ≤ 4) }
+{
+    let mut text = String::new(alloc);
+    push_titles(&mut text, &CODES)?;
+    push_titles(&mut text, &OWN_CODES)?;
+    push_titles(&mut text, &SCHEMA_CODES)?;
+    Ok(say(out, text.as_str(), 0))
+}
+
+/// Prints to `errors` that a code is not known, and the most similar code, if one is similar. Returns status 2, or 3 if
+/// the write fails.
+fn say_unknown<E: Sink>(alloc: Global, code: &str, errors: &mut E) -> Result<u8, AllocError>
+    requires { E.failed errors.old ≡ false }
+    ensures { IfOk result (λ status. status ≤ 4) }
+{
+    let shown = quoted_word(alloc, code)?;
+    let mut text = format!(in alloc; "error: no such code: {shown}\n")?;
+    let mut all = Vec::from_slice(alloc, &CODES)?;
+    all.extend_from_slice(&OWN_CODES)?;
+    all.extend_from_slice(&SCHEMA_CODES)?;
+    if let Some(name) = nearest(alloc, code, all.as_slice())? {
+        text.push_str("help: a code with a similar name exists: `")?;
+        text.push_str(name)?;
+        text.push_str("`\n")?;
+    }
+    text.push_str("help: `toml-span explain` lists the codes\n")?;
+    Ok(say(errors, text.as_str(), 2))
+}
+
+/// Prints the explanation of a code, or that the code is not known. Returns the exit status.
+fn say_page<O: Sink, E: Sink>(
+    alloc: Global,
+    code: &str,
+    out: &mut O,
+    errors: &mut E,
+) -> Result<u8, AllocError>
+    requires out { O.failed out.old ≡ false }
+    requires errors { E.failed errors.old ≡ false }
+    ensures { IfOk result (λ status. status ≤ 4) }
+{
+    match page_of(code) {
+        Some(page) => {
+            let text = format!(in alloc; "{code}: {page}\n")?;
+            Ok(say(out, text.as_str(), 0))
+        }
+        None => say_unknown(alloc, code, errors),
+    }
+}
+
+/// Carries out `explain`: prints the explanation of a code, the list of codes, the help, or that the arguments are
+/// wrong. `words` are the name of the command and its arguments. Returns the exit status.
+pub fn explain<O: Sink, E: Sink>(
+    alloc: Global,
+    words: &[String],
+    out: &mut O,
+    errors: &mut E,
+) -> Result<u8, AllocError>
+    requires out { O.failed out.old ≡ false }
+    requires errors { E.failed errors.old ≡ false }
+    ensures { IfOk result (λ status. status ≤ 4) }
+{
+    match words {
+        [_, word] if is_help(word.as_str()) => Ok(say(out, EXPLAIN, 0)),
+        [_, code] => say_page(alloc, code.as_str(), out, errors),
+        [_, _, _, ..] => say_misuse(alloc, Command::Explain, "`explain` takes one code", errors),
+        _ => say_all(alloc, out),
+    }
+}

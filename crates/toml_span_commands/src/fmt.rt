@@ -1,0 +1,477 @@
+//! The command `fmt`.
+ghost use Rattle.std.specs.Prelude.{◌≡◌, ◌≤◌, IfOk, false};
+ghost use Rattle.std.specs.Str.{IsValidUpTo};
+
+use crate::answers::{Answer, failed, give, printed};
+use crate::arguments::seconds;
+use crate::commands::{Command, help_of};
+use crate::edit::escaped;
+use crate::files::{read_file, replace_with, set_write_option};
+use crate::say::{say, say_misuse, unexpected};
+use crate::words::is_help;
+use std::alloc::{AllocError, Global};
+use std::fmt::Write;
+use std::io::IsTerminal;
+use toml_span::Stop;
+use toml_span_check::encoding::not_utf8;
+use toml_span_check::folder::is_folder;
+use toml_span_check::input::{Host, Inputs};
+use toml_span_check::words::shown_word;
+use toml_span_files::unified;
+use toml_span_format::{FormatError, Options, format, format_sorted};
+use toml_span_lines::run::BOUND;
+use toml_span_lines::sink::Sink;
+use toml_span_mistakes::error_report;
+use toml_span_report::visible::visible;
+use toml_span_report::{Style, render};
+
+/// The maximum value of `--width`.
+const MOST_COLUMNS: usize = 65_535;
+
+/// The maximum value of `--indent`.
+const MOST_SPACES: usize = 64;
+
+/// The options.
+const OPTIONS: [&str; 13] = [
+    "--help",
+    "--check",
+    "--diff",
+    "--sort-keys",
+    "--stdin",
+    "--quiet",
+    "--force",
+    "--change-owner",
+    "--in-place",
+    "--width",
+    "--indent",
+    "--wait",
+    "--exclude",
+];
+
+/// An option that has a value.
+#[derive(Clone, Copy)]
+enum Valued {
+    Width,
+    Indent,
+    Wait,
+    Exclude,
+}
+
+/// Returns the option with this name, or `None` if no option that has a value has this name.
+fn option_with_value(name: &str) -> Option<Valued> {
+    match name {
+        "--width" => Some(Valued::Width),
+        "--indent" => Some(Valued::Indent),
+        "--wait" => Some(Valued::Wait),
+        "--exclude" => Some(Valued::Exclude),
+        _ => None,
+    }
+}
+
+/// Returns the message that the value of the last option is missing.
+fn missing(option: Valued) -> &'static str {
+    match option {
+        Valued::Width => "a number must follow '--width'",
+        Valued::Indent => "a number must follow '--indent'",
+        Valued::Wait => "a number must follow '--wait'",
+        Valued::Exclude => "a pattern must follow '--exclude'",
+    }
+}
+
+/// The most bytes of the line that counts files: two numbers of 20 digits, words and a line end.
+const LONGEST_LINE: usize = 80;
+
+/// How many files were formatted, or would be formatted, and how many were not changed. Standard input is not counted.
+#[derive(Clone, Copy)]
+struct Count {
+    changed: usize,
+    unchanged: usize,
+}
+
+impl Count {
+    /// Counts the file `name`.
+    fn add(&mut self, name: &str, is_changed: bool) {
+        if name == "-" {
+            return;
+        }
+        if is_changed {
+            self.changed = self.changed.saturating_add(1);
+        } else {
+            self.unchanged = self.unchanged.saturating_add(1);
+        }
+    }
+}
+
+/// The parsed arguments.
+#[derive(Drop)]
+struct Asked<'w> {
+    options: Options,
+    writing: toml_span_files::Options,
+    is_check: bool,
+    is_diff: bool,
+    is_sorted: bool,
+    is_quiet: bool,
+    names: Vec<&'w str>,
+    /// The patterns of files to leave out of searches.
+    excludes: Vec<&'w str>,
+    /// The option whose value is the next argument, if any.
+    waiting: Option<Valued>,
+    /// Whether all later arguments are names of files.
+    is_over: bool,
+}
+
+/// Parses `word`, the value of `option`, as a number from 0 to `most`. Fails with a message for any other `word`.
+fn number_of(alloc: Global, option: &str, word: &str, most: usize) -> Result<usize, Stop<String>> {
+    match word.parse::<usize>() {
+        Ok(number) if number <= most => Ok(number),
+        _ => Err(Stop::Fault(format!(in alloc;
+            "the value of '{option}' must be a number from 0 to {most}"
+        )?)),
+    }
+}
+
+impl<'w> Asked<'w> {
+    /// Parses `word` as the value of an option, and stores it. Fails with a message if the value is wrong.
+    fn set(&mut self, alloc: Global, option: Valued, word: &'w str) -> Result<(), Stop<String>> {
+        match option {
+            Valued::Width => {
+                self.options.width = number_of(alloc, "--width", word, MOST_COLUMNS)?;
+            }
+            Valued::Indent => {
+                self.options.indent = number_of(alloc, "--indent", word, MOST_SPACES)?;
+            }
+            Valued::Wait => self.writing.wait = seconds(alloc, word)?,
+            Valued::Exclude => self.excludes.push(word)?,
+        }
+        Ok(())
+    }
+
+    /// Stores the option `word`, which has no value. Fails with a message if the option is unknown.
+    fn option(&mut self, alloc: Global, word: &str) -> Result<(), Stop<String>> {
+        if set_write_option(&mut self.writing, word) {
+            return Ok(());
+        }
+        match word {
+            "--check" => self.is_check = true,
+            "--diff" => self.is_diff = true,
+            "--sort-keys" => self.is_sorted = true,
+            "--stdin" => self.names.push("-")?,
+            "--quiet" => self.is_quiet = true,
+            "--" => self.is_over = true,
+            _ => return Err(Stop::Fault(unexpected(alloc, word, "", &OPTIONS)?)),
+        }
+        Ok(())
+    }
+
+    /// Stores the next argument: an option, the value of the preceding option, or the name of a file. Fails with a
+    /// message if the argument is wrong.
+    fn take(&mut self, alloc: Global, word: &'w str) -> Result<(), Stop<String>> {
+        if let Some(option) = self.waiting.take() {
+            return self.set(alloc, option, word);
+        }
+        if self.is_over || word == "-" || !word.starts_with('-') {
+            self.names.push(word)?;
+            return Ok(());
+        }
+        let (name, value) = match word.split_once('=') {
+            Some((name, value)) => (name, Some(value)),
+            None => (word, None),
+        };
+        match (option_with_value(name), value) {
+            (Some(option), Some(value)) => self.set(alloc, option, value),
+            (Some(option), None) => {
+                self.waiting = Some(option);
+                Ok(())
+            }
+            (None, _) => self.option(alloc, word),
+        }
+    }
+}
+
+/// Parses all arguments. If they name no file, stores the name `.`, the current directory. Fails with a message if an
+/// argument is wrong, or if the value of the last option is missing.
+fn asked_of<'w>(alloc: Global, arguments: &'w [String]) -> Result<Asked<'w>, Stop<String>> {
+    let mut asked = Asked {
+        options: Options::new(),
+        writing: toml_span_files::Options::USUAL,
+        is_check: false,
+        is_diff: false,
+        is_sorted: false,
+        is_quiet: false,
+        names: Vec::new(alloc),
+        excludes: Vec::new(alloc),
+        waiting: None,
+        is_over: false,
+    };
+    for word in arguments {
+        asked.take(alloc, word.as_str())?;
+    }
+    if let Some(option) = asked.waiting {
+        return Err(Stop::Fault(String::from_str(alloc, missing(option))?));
+    }
+    if asked.names.is_empty() {
+        asked.names.push(".")?;
+    }
+    Ok(asked)
+}
+
+/// Returns the answer for a file that can't be formatted.
+fn refused(
+    alloc: Global,
+    name: &str,
+    text: &str,
+    error: &FormatError<'_>,
+) -> Result<Answer, AllocError> {
+    match error {
+        FormatError::Invalid(error) => {
+            let report = error_report(alloc, error, text)?;
+            Ok(Answer {
+                out: String::new(alloc),
+                errors: render(alloc, Style::Plain, &report, name, text)?,
+                status: 1,
+            })
+        }
+        FormatError::WouldDiffer => {
+            let reason = error.to_string(alloc)?;
+            failed(alloc, "error: cannot format ", name, reason.as_str(), 1)
+        }
+    }
+}
+
+/// Returns the answer for a file that is not valid UTF-8: the report that `check` makes. `at` is the byte offset of the
+/// first invalid byte.
+fn not_text(alloc: Global, name: &str, bytes: &[u8], at: usize) -> Result<Answer, AllocError>
+    requires { IsValidUpTo bytes.now at }
+{
+    let (report, text) = not_utf8(alloc, bytes, at)?;
+    Ok(Answer {
+        out: String::new(alloc),
+        errors: render(alloc, Style::Plain, &report, name, text)?,
+        status: 1,
+    })
+}
+
+/// Returns the answer for a file that must not be written, but whose `text` would change to `new`.
+fn would_change(
+    alloc: Global,
+    asked: &Asked<'_>,
+    name: &str,
+    text: &str,
+    new: &str,
+) -> Result<Answer, AllocError> {
+    let shown = shown_word(alloc, name)?;
+    let shown = visible(alloc, shown.as_str())?;
+    let shown = shown.as_str();
+    let mut out = String::new(alloc);
+    if asked.is_diff {
+        out = unified(alloc, shown, text, new)?;
+    }
+    if asked.is_check && !asked.is_quiet {
+        let line = format!(in alloc; "would reformat: {shown}\n")?;
+        out.push_str(line.as_str())?;
+    }
+    Ok(Answer {
+        out,
+        errors: String::new(alloc),
+        status: 1,
+    })
+}
+
+/// Returns the answer for a file whose `text` was formatted to `new`, and counts the file. Writes the file if `new`
+/// differs from `text`, unless the file is standard input, or `--check` or `--diff` is given.
+fn put(
+    alloc: Global,
+    asked: &Asked<'_>,
+    host: &mut Host,
+    name: &str,
+    text: &str,
+    new: String,
+    count: &mut Count,
+) -> Result<Answer, AllocError> {
+    let is_written = !asked.is_check && !asked.is_diff;
+    if is_written && name == "-" {
+        return Ok(printed(alloc, new));
+    }
+    if text == new.as_str() {
+        count.add(name, false);
+        return Ok(printed(alloc, String::new(alloc)));
+    }
+    let new = new.as_str();
+    let answer = if !is_written {
+        would_change(alloc, asked, name, text, new)?
+    } else if let Some(unwritten) = replace_with(
+        alloc,
+        &host.rt,
+        name,
+        Some(asked.writing),
+        text.as_bytes(),
+        new,
+    )? {
+        return Ok(unwritten);
+    } else {
+        printed(alloc, String::new(alloc))
+    };
+    count.add(name, true);
+    Ok(answer)
+}
+
+/// Returns why a file can't be read: `reason` or, for a directory, that no file to format was found in it.
+fn unread<'r>(host: &Host, name: &str, reason: &'r str) -> &'r str {
+    if name != "-" && is_folder(&host.rt, name) {
+        "no `*.toml` file in this directory"
+    } else {
+        reason
+    }
+}
+
+/// Formats a file, counts it, and returns the answer. If the file can't be read or formatted, the answer says why.
+fn format_file(
+    alloc: Global,
+    asked: &Asked<'_>,
+    host: &mut Host,
+    name: &str,
+    count: &mut Count,
+) -> Result<Answer, AllocError> {
+    let front = "error: cannot format ";
+    let bytes = match read_file(alloc, host, name)? {
+        Ok(bytes) => bytes,
+        Err(reason) => {
+            let reason = unread(host, name, reason.as_str());
+            return failed(alloc, "error: cannot read ", name, reason, 2);
+        }
+    };
+    if bytes.len() > BOUND {
+        return failed(alloc, front, name, "it is larger than 16 MiB", 1);
+    }
+    let text = match str::from_utf8(bytes.as_slice()) {
+        Ok(text) => text,
+        Err(error) => return not_text(alloc, name, bytes.as_slice(), error.valid_up_to()),
+    };
+    let made = if asked.is_sorted {
+        format_sorted(alloc, text, asked.options)
+    } else {
+        format(alloc, text, asked.options)
+    };
+    match made {
+        Ok(new) if new.len() > BOUND => {
+            let reason = "the result would be larger than 16 MiB";
+            failed(alloc, front, name, reason, 1)
+        }
+        Ok(new) => put(alloc, asked, host, name, text, new, count),
+        Err(stop) => {
+            let error = stop.fault()?;
+            refused(alloc, name, text, &error)
+        }
+    }
+}
+
+/// Adds the answer for one file to the answer for all. The higher status counts.
+fn add(all: &mut Answer, one: &Answer) -> Result<(), AllocError> {
+    all.out.push_str(one.out.as_str())?;
+    all.errors.push_str(one.errors.as_str())?;
+    all.status = all.status.max(one.status);
+    Ok(())
+}
+
+/// Adds to `text` a line on how many files were formatted, or would be formatted with `--check` or `--diff`, and how
+/// many were not changed. Adds nothing if there are neither, or with `--quiet`.
+fn summarize(text: &mut String, asked: &Asked<'_>, count: Count) -> Result<(), AllocError> {
+    let (changed, unchanged) = (count.changed, count.unchanged);
+    if asked.is_quiet || (changed == 0 && unchanged == 0) {
+        return Ok(());
+    }
+    if changed > 0 {
+        let files = if changed == 1 { "file" } else { "files" };
+        let verb = if asked.is_check || asked.is_diff {
+            " would be formatted"
+        } else {
+            " formatted"
+        };
+        write!(text, "{changed} {files}{verb}")?;
+        if unchanged > 0 {
+            write!(text, ", {unchanged} unchanged")?;
+        }
+    } else {
+        let files = if unchanged == 1 { "file" } else { "files" };
+        write!(text, "{unchanged} {files} unchanged")?;
+    }
+    text.push('\n')?;
+    Ok(())
+}
+
+/// Formats each file that the arguments name, and each file found below a directory that they name. Returns one answer
+/// for all files, with a line that counts them.
+fn format_each(alloc: Global, asked: &Asked<'_>, host: &mut Host) -> Result<Answer, AllocError> {
+    // If nothing else is reported, the line that counts files needs no more memory once files have been written.
+    let errors = String::with_capacity(alloc, LONGEST_LINE)?;
+    let mut all = Answer {
+        out: String::new(alloc),
+        errors,
+        status: 0,
+    };
+    let mut count = Count {
+        changed: 0,
+        unchanged: 0,
+    };
+    for name in &asked.names {
+        let files = host.find(alloc, asked.excludes.as_slice(), *name)?;
+        for file in &files {
+            let one = format_file(alloc, asked, host, file.as_str(), &mut count)?;
+            add(&mut all, &one)?;
+        }
+    }
+    summarize(&mut all.errors, asked, count)?;
+    Ok(all)
+}
+
+/// Formats files as `format_each` does. With `--diff`, the output is escaped if standard output is a terminal.
+fn format_all(alloc: Global, asked: &Asked<'_>, host: &mut Host) -> Result<Answer, AllocError> {
+    let answer = format_each(alloc, asked, host)?;
+    if !asked.is_diff {
+        return Ok(answer);
+    }
+    let Answer {
+        out,
+        errors,
+        status,
+    } = answer;
+    let out = escaped(alloc, out, host.rt.stdout().is_terminal())?;
+    Ok(Answer {
+        out,
+        errors,
+        status,
+    })
+}
+
+/// Formats files. `words` are the name of the command and its arguments.
+///
+/// Returns the exit status: 0 for success; 1 if a file can't be formatted, or would change with `--check` or `--diff`;
+/// 2 if a file can't be read or the arguments are wrong; 3 if a write fails.
+pub fn fmt<O: Sink, E: Sink>(
+    alloc: Global,
+    words: &[String],
+    host: &mut Host,
+    out: &mut O,
+    errors: &mut E,
+) -> Result<u8, AllocError>
+    requires out { O.failed out.old ≡ false }
+    requires errors { E.failed errors.old ≡ false }
+    ensures { IfOk result (λ status. status ≤ 4) }
+{
+    let arguments = match words {
+        [_, rest @ ..] => rest,
+        [] => words,
+    };
+    if arguments.iter().any(|word| is_help(word.as_str())) {
+        return Ok(say(out, help_of(Command::Fmt), 0));
+    }
+    let asked = match asked_of(alloc, arguments) {
+        Ok(asked) => asked,
+        Err(stop) => {
+            let message = stop.fault()?;
+            return say_misuse(alloc, Command::Fmt, message.as_str(), errors);
+        }
+    };
+    let answer = format_all(alloc, &asked, host)?;
+    Ok(give(&answer, out, errors))
+}

@@ -1,0 +1,70 @@
+//! The command `help`, and the message about an unknown command.
+ghost use Rattle.std.specs.Prelude.{◌≡◌, ◌≤◌, IfOk, false};
+ghost use Rattle.toml_span_commands.specs.Say.{Warns};
+
+use crate::commands::{Command, NAMES, command_named, help_of};
+use crate::edit::edit_help;
+use crate::help::HELP;
+use crate::say::{quoted_word, say, say_misuse};
+use crate::words::is_help;
+use std::alloc::{AllocError, Global};
+use toml_span_lines::sink::Sink;
+use toml_span_report::nearest;
+
+/// Prints to `errors` that an argument is neither a command nor a file, and the most similar command, if one is
+/// similar. Returns status 2, or 3 if the write fails.
+pub fn say_unknown<E: Sink>(alloc: Global, word: &str, errors: &mut E) -> Result<u8, AllocError>
+    requires { E.failed errors.old ≡ false }
+    ensures { IfOk result (λ status.
+        Warns (E.contents errors.old) (E.contents errors.new) (E.failed errors.new) 2 status) }
+{
+    let shown = quoted_word(alloc, word)?;
+    let mut text = format!(in alloc; "error: no such command or file: {shown}\n")?;
+    if let Some(name) = nearest(alloc, word, &NAMES)? {
+        text.push_str("help: a command with a similar name exists: `")?;
+        text.push_str(name)?;
+        text.push_str("`\n")?;
+    }
+    text.push_str("help: `toml-span --help` lists the commands\n")?;
+    Ok(say(errors, text.as_str(), 2))
+}
+
+/// Carries out `help`: prints the help of the program or of a command, or that the arguments are wrong. `words` are
+/// `help` and its arguments. Returns the exit status.
+pub fn help<O: Sink, E: Sink>(
+    alloc: Global,
+    words: &[String],
+    out: &mut O,
+    errors: &mut E,
+) -> Result<u8, AllocError>
+    requires out { O.failed out.old ≡ false }
+    requires errors { E.failed errors.old ≡ false }
+    ensures { IfOk result (λ status. status ≤ 4) }
+{
+    match words {
+        [_, name] if !is_help(name.as_str()) => match command_named(name.as_str()) {
+            Some(command) => say_help(alloc, command, out),
+            None => say_unknown(alloc, name.as_str(), errors),
+        },
+        [_, _, _, ..] => say_misuse(alloc, Command::Help, "`help` takes one command", errors),
+        _ => Ok(say(out, HELP, 0)),
+    }
+}
+
+/// Prints the help of a command. Returns the exit status.
+fn say_help<O: Sink>(alloc: Global, command: Command, out: &mut O) -> Result<u8, AllocError>
+    requires { O.failed out.old ≡ false }
+    ensures { IfOk result (λ status. status ≤ 4) }
+{
+    match command {
+        Command::Set
+        | Command::Rename
+        | Command::Remove
+        | Command::Add
+        | Command::Append
+        | Command::Insert
+        | Command::Move
+        | Command::Edit => { Ok(say(out, edit_help(alloc, command)?.as_str(), 0)) }
+        _ => Ok(say(out, help_of(command), 0)),
+    }
+}

@@ -1,0 +1,454 @@
+//! The arguments of `check` and `get`.
+ghost use Rattle.std.specs.Prelude.{◌≡◌, IfOk, false, map, string_bytes, codes};
+ghost use Rattle.clap.specs.Kinds.{FailsBy};
+ghost use Rattle.clap.specs.Words.{app_of, found_of, rows_of, rule_of};
+ghost use Rattle.toml_span_commands.specs.Options as spec;
+
+use crate::help::{CHECK, GET, VERSION};
+use crate::schemas::SchemaOptions;
+use crate::words::has;
+use clap::error::ErrorKind;
+use clap::{Arg, ArgAction, ArgMatches, Command, Error};
+use std::alloc::{AllocError, Global};
+use toml_span_check::answer::{Form, Task};
+use toml_span_check::fixing::FixLevel;
+use toml_span_check::formats::Format;
+use toml_span_check::newer::Version;
+use toml_span_check::schemas::Chooser;
+use toml_span_check::words::is_bytes;
+use toml_span_report::Style;
+
+/// A command whose arguments this module parses.
+#[derive(Clone, Copy, PartialEq, Eq)]
+pub enum Query {
+    /// `check`
+    Check,
+    /// `get`
+    Get,
+}
+
+/// What `check` does with the fixes of errors.
+#[derive(Clone, Copy, PartialEq, Eq)]
+pub(crate) enum Fixing {
+    /// Nothing.
+    No,
+    /// Applies the fixes of this level, and writes the files.
+    Write(FixLevel),
+    /// Prints what the fixes of this level would change.
+    Diff(FixLevel),
+}
+
+/// The parsed arguments of `check` or `get`.
+#[derive(Drop)]
+pub(crate) struct Options<'w> {
+    pub(crate) format: Format,
+    pub(crate) task: Task,
+    /// For `get`, the path of the value to print, which is empty for the whole document. Empty for `check`.
+    pub(crate) pointer: &'w str,
+    /// The patterns of files and directories to leave out of a search.
+    pub(crate) excludes: Vec<&'w str>,
+    pub(crate) names: Vec<&'w str>,
+    /// The name of standard input in reports. For `get`, it is empty.
+    pub(crate) stdin_name: &'w str,
+    /// Whether to print nothing.
+    pub(crate) is_quiet: bool,
+    pub(crate) fixing: Fixing,
+    pub(crate) schemas: SchemaOptions<'w>,
+}
+
+/// A mistake that clap does not find in the arguments.
+#[derive(Clone, Copy, PartialEq, Eq)]
+enum Mistake {
+    /// The value of `--format` is unknown.
+    Format,
+    /// The value of `--color` is unknown.
+    Color,
+    /// The value of `--toml` is unknown.
+    Version,
+    /// Several flags choose a form in which to print the value.
+    Forms,
+    /// The path is not valid UTF-8.
+    Path,
+    /// The format is SARIF, which `get` does not support.
+    Sarif,
+    /// A value of `--schema-map` has no `=`.
+    Map,
+    /// `--diff` or `--unsafe-fixes` is given without `--fix`.
+    Fix,
+}
+
+/// Returns a flag, which is an option without a value.
+fn flag<'w>(alloc: Global, name: &'w str) -> Arg<'w>
+    ensures rule { rule_of result ≡ spec.flag name.entry.now }
+    ensures own { result.global ≡ false }
+{
+    Arg::new(alloc, name).long(name).action(ArgAction::SetTrue)
+}
+
+/// Returns an option with a default value.
+fn with_default<'w>(alloc: Global, name: &'w str, default: &'w str) -> Arg<'w>
+    ensures rule { rule_of result ≡ spec.with_default name.entry.now default.entry.now }
+    ensures own { result.global ≡ false }
+{
+    Arg::new(alloc, name).long(name).default_value(default)
+}
+
+/// Returns an option that may be repeated.
+fn several<'w>(alloc: Global, name: &'w str) -> Arg<'w>
+    ensures rule { rule_of result ≡ spec.several name.entry.now }
+    ensures own { result.global ≡ false }
+{
+    Arg::new(alloc, name).long(name).action(ArgAction::Append)
+}
+
+/// Returns an option without a default value.
+fn optional<'w>(alloc: Global, name: &'w str) -> Arg<'w>
+    ensures rule { rule_of result ≡ spec.optional name.entry.now }
+    ensures own { result.global ≡ false }
+{
+    Arg::new(alloc, name).long(name)
+}
+
+/// Returns the argument for the names of files.
+fn files<'w>(alloc: Global) -> Arg<'w>
+    ensures rule { rule_of result ≡ spec.files }
+    ensures own { result.global ≡ false }
+{
+    Arg::new(alloc, "FILE").num_args(0..).default_value(".")
+}
+
+/// Returns an argument that is required.
+fn required<'w>(alloc: Global, name: &'w str) -> Arg<'w>
+    ensures rule { rule_of result ≡ spec.required name.entry.now }
+    ensures own { result.global ≡ false }
+{
+    Arg::new(alloc, name).required(true)
+}
+
+/// Returns a command with the options that `check` and `get` share. `name` is the name of the command in messages, and
+/// `help` its help text.
+fn common<'w>(alloc: Global, name: &'w str, help: &'w str) -> Result<Command<'w>, AllocError>
+    ensures { IfOk result (λ c. app_of c ≡ spec.common) }
+{
+    Command::new(alloc, "toml-span")
+        .bin_name(name)?
+        .override_help(help)
+        .version(VERSION)
+        .arg(with_default(alloc, "format", "text"))?
+        .arg(with_default(alloc, "color", "auto"))
+}
+
+/// Returns the command `check` with the options of `common` and the options about schemas.
+fn schema_command<'w>(alloc: Global) -> Result<Command<'w>, AllocError>
+    ensures { IfOk result (λ c. app_of c ≡ spec.schemas) }
+{
+    common(alloc, "toml-span check", CHECK)?
+        .arg(optional(alloc, "schema"))?
+        .arg(optional(alloc, "catalog"))?
+        .arg(several(alloc, "schema-map"))?
+        .arg(flag(alloc, "no-formats"))
+}
+
+/// Returns the command `check` with all its arguments.
+fn check_command<'w>(alloc: Global) -> Result<Command<'w>, AllocError>
+    ensures { IfOk result (λ c. app_of c ≡ spec.check) }
+{
+    schema_command(alloc)?
+        .arg(flag(alloc, "quiet"))?
+        .arg(flag(alloc, "fix"))?
+        .arg(flag(alloc, "unsafe-fixes"))?
+        .arg(flag(alloc, "diff"))?
+        .arg(with_default(alloc, "toml", "auto"))?
+        .arg(several(alloc, "exclude"))?
+        .arg(with_default(alloc, "stdin-name", "-"))?
+        .arg(files(alloc))
+}
+
+/// Returns the command `get` with its options, but without the file and the path.
+fn forms_command<'w>(alloc: Global) -> Result<Command<'w>, AllocError>
+    ensures { IfOk result (λ c. app_of c ≡ spec.forms) }
+{
+    common(alloc, "toml-span get", GET)?
+        .arg(flag(alloc, "json"))?
+        .arg(flag(alloc, "raw"))?
+        .arg(flag(alloc, "toml"))?
+        .arg(flag(alloc, "tagged"))?
+        .arg(flag(alloc, "items"))
+}
+
+/// Returns the command `get` with all its arguments.
+fn get_command<'w>(alloc: Global) -> Result<Command<'w>, AllocError>
+    ensures { IfOk result (λ c. app_of c ≡ spec.get) }
+{
+    forms_command(alloc)?
+        .arg(required(alloc, "FILE"))?
+        .arg(required(alloc, "PATH"))
+}
+
+/// Returns the command that `query` names, with all its arguments.
+fn command<'w>(alloc: Global, query: Query) -> Result<Command<'w>, AllocError>
+    ensures { IfOk result (λ c. app_of c ≡ spec.program query) }
+{
+    match query {
+        Query::Check => check_command(alloc),
+        Query::Get => get_command(alloc),
+    }
+}
+
+/// Returns the output format with this name, or `None` for any other name. `style` is the style of the format `text`.
+fn format_named(name: &str, style: Style) -> Option<Format>
+    ensures { result ≡ spec.format_named name.now style }
+{
+    match name {
+        "text" => Some(Format::Text(style)),
+        "short" => Some(Format::Short),
+        "json" => Some(Format::Json),
+        "github" => Some(Format::Github),
+        "sarif" => Some(Format::Sarif),
+        _ => None,
+    }
+}
+
+/// Returns the style for a value of `--color`, or `None` if the value is unknown. For `auto`, the style has colors if
+/// `auto_is_coloured`.
+fn style_named(name: &str, auto_is_coloured: bool) -> Option<Style>
+    ensures { result ≡ spec.style_named name.now auto_is_coloured }
+{
+    match name {
+        "always" => Some(Style::Coloured),
+        "never" => Some(Style::Plain),
+        "auto" if auto_is_coloured => Some(Style::Coloured),
+        "auto" => Some(Style::Plain),
+        _ => None,
+    }
+}
+
+/// Returns the value of the option or argument `name`, or an empty text if it has no value.
+fn value_of<'w>(matches: &ArgMatches<'w>, name: &str) -> &'w str
+    ensures { result.now ≡ spec.value_of (rows_of (found_of matches.now)) name.now }
+{
+    matches.get_str(name).unwrap_or("")
+}
+
+/// Returns whether each of the texts contains an `=`.
+#[tactic(auto, unfolding(crate::specs::Options::are_maps))]
+fn are_maps(maps: &[&str]) -> bool
+    ensures { result ≡ spec.are_maps (map (λ m. m.now) maps.now) }
+{
+    for map in maps {
+        if !has(*map, b'=') {
+            return false;
+        }
+    }
+    true
+}
+
+/// Returns whether each value of `--schema-map` contains an `=`.
+fn has_maps(matches: &ArgMatches<'_>) -> bool
+    ensures { result ≡ spec.are_maps (spec.values_of (rows_of (found_of matches.now)) (codes "schema-map")) }
+{
+    are_maps(matches.get_strs("schema-map").unwrap_or(&[]))
+}
+
+/// Returns whether a flag is set.
+fn is_given(matches: &ArgMatches<'_>, name: &str) -> bool
+    ensures { result ≡ spec.is_given (rows_of (found_of matches.now)) name.now }
+{
+    value_of(matches, name) == "true"
+}
+
+/// Adds one flag to the flags that made the choice `chosen`, and returns the choice of all of them. If `is_given`, the
+/// added flag chooses `form`. Fails with `Mistake::Forms` if `chosen` already has a form and the added flag chooses
+/// one. If `chosen` is a mistake, fails with this mistake.
+fn with_form(
+    chosen: Result<Option<Form>, Mistake>,
+    is_given: bool,
+    form: Form,
+) -> Result<Option<Form>, Mistake>
+    ensures { result ≡ spec.with_form chosen is_given form }
+{
+    match (chosen, is_given) {
+        (Ok(None), true) => Ok(Some(form)),
+        (Ok(Some(_)), true) => Err(Mistake::Forms),
+        (chosen, _) => chosen,
+    }
+}
+
+/// Returns the form that a flag chooses, or `None` without such a flag. Fails with `Mistake::Forms` if several flags
+/// choose a form.
+fn form_of(matches: &ArgMatches<'_>) -> Result<Option<Form>, Mistake>
+    ensures { result ≡ spec.form_of (rows_of (found_of matches.now)) }
+{
+    let json = with_form(Ok(None), is_given(matches, "json"), Form::Plain);
+    let raw = with_form(json, is_given(matches, "raw"), Form::Raw);
+    let toml = with_form(raw, is_given(matches, "toml"), Form::Toml);
+    let tagged = with_form(toml, is_given(matches, "tagged"), Form::Tagged);
+    with_form(tagged, is_given(matches, "items"), Form::Items)
+}
+
+/// Returns the version of TOML with this name, or `None` for any other name.
+fn version_named(name: &str) -> Option<Version>
+    ensures { result ≡ spec.version_named name.now }
+{
+    match name {
+        "auto" => Some(Version::Auto),
+        "1.0" => Some(Version::Toml10),
+        "1.1" => Some(Version::Toml11),
+        _ => None,
+    }
+}
+
+/// Returns `Chooser::Arguments` if `--schema` or `--catalog` has a value that is not empty, otherwise `Chooser::Files`.
+fn chooser_of(matches: &ArgMatches<'_>) -> Chooser
+    ensures { result ≡ spec.chooser_of (rows_of (found_of matches.now)) }
+{
+    if value_of(matches, "schema").is_empty() && value_of(matches, "catalog").is_empty() {
+        Chooser::Files
+    } else {
+        Chooser::Arguments
+    }
+}
+
+/// Returns the level of the fixes to apply: `Unsafe` with `--unsafe-fixes`.
+fn level_of(matches: &ArgMatches<'_>) -> FixLevel
+    ensures { result ≡ spec.level_of (rows_of (found_of matches.now)) }
+{
+    if is_given(matches, "unsafe-fixes") {
+        FixLevel::Unsafe
+    } else {
+        FixLevel::Safe
+    }
+}
+
+/// Returns what to do with the fixes of errors.
+fn fixing_of(matches: &ArgMatches<'_>) -> Fixing
+    ensures { result ≡ spec.fixing_of (rows_of (found_of matches.now)) }
+{
+    if !is_given(matches, "fix") {
+        Fixing::No
+    } else if is_given(matches, "diff") {
+        Fixing::Diff(level_of(matches))
+    } else {
+        Fixing::Write(level_of(matches))
+    }
+}
+
+/// Returns whether `--diff` or `--unsafe-fixes` is given without `--fix`.
+fn lacks_fix(matches: &ArgMatches<'_>) -> bool
+    ensures { result ≡ spec.lacks_fix (rows_of (found_of matches.now)) }
+{
+    !is_given(matches, "fix") && (is_given(matches, "diff") || is_given(matches, "unsafe-fixes"))
+}
+
+/// Returns what to do with the files. Fails with a `Mistake` if the arguments are wrong.
+fn task_of(query: Query, matches: &ArgMatches<'_>) -> Result<Task, Mistake>
+    ensures { result ≡ spec.task_of query (rows_of (found_of matches.now)) }
+{
+    match query {
+        Query::Check if !has_maps(matches) => Err(Mistake::Map),
+        Query::Check if lacks_fix(matches) => Err(Mistake::Fix),
+        Query::Check => match version_named(value_of(matches, "toml")) {
+            Some(version) => Ok(Task::Check(version, chooser_of(matches))),
+            None => Err(Mistake::Version),
+        },
+        Query::Get if is_bytes(value_of(matches, "PATH")) => Err(Mistake::Path),
+        Query::Get => match form_of(matches) {
+            Ok(form) => Ok(Task::Show(form.unwrap_or(Form::Plain))),
+            Err(mistake) => Err(mistake),
+        },
+    }
+}
+
+/// Returns the format and the task. Fails with `Mistake::Sarif` if the format is SARIF and the task prints a value.
+fn with_task(format: Format, task: Task) -> Result<(Format, Task), Mistake>
+    ensures { result ≡ spec.with_task format task }
+{
+    match (format, task) {
+        (Format::Sarif, Task::Show(_)) => Err(Mistake::Sarif),
+        _ => Ok((format, task)),
+    }
+}
+
+/// Returns the format of reports, and what to do with the files. Fails with a `Mistake` if the arguments are wrong.
+fn asked(
+    query: Query,
+    matches: &ArgMatches<'_>,
+    auto_is_coloured: bool,
+) -> Result<(Format, Task), Mistake>
+    ensures { result ≡ spec.asked query (rows_of (found_of matches.now)) auto_is_coloured }
+{
+    let Some(style) = style_named(value_of(matches, "color"), auto_is_coloured) else {
+        return Err(Mistake::Color);
+    };
+    let Some(format) = format_named(value_of(matches, "format"), style) else {
+        return Err(Mistake::Format);
+    };
+    match task_of(query, matches) {
+        Ok(task) => with_task(format, task),
+        Err(mistake) => Err(mistake),
+    }
+}
+
+/// Returns clap's kind of error for a mistake.
+fn kind_of(mistake: Mistake) -> ErrorKind
+    ensures { result ≡ spec.kind_of mistake }
+{
+    match mistake {
+        Mistake::Format | Mistake::Color | Mistake::Version | Mistake::Path | Mistake::Map =>
+            ErrorKind::InvalidValue,
+        Mistake::Forms | Mistake::Sarif => ErrorKind::ArgumentConflict,
+        Mistake::Fix => ErrorKind::MissingRequiredArgument,
+    }
+}
+
+/// Returns the message for a mistake.
+fn message_of(mistake: Mistake) -> &'static str {
+    match mistake {
+        Mistake::Format => "the value of '--format' must be text, short, json, github or sarif",
+        Mistake::Color => "the value of '--color' must be auto, always or never",
+        Mistake::Version => "the value of '--toml' must be 1.0, 1.1 or auto",
+        Mistake::Forms =>
+            "only one of '--json', '--raw', '--toml', '--tagged' and '--items' can be used",
+        Mistake::Path => "the path is not valid UTF-8",
+        Mistake::Map => "the value of '--schema-map' must be URL=FILE",
+        Mistake::Sarif => "'--format sarif' can only be used with `check`",
+        Mistake::Fix => "'--diff' and '--unsafe-fixes' can only be used with '--fix'",
+    }
+}
+
+/// Parses the arguments of a command. `words` are the name of the command, or of the program, and the arguments.
+/// `auto_is_coloured` says whether `--color auto` means colors. Fails with clap's error, which may also be a request
+/// for the help or the version. If an allocation fails, the error has the kind `OutOfMemory`.
+pub(crate) fn options_of<'w>(
+    alloc: Global,
+    query: Query,
+    words: &'w [String],
+    auto_is_coloured: bool,
+) -> Result<Options<'w>, Error>
+    ensures ok { IfOk result (λ o. spec.Asks query (map (λ w. string_bytes w) words.entry.now) auto_is_coloured
+        o.format o.task o.pointer.now (map (λ pattern. pattern.now) o.excludes.items)
+        (map (λ name. name.now) o.names.items) o.is_quiet o.fixing) }
+    ensures fails { FailsBy (spec.faults query (map (λ w. string_bytes w) words.entry.now) auto_is_coloured) result }
+{
+    let mut command = command(alloc, query)?;
+    let matches = command.try_get_matches_from_mut(words)?;
+    match asked(query, &matches, auto_is_coloured) {
+        Ok((format, task)) => Ok(Options {
+            format,
+            task,
+            pointer: value_of(&matches, "PATH"),
+            excludes: Vec::from_slice(alloc, matches.get_strs("exclude").unwrap_or(&[]))?,
+            names: Vec::from_slice(alloc, matches.get_strs("FILE").unwrap_or(&[]))?,
+            stdin_name: value_of(&matches, "stdin-name"),
+            is_quiet: is_given(&matches, "quiet"),
+            fixing: fixing_of(&matches),
+            schemas: SchemaOptions {
+                schema: value_of(&matches, "schema"),
+                catalog: value_of(&matches, "catalog"),
+                maps: Vec::from_slice(alloc, matches.get_strs("schema-map").unwrap_or(&[]))?,
+                has_formats: !is_given(&matches, "no-formats"),
+            },
+        }),
+        Err(mistake) => Err(command.error(kind_of(mistake), message_of(mistake))?),
+    }
+}

@@ -1,0 +1,82 @@
+//! Prints texts, quotes arguments, and reports wrong arguments.
+ghost use Rattle.std.specs.Prelude.{◌≡◌, ℕ, List, IfOk, false, string_bytes};
+ghost use Rattle.toml_span_report.specs.Visible.{visible_lines as shown_lines};
+ghost use Rattle.toml_span_commands.specs.Say.{Prints, Warns};
+
+use crate::commands::{Command, arguments_of};
+use std::alloc::{AllocError, Global};
+use toml_span_check::words::shown_word;
+use toml_span_lines::run::write_bytes;
+use toml_span_lines::sink::Sink;
+use toml_span_report::nearest;
+use toml_span_report::visible::{push_visible, visible_lines};
+
+/// Writes a text. Returns `status`, or 3 if the write fails.
+pub fn say<W: Sink>(writer: &mut W, text: &str, status: u8) -> u8
+    requires { W.failed writer.old ≡ false }
+    ensures { Prints (W.contents writer.old) (W.contents writer.new) (W.failed writer.new) text.now status result }
+{
+    if write_bytes(writer, text.as_bytes()) {
+        status
+    } else {
+        3
+    }
+}
+
+/// Returns an argument in backticks, escaped for a terminal.
+pub(crate) fn quoted_word(alloc: Global, word: &str) -> Result<String, AllocError> {
+    let word = shown_word(alloc, word)?;
+    let mut out = String::from_str(alloc, "`")?;
+    push_visible(&mut out, word.as_str())?;
+    out.push('`')?;
+    Ok(out)
+}
+
+/// Returns the message that an argument is unexpected, followed by `note` and, if one of the options `names` is similar,
+/// by a line that names it.
+pub(crate) fn unexpected(
+    alloc: Global,
+    word: &str,
+    note: &str,
+    names: &[&str],
+) -> Result<String, AllocError> {
+    let shown = quoted_word(alloc, word)?;
+    let mut message = format!(in alloc; "unexpected argument {shown}{note}")?;
+    if let Some(name) = nearest(alloc, word, names)? {
+        message.push_str("\n\n  tip: a similar argument exists: `")?;
+        message.push_str(name)?;
+        message.push('`')?;
+    }
+    Ok(message)
+}
+
+/// Returns a text about wrong arguments, escaped for a terminal. The text has `message`, which says what is wrong, and
+/// the usage of the command.
+pub(crate) fn misuse_text(
+    alloc: Global,
+    command: Command,
+    message: &str,
+) -> Result<String, AllocError>
+    ensures { IfOk result (λ out. (text : List ℕ) × (string_bytes out ≡ shown_lines text)) }
+{
+    let arguments = arguments_of(command);
+    let text = format!(in alloc;
+        "error: {message}\n\nUsage: toml-span {arguments}\n\nFor more information, try '--help'.\n"
+    )?;
+    visible_lines(alloc, text.as_str())
+}
+
+/// Prints to `errors` the text that `misuse_text` makes. Returns status 2, or 3 if the write fails.
+pub fn say_misuse<E: Sink>(
+    alloc: Global,
+    command: Command,
+    message: &str,
+    errors: &mut E,
+) -> Result<u8, AllocError>
+    requires { E.failed errors.old ≡ false }
+    ensures { IfOk result (λ status.
+        Warns (E.contents errors.old) (E.contents errors.new) (E.failed errors.new) 2 status) }
+{
+    let text = misuse_text(alloc, command, message)?;
+    Ok(say(errors, text.as_str(), 2))
+}

@@ -1,0 +1,146 @@
+//! Carries out the commands `check` and `get`.
+ghost use Rattle.std.specs.Prelude.{◌≡◌, IfOk, List, ℕ, false, map, string_bytes};
+ghost use Rattle.clap.specs.Values.{kind_of};
+ghost use Rattle.toml_span_report.specs.Visible.{visible_lines};
+ghost use Rattle.toml_span_commands.specs.Start.{Refuses, Starts};
+ghost use Rattle.toml_span_commands.specs.Start as spec;
+
+use crate::commands::Command;
+use crate::help::{CHECK, GET, VERSION};
+use crate::options::{Query, options_of};
+use crate::paths::wrong_path;
+use crate::say::{misuse_text, say};
+use clap::Error;
+use clap::error::ErrorKind;
+use std::alloc::{AllocError, Global};
+use toml_span_check::input::Inputs;
+use toml_span_check::run::run;
+use toml_span_check::schemas::Schemas;
+use toml_span_check::words::shown_word;
+use toml_span_lines::sink::Sink;
+use toml_span_report::visible::{visible, visible_lines};
+
+/// Returns the help text of a command.
+fn help_of(query: Query) -> &'static str
+    ensures { result.now ≡ spec.help_of query }
+{
+    match query {
+        Query::Check => CHECK,
+        Query::Get => GET,
+    }
+}
+
+/// Returns the message about wrong arguments. `words` are the arguments, escaped for a terminal. If the escaped
+/// arguments are right, the mistake is that the path is not valid UTF-8.
+fn message_of(alloc: Global, query: Query, words: &[String]) -> Result<String, AllocError> {
+    match options_of(alloc, query, words, false) {
+        Ok(options) => {
+            let path = options.pointer;
+            format!(in alloc; "error: the path `{path}` is not valid UTF-8\n")
+        }
+        Err(error) => {
+            if error.kind() == ErrorKind::OutOfMemory {
+                return Err(AllocError);
+            }
+            error.to_string(alloc)
+        }
+    }
+}
+
+/// Returns the message about wrong arguments, escaped for a terminal.
+fn mistake(alloc: Global, query: Query, words: &[String]) -> Result<String, AllocError>
+    ensures { IfOk result (λ out. (message : List ℕ) × (string_bytes out ≡ visible_lines message)) }
+{
+    let mut shown = Vec::new(alloc);
+    for word in words {
+        let word = shown_word(alloc, word.as_str())?;
+        shown.push(visible(alloc, word.as_str())?)?;
+    }
+    let message = message_of(alloc, query, shown.as_slice())?;
+    visible_lines(alloc, message.as_str())
+}
+
+/// Returns the message about a path of `get` that can't be read, escaped for a terminal. Returns `None` if the path can
+/// be read.
+fn path_mistake(alloc: Global, path: &str) -> Result<Option<String>, AllocError>
+    ensures { IfOk result (spec.SaysOfPath path.now) }
+{
+    match wrong_path(alloc, path)? {
+        Some(message) => Ok(Some(misuse_text(alloc, Command::Get, message.as_str())?)),
+        None => Ok(None),
+    }
+}
+
+/// Prints the help or the version if the arguments ask for one of them, otherwise the message about wrong arguments.
+/// `error` is clap's error for `words`. Returns the exit status: 0 for the help or version, 2 for wrong arguments, 3 if
+/// a write fails, 4 if an allocation fails.
+fn refuse<O: Sink, E: Sink>(
+    alloc: Global,
+    query: Query,
+    words: &[String],
+    error: &Error,
+    out: &mut O,
+    errors: &mut E,
+) -> u8
+    requires out { O.failed out.old ≡ false }
+    requires errors { E.failed errors.old ≡ false }
+    ensures { Refuses query (kind_of error.now) (O.contents out.old) (O.contents out.new) (O.failed out.new)
+        (E.contents errors.old) (E.contents errors.new) (E.failed errors.new) result }
+{
+    match error.kind() {
+        ErrorKind::OutOfMemory => 4,
+        ErrorKind::DisplayHelp => say(out, help_of(query), 0),
+        ErrorKind::DisplayVersion => say(out, VERSION, 0),
+        _ => match mistake(alloc, query, words) {
+            Ok(message) => say(errors, message.as_str(), 2),
+            Err(_) => 4,
+        },
+    }
+}
+
+/// Carries out `check` or `get`. If the arguments are right, calls `toml_span_check::run::run`, and returns its exit
+/// status. Otherwise prints the help or version with status 0, or the message about wrong arguments with status 2. The
+/// status is 3 if a write fails, and 4 if an allocation fails.
+///
+/// `words` are the name of the command, or of the program, and the arguments. `auto_is_coloured` says whether
+/// `--color auto` means colors, and `is_watched` whether standard error is a terminal.
+pub fn start<I: Inputs, S: Schemas, O: Sink, E: Sink>(
+    alloc: Global,
+    query: Query,
+    words: &[String],
+    auto_is_coloured: bool,
+    is_watched: bool,
+    inputs: &mut I,
+    schemas: &mut S,
+    out: &mut O,
+    errors: &mut E,
+) -> u8
+    requires out { O.failed out.old ≡ false }
+    requires errors { E.failed errors.old ≡ false }
+    ensures { Starts S.says query (map (λ w. string_bytes w) words.now) auto_is_coloured is_watched
+        (I.log inputs.old) (I.log inputs.new)
+        (O.contents out.old) (O.contents out.new) (O.failed out.new)
+        (E.contents errors.old) (E.contents errors.new) (E.failed errors.new) result }
+{
+    match options_of(alloc, query, words, auto_is_coloured) {
+        Ok(options) => match path_mistake(alloc, options.pointer) {
+            Ok(None) => run(
+                alloc,
+                options.format,
+                options.task,
+                options.pointer,
+                options.excludes.as_slice(),
+                options.names.as_slice(),
+                is_watched,
+                options.is_quiet,
+                inputs,
+                schemas,
+                out,
+                errors,
+            ),
+            Ok(Some(message)) => say(errors, message.as_str(), 2),
+            Err(_) => 4,
+        },
+        Err(error) => refuse(alloc, query, words, &error, out, errors),
+    }
+}

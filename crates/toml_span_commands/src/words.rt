@@ -1,0 +1,76 @@
+//! Reads the arguments of the command line, and tests single arguments.
+ghost use Rattle.std.specs.Prelude.{◌≡◌};
+ghost use Rattle.toml_span_commands.specs.Words as spec;
+
+use std::alloc::AllocError;
+use std::env::FillError;
+use std::rt::Env;
+use toml_span_check::words::word_text;
+
+/// Returns the bytes of the argument at the position `at`, or `None` after the last argument.
+fn word(rt: &HostRuntime, at: usize) -> Result<Option<Vec<u8>>, AllocError> {
+    let mut size = 256usize;
+    for _ in 0..usize::BITS {
+        let mut word = vec![in rt.alloc(); 0u8; size]?;
+        match rt.arg(at, word.as_mut_slice()) {
+            Ok(length) => {
+                word.truncate(length);
+                return Ok(Some(word));
+            }
+            Err(FillError::NotPresent) => return Ok(None),
+            Err(FillError::TooLong) => size = size.saturating_mul(2),
+        }
+    }
+    Err(AllocError)
+}
+
+/// Returns all arguments as texts, as `word_text` converts them. The first argument is the name of the program.
+pub fn given_words(rt: &HostRuntime) -> Result<Vec<String>, AllocError> {
+    let mut words = Vec::new(rt.alloc());
+    for at in 0..usize::MAX {
+        let Some(word) = word(rt, at)? else {
+            break;
+        };
+        words.push(word_text(rt.alloc(), word.as_slice())?)?;
+    }
+    Ok(words)
+}
+
+/// Returns whether an argument is `-h` or `--help`.
+pub fn is_help(word: &str) -> bool
+    ensures { result ≡ spec.is_help word.now }
+{
+    word == "-h" || word == "--help"
+}
+
+/// Returns whether an argument is `-V` or `--version`.
+pub fn is_version(word: &str) -> bool
+    ensures { result ≡ spec.is_version word.now }
+{
+    word == "-V" || word == "--version"
+}
+
+/// Returns whether an argument begins with this byte.
+fn begins_with(word: &str, byte: u8) -> bool
+    ensures { result ≡ spec.begins_with byte word.now }
+{
+    match word.as_bytes() {
+        [] => false,
+        [first, ..] => *first == byte,
+    }
+}
+
+/// Returns whether an argument contains this byte.
+pub(crate) fn has(word: &str, byte: u8) -> bool
+    ensures { result ≡ spec.has byte word.now }
+{
+    word.as_bytes().contains(&byte)
+}
+
+/// Returns whether an argument can't be a misspelled command: it begins with `-`, contains `.` or `/`, or was not valid
+/// UTF-8 before `word_text` converted it.
+pub fn is_file(word: &str) -> bool
+    ensures { result ≡ spec.is_file word.now }
+{
+    begins_with(word, b'-') || has(word, b'.') || has(word, b'/') || has(word, 0)
+}

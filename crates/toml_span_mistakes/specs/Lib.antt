@@ -1,0 +1,4 @@
+pub mod Errors
+pub mod Reads
+pub mod Reported
+pub mod UnknownKeys
