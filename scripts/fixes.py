@@ -5,7 +5,9 @@ Puts one mistake at a time into a valid document: a statement of MISTAKES, or a 
 N times a value without quotes. The program fixes the documents, with --unsafe by unsafe fixes too. Then this must hold:
 
     outside    all lines outside the statement are as before, and lines end as before
-    faultless  the file is as before, or the statement and the file are valid (for TOML 1.0: tomllib)
+    faultless  the file is as before, or the statement and the file are valid (for TOML 1.0: tomllib). A bracket put into
+               a value of several lines, or taken from it, may divide it into several statements, of which not all may
+               have a fix: then the file has fewer errors
     others     the values of all other statements are as before, unless the statement is a header
     comments   the statement's comments have the same texts, their markers aside
     quotes     quotes that were added enclose one whole value, without blanks or special characters (without --unsafe)
@@ -17,6 +19,7 @@ last line names. The status is 1 if something does not hold.
 """
 
 import argparse
+import collections
 import difflib
 import os
 import random
@@ -137,10 +140,8 @@ class Maker:
         """Returns a valid statement with something changed, and None, since its comments may have changed too."""
         pick = self.random.randrange(5)
         line = statement.rstrip("\n")
-        # (a bracket in a value of several lines would divide it into several statements)
-        brackets = "" if "\n" in line else "[]{}"
         if pick == 0:
-            places = [at for at, c in enumerate(line) if c in "\"'=," + brackets]
+            places = [at for at, c in enumerate(line) if c in "\"'=,[]{}"]
             if places:
                 at = self.random.choice(places)
                 return line[:at] + line[at + 1:] + "\n", None
@@ -150,7 +151,7 @@ class Maker:
             return line.replace(", ", self.random.choice([" ", "; ", ",, ", " , , "]), 1) + "\n", None
         if pick == 3:
             at = self.random.randrange(len(line) + 1)
-            return line[:at] + self.random.choice(";,\"'=x# " + brackets) + line[at:] + "\n", None
+            return line[:at] + self.random.choice(";,\"'=x# []{}") + line[at:] + "\n", None
         return line + self.random.choice([";", ",", " ;", " x", "]", "}", " // c", " y = 1", "; z = 2"]) + "\n", None
 
     def unquoted(self):
@@ -167,12 +168,14 @@ class Case:
     def __init__(self, maker, is_value):
         statements = maker.document()
         self.is_crlf = maker.random.randrange(5) == 0
+        self.is_divided = False
         at = maker.random.randrange(len(statements) + 1)
         after = statements[at:]
         if is_value:
             bad, self.comments = maker.unquoted()
         elif maker.random.randrange(2) and after and after[0].strip(" \n")[:1] not in ("", "#"):
             bad, self.comments = maker.change(after[0])
+            self.is_divided = "\n" in bad[:-1]
             after = after[1:]
         else:
             bad, self.comments = maker.mistake()
@@ -186,6 +189,7 @@ class Case:
             for field in ("before", "bad", "after"):
                 setattr(self, field, getattr(self, field).replace("\n", "\r\n"))
         self.text = self.before + self.bad + self.after
+        self.is_crlf = "\r\n" in self.text
 
     def is_mistake(self):
         try:
@@ -194,8 +198,8 @@ class Case:
         except (tomllib.TOMLDecodeError, ValueError):
             return True
 
-    def wrong(self, new, is_unsafe):
-        """Returns what does not hold for the file after the fixes, or None."""
+    def wrong(self, new, is_unsafe, errors, left):
+        """Returns what does not hold for the file after the fixes, or None. It had `errors` errors, and has `left` now."""
         if new == self.text:
             return None
         if not new.startswith(self.before) or not new.endswith(self.after):
@@ -210,7 +214,7 @@ class Case:
         try:
             statement, tree = map(tomllib.loads, older)
         except (tomllib.TOMLDecodeError, ValueError):
-            return "faultless"
+            return None if self.is_divided and left < errors else "faultless"
         is_header = any(line.lstrip().startswith("[") for line in made.split("\n")[:1])
         if not is_header and not contains(tree, tomllib.loads(self.before + self.after)):
             return "others"
@@ -236,13 +240,16 @@ def contains(tree, part):
 def keeps_comments(old, new):
     """Returns whether each comment of a fixed statement ends a line of the old one, and the other way round as far as
     the old statement has only closed strings."""
-    ends = [line.rstrip() for line in old.replace("\r", "").split("\n")]
+    lines = old.replace("\r", "").split("\n")
+    ends = [line.rstrip() for line in lines]
     for comment in comments_of(new.replace("\r", "")):
         marked = [line for line in ends if line.endswith(comment)]
         fronts = [line[:len(line) - len(comment)].rstrip() for line in marked]
         if not any(front.endswith(("#", "//", ";", "--")) for front in fronts):
             return False
-    plain = re.sub(r'"(?:\\.|[^"\\\n])*"|\'[^\'\n]*\'', '""', old.replace("\r", ""))
+    # (a line that begins with `;` or `//` is a comment, with all that is in it)
+    others = [line for line in lines if not line.lstrip().startswith((";", "//"))]
+    plain = re.sub(r'"(?:\\.|[^"\\\n])*"|\'[^\'\n]*\'', '""', "\n".join(others))
     if re.search(r"[\"'`“”‘’]", plain.replace('""', "")):
         return True
     wanted = [match[1].strip() for match in re.finditer(r"#([^\n]*)", plain)]
@@ -275,17 +282,20 @@ def run(program, cases, is_unsafe, folder):
     for path, case in zip(paths, cases):
         with open(path, "w", encoding="utf-8", newline="") as file:
             file.write(case.text)
-    words = [program, "check", "--fix", "--format", "short", *(["--unsafe-fixes"] if is_unsafe else []), folder]
-    result = subprocess.run(words, capture_output=True, text=True, timeout=600)
-    if result.returncode not in (0, 1):
-        print(result.stderr[-2000:])
-        sys.exit(f"fixes: status {result.returncode}")
+    counts = []
+    for options in ([], ["--fix", "--unsafe-fixes"] if is_unsafe else ["--fix"]):
+        words = [program, "check", "--format", "short", *options, folder]
+        result = subprocess.run(words, capture_output=True, text=True, timeout=600)
+        if result.returncode not in (0, 1):
+            print(result.stderr[-2000:])
+            sys.exit(f"fixes: status {result.returncode}")
+        counts.append(collections.Counter(line.split(":")[0] for line in result.stdout.splitlines()))
     wrong, changed = [], 0
     for path, case in zip(paths, cases):
         with open(path, encoding="utf-8", newline="") as file:
             new = file.read()
         changed += new != case.text
-        name = case.wrong(new, is_unsafe)
+        name = case.wrong(new, is_unsafe, counts[0][path], counts[1][path])
         if name:
             wrong.append((name, case.text, new))
     told = re.search(r"^fixed \d+ errors? in (\d+) files?$", result.stderr, re.M)
@@ -326,7 +336,7 @@ def main():
     finally:
         if not options.keep:
             shutil.rmtree(folder, ignore_errors=True)
-    for name, old, new in wrong[:20]:
+    for name, old, new in sorted(wrong, key=lambda one: one[0])[:: max(len(wrong) // 20, 1)]:
         print(f"fixes: wrong: {name}")
         lines = difflib.unified_diff(old.splitlines(True), new.splitlines(True), "before", "after", n=1)
         sys.stdout.writelines(line if line.endswith("\n") else line + "\n" for line in lines)

@@ -114,9 +114,17 @@ fixes() {
     chmod 444 broken/a.toml
     writes 3 "$broken
 error: cannot write \`broken/a.toml\`: it is read-only
+help: \`--force\` edits it all the same
 fixed 1 error in 1 file" check --fix --format short broken
     holds test "$(<broken/b.toml)" = 'a = true'
     ends 3 check --fix --quiet broken
+    ends 0 check --fix --force --quiet broken
+    holds test "$(<broken/a.toml)" = 'a = true'
+    printf 'a = True\n' >broken/b.toml
+    ln broken/b.toml broken/c.toml
+    ends 3 check --fix --quiet broken/b.toml
+    ends 0 check --fix --in-place --quiet broken/b.toml
+    holds test "$(<broken/c.toml)" = 'a = true'
     cd - >/dev/null || return
 }
 

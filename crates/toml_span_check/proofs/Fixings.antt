@@ -1,5 +1,5 @@
 -- One more fix, and one more statement.
-use Rattle.toml_span_lex.proofs.Common.{◌≡◌, ◌<◌, ℕ, List, [], ◌∷◌, ◌++◌, length, take, take_more, get_or, ◌+◌, min, Option, Some, None, Result, Ok, Err, IfOk, AllocError, Global, String, string_bytes, option_map, subst, sym, inl}
+use Rattle.toml_span_lex.proofs.Common.{◌≡◌, ◌<◌, ℕ, List, [], ◌∷◌, ◌++◌, length, take, take_more, get_or, ◌+◌, min, Option, Some, None, Result, Ok, Err, IfOk, AllocError, Global, String, string_bytes, option_map, subst, sym, inl, true}
 use Rattle.toml_span_lex.specs.declared.stop.Stop.TheVariants as stops
 use Rattle.toml_span_read.specs.Data.{depth_limit}
 use Rattle.toml_span_tree.specs.declared.error.Error.{Error}
@@ -8,8 +8,10 @@ use Rattle.toml_span.specs.Parsing.{IsRefusal}
 use Rattle.toml_span_safety.specs.Drafts.{Parts}
 use Rattle.toml_span_syntax.specs.declared.pieces.Piece.{Piece}
 use Rattle.toml_span_syntax.specs.declared.statements.Statement.{Statement}
-use Rattle.toml_span_check.specs.Fixing.{AddsStatement, Checks, Drafts, FixOf, FixesError, Leads, Mends, NextFix, another, fix, fixed, one_more}
-use Rattle.toml_span_check.specs.Safety.{own_bytes, own_pieces}
+use Rattle.toml_span_check.specs.declared.fixing.FixLevel.TheVariants as levels
+use Rattle.toml_span_check.specs.Fixing.{AddsStatement, Checks, Drafts, FixOf, FixesError, HasFix, Leads, Mends, NextFix, another, fix, fixed, one_more, way_of}
+use Rattle.toml_span_check.specs.Safety.{may_fix}
+use Rattle.toml_span_check.specs.Statements.{own_bytes, own_pieces}
 use Rattle.toml_span_check.specs.declared.fixing.Fix.{Fix}
 use Rattle.toml_span_check.specs.declared.fixing.Fixed.{Fixed}
 use Rattle.toml_span_check.specs.declared.fixing.Step.{Step}
@@ -49,12 +51,18 @@ drafts_more text pieces way ss i n m d old new below before adds =
 -- a statement whose new text was checked
 pub fix_checked : (text : List ℕ) (pieces : List Piece) (s : Statement) (way : Way) (old : List ℕ) (own : List Piece) (field : Option Fixed) (made : Fixed) (r : Result (Option Fix) AllocError) →
     old ≡ own_bytes text pieces s → own ≡ own_pieces pieces s → Mends old way (option_map fixed field) → field ≡ Some made →
-    IfOk r (λ f. Checks text own (fixed made) (option_map fix f)) → IfOk r (λ f. FixOf text pieces s way (option_map fix f))
-fix_checked text pieces s way old own field made (Err e) same_text same_own mends is checks = tt
-fix_checked text pieces s way old own field made (Ok f) same_text same_own mends is checks =
+    IfOk r (λ f. Checks text own (fixed made) (option_map fix f)) → may_fix text pieces s way.limit ≡ true → IfOk r (λ f. FixOf text pieces s way (option_map fix f))
+fix_checked text pieces s way old own field made (Err e) same_text same_own mends is checks within = tt
+fix_checked text pieces s way old own field made (Ok f) same_text same_own mends is checks within =
     inl (
       fixed made,
       subst (λ (m : Option Fixed). Mends (own_bytes text pieces s) way (option_map fixed m)) is
           (subst (λ (t : List ℕ). Mends t way (option_map fixed field)) same_text mends),
       subst (λ (ps : List Piece). Checks text ps (fixed made) (option_map fix f)) same_own checks,
+      within,
     )
+
+-- a statement that safe fixes fix
+pub has_fix : (text : List ℕ) (pieces : List Piece) (s : Statement) (way : Way) (field : Option Fix) (f : Fix) → way ≡ way_of pieces levels.Safe → FixOf text pieces s way (option_map fix field) → field ≡ Some f → HasFix text pieces s
+has_fix text pieces s way field f same made is =
+    (fix f, subst (λ (w : Way). FixOf text pieces s w (Some (fix f))) same (subst (λ (o : Option Fix). FixOf text pieces s way (option_map fix o)) is made))

@@ -1,3 +1,4 @@
+pub mod Blanks
 pub mod EncodingLemmas
 pub mod Endings
 pub mod Errors

@@ -1,37 +1,81 @@
 -- The errors of a text, up to a maximum number.
-use Rattle.std.specs.Prelude.{◌≡◌, ℕ, ◌-◌, ◌/◌, ◌≤◌, min, max, ◌==◌, List, [], ◌∷◌, ◌++◌, codes, take, drop, length}
-use Rattle.std.specs.Prelude.{if◌then◌else◌}
+use Rattle.std.specs.Prelude.{◌≡◌, ℕ, ◌-◌, ◌/◌, ◌≤◌, min, max, Bool, true, false, ◌==◌, List, [], ◌∷◌, ◌++◌, codes}
+use Rattle.std.specs.Prelude.{take, drop, length, if◌then◌else◌}
 use Rattle.std.specs.List.{list_any, repeat}
 use Rattle.toml_span_lex.specs.declared.stop.Stop.TheVariants.{Fault}
 use Rattle.toml_span_tree.specs.declared.error.Error.{Error}
 use Rattle.toml_span_tree.specs.declared.value.Value.{Value}
-use Rattle.toml_span_tree.specs.Error.{content_of}
+use Rattle.toml_span_tree.specs.Error.{Kind, content_of, dotted_key_invalid_type, duplicate_key, duplicate_table, kind_of}
+use Rattle.toml_span_tree.specs.Error.{redefine_as_array}
 use Rattle.toml_span_read.specs.Data.{depth_limit}
 use Rattle.toml_span.specs.Parsing.{IsTree, IsRefusal}
 use Rattle.toml_span_mistakes.specs.Errors.{ReportsError}
 use Rattle.toml_span_report.specs.Report.{ReportContent, bare}
 use Rattle.toml_span_report.specs.declared.report.Severity.TheVariants as severity
+use Rattle.toml_span_safety.specs.Drafts.{IsReading}
+use Rattle.toml_span_syntax.specs.declared.pieces.Piece.{Piece}
+use Rattle.toml_span_syntax.specs.declared.statements.Statement.{Statement}
 use Rattle.toml_span_check.specs.Fixable.{IsSettled}
+use Rattle.toml_span_check.specs.Statements.{extent_of, offset_of}
+use Rattle.toml_span_check.specs.declared.statements.Extent.{Extent}
 
--- ---- texts with spaces
+-- ---- the source
 
--- a text with spaces in place of the bytes between two offsets
+-- a text, its pieces and its statements
+pub record Source : Type 0 where
+  pub text : List ℕ
+  pub pieces : List Piece
+  pub statements : List Statement
+
+abbrev pub IsRead : Source → Type 0
+IsRead source = IsReading source.text source.pieces source.statements
+
+-- a text with spaces in place of the bytes between two offsets, if there are any
 abbrev pub blank : ℕ → ℕ → List ℕ → List ℕ
-blank from to text = take from text ++ repeat (to - from) (codes " ") ++ drop to text
+blank from to text = take from text ++ repeat (to - from) (codes " ") ++ drop (max to from) text
 
-abbrev pub IsBlanked : List ℕ → List ℕ → Type 0
-IsBlanked text copy = (from to : ℕ) × (copy ≡ blank from to text)
+-- ---- an error
+
+-- whether two keys or headers clash
+abbrev pub is_clash : Kind → Bool
+is_clash (duplicate_key name first) = true
+is_clash (duplicate_table name first) = true
+is_clash redefine_as_array = true
+is_clash (dotted_key_invalid_type first) = true
+is_clash _ = false
+
+-- the statements that this error concerns, if reading began at the piece at `from`
+abbrev pub extent : Source → ℕ → Error → Extent
+extent source from error =
+    extent_of source.text source.pieces source.statements from error.span.start (is_clash (kind_of error.kind))
+
+-- a copy of the source with spaces in place of these statements too; and one with spaces before the piece at `next`
+abbrev pub without : Source → Extent → List ℕ → List ℕ
+without source e copy =
+    blank (offset_of source.text source.pieces e.statement.first) (offset_of source.text source.pieces e.end) copy
+
+abbrev pub rest : Source → ℕ → List ℕ
+rest source next = blank 0 (offset_of source.text source.pieces next) source.text
+
+-- the report of this error of a copy of the source; its replacements are marked as safe only if safe fixes fix the
+-- statement with the error
+abbrev pub ReportsFixable : Source → ℕ → List ℕ → Error → ReportContent → Type 0
+ReportsFixable source from copy error report =
+    (made : ReportContent) × ReportsError severity.Error copy (content_of error) made
+    × IsSettled source.text source.pieces (extent source from error).statement made report
 
 -- ---- the errors
 
--- the offsets of the errors so far, their reports, and the text with spaces in place of their statements
+-- the offsets of the errors so far, their reports, the piece at which reading goes on, and the text with spaces in place
+-- of the statements that the errors concern
 pub record Progress : Type 0 where
   pub places : List ℕ
   pub reports : List ReportContent
+  pub next : ℕ
   pub blanked : List ℕ
 
 abbrev pub nothing : List ℕ → Progress
-nothing text = record { places = []; reports = []; blanked = text }
+nothing text = record { places = []; reports = []; next = 0; blanked = text }
 
 -- the reports, with one more for an error at this offset unless there is a report for that offset already
 abbrev pub with_new : List ReportContent → List ℕ → ReportContent → ℕ → List ReportContent
@@ -40,32 +84,31 @@ with_new reports places report place =
 
 abbrev pub AddsReport : ReportContent → ℕ → Progress → Progress → Type 0
 AddsReport report place old new =
-    (new.reports ≡ with_new old.reports old.places report place) × (new.places ≡ old.places ++ place ∷ [])
-    × (new.blanked ≡ old.blanked)
+    new ≡ record old { reports = with_new old.reports old.places report place; places = old.places ++ place ∷ [] }
 
--- `new` is `old` after one more error.
-pub record Adds (report : ReportContent) (place : ℕ) (old new : Progress) : Type 0 where
-  pub reports : new.reports ≡ with_new old.reports old.places report place
-  pub places : new.places ≡ old.places ++ place ∷ []
-  pub blanked : IsBlanked old.blanked new.blanked
+-- `new` is `old` after one more error, which concerns these statements.
+abbrev pub Adds : Source → Extent → ReportContent → ℕ → Progress → Progress → Type 0
+Adds source e report place old new =
+    new ≡ record {
+      places = old.places ++ place ∷ [];
+      reports = with_new old.reports old.places report place;
+      next = e.next;
+      blanked = without source e old.blanked;
+    }
 
--- the report of this error; its replacements are marked as safe only if a statement has a safe fix
-abbrev pub ReportsFixable : List ℕ → Error → ReportContent → Type 0
-ReportsFixable text error report =
-    (made : ReportContent) × ReportsError severity.Error text (content_of error) made × IsSettled text made report
+-- The error that `parse` returns for a copy of the source is added. Reading began at the piece at `from`.
+abbrev pub AddsError : Source → ℕ → List ℕ → Progress → Progress → Type 0
+AddsError source from copy old new =
+    (error : Error) × IsRefusal copy depth_limit (Fault error)
+    × ((report : ReportContent) × ReportsFixable source from copy error report
+    × Adds source (extent source from error) report error.span.start old new)
 
--- The error that `parse` returns for the text is added.
-abbrev pub AddsError : List ℕ → Progress → Progress → Type 0
-AddsError text old new =
-    (error : Error) × IsRefusal text depth_limit (Fault error)
-    × ((report : ReportContent) × ReportsFixable text error report × Adds report error.span.start old new)
-
--- The first error is the one that `parse` returns for the text. Each further error is the one that `parse` returns for
--- a copy of the text. The copy has spaces between two offsets, or in place of the statements with errors so far.
-pub data Finds (text : List ℕ) : Progress → Type 0 where
-  first : (p : Progress) → AddsError text (nothing text) p → Finds text p
-  reading : (p q : Progress) (copy : List ℕ) → Finds text p → IsBlanked text copy → AddsError copy p q → Finds text q
-  clash : (p q : Progress) → Finds text p → AddsError p.blanked p q → Finds text q
+-- Each error is the one that `parse` returns for a copy of the source: with spaces in place of all that has been read, or
+-- in place of the statements that the errors so far concern. The first copy is the source itself.
+pub data Finds (source : Source) : Progress → Type 0 where
+  none : Finds source (nothing source.text)
+  reading : (p q : Progress) → Finds source p → AddsError source p.next (rest source p.next) p q → Finds source q
+  clash : (p q : Progress) → Finds source p → AddsError source 0 p.blanked p q → Finds source q
 
 -- the maximum number of errors to look for in a text of this length
 abbrev pub most : ℕ → ℕ
@@ -79,6 +122,8 @@ too_many = bare severity.Error (codes "too-many-errors") (codes "too many errors
 -- error, and the last report says so.
 pub data Checks (text : List ℕ) : List ReportContent → Type 0 where
   valid : (root : Value) → IsTree text depth_limit root → Checks text []
-  all : (p : Progress) (root : Value) → Finds text p → IsTree p.blanked depth_limit root → Checks text p.reports
-  many : (p : Progress) (error : Error) → Finds text p → IsRefusal p.blanked depth_limit (Fault error)
-      → most (length text) ≤ length p.places → Checks text (p.reports ++ too_many ∷ [])
+  all : (source : Source) (p : Progress) (root : Value) → source.text ≡ text → IsRead source → Finds source p
+      → IsTree p.blanked depth_limit root → Checks text p.reports
+  many : (source : Source) (p : Progress) (error : Error) → source.text ≡ text → IsRead source → Finds source p
+      → IsRefusal p.blanked depth_limit (Fault error) → most (length text) ≤ length p.places
+      → Checks text (p.reports ++ too_many ∷ [])

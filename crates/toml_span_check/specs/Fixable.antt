@@ -3,7 +3,9 @@ use Rattle.std.specs.Prelude.{◌≡◌, ◌≢◌, ◌⊎◌, ℕ, ◌+◌, Boo
 use Rattle.std.specs.Prelude.{count_by, Option, Some, None, if◌then◌else◌}
 use Rattle.std.specs.List.{list_all}
 use Rattle.toml_span_report.specs.Report.{Repair, ReportContent}
-use Rattle.toml_span_check.specs.Fixing.{HasFix}
+use Rattle.toml_span_syntax.specs.declared.pieces.Piece.{Piece}
+use Rattle.toml_span_syntax.specs.declared.statements.Statement.{Statement}
+use Rattle.toml_span_check.specs.Fixing.{HasFix, HasNoFix}
 use Rattle.toml_span_check.specs.declared.fixable.Count.{Count}
 use Rattle.toml_span_check.specs.declared.fixing.FixLevel.{FixLevel}
 use Rattle.toml_span_check.specs.declared.fixing.FixLevel.TheVariants.{Safe, Unsafe}
@@ -21,12 +23,13 @@ level_of (first ∷ more) = if all_safe (first ∷ more) then Some Safe else Som
 abbrev pub as_unsafe : Repair → Repair
 as_unsafe repair = record repair { is_safe = false }
 
--- `settled` is the report `made`, or that report with all replacements marked as unsafe. If all replacements stay marked
--- as safe, safe fixes can fix a statement of the text.
-abbrev pub IsSettled : List ℕ → ReportContent → ReportContent → Type 0
-IsSettled text made settled =
-    (settled ≡ record made { replacements = map as_unsafe made.replacements })
-    ⊎ ((settled ≡ made) × ((level_of made.replacements ≢ Some Safe) ⊎ HasFix text))
+-- `settled` is the report `made` of an error in a statement. If all its replacements are marked as safe, but safe fixes
+-- don't fix the statement, they are marked as unsafe.
+abbrev pub IsSettled : List ℕ → List Piece → Statement → ReportContent → ReportContent → Type 0
+IsSettled text pieces s made settled =
+    ((settled ≡ made) × ((level_of made.replacements ≢ Some Safe) ⊎ HasFix text pieces s))
+    ⊎ ((settled ≡ record made { replacements = map as_unsafe made.replacements })
+    × (level_of made.replacements ≡ Some Safe) × HasNoFix text pieces s)
 
 -- ---- numbers of errors
 

@@ -17,9 +17,8 @@ use Rattle.toml_span_safety.specs.Drafts.{HasSizes, IsReading, Parts, add, empty
 use Rattle.toml_span_syntax.specs.declared.pieces.Piece.{Piece}
 use Rattle.toml_span_syntax.specs.declared.statements.Statement.{Statement}
 use Rattle.toml_span_check.specs.Safety as fixes
-use Rattle.toml_span_check.specs.Safety.{all_kept, has_open_string, kept, offset_of, own_bytes, own_pieces, repaired}
-use Rattle.toml_span_check.specs.Safety.{same_comments}
-use Rattle.toml_span_check.specs.Safety.{uses_crlf}
+use Rattle.toml_span_check.specs.Safety.{all_kept, first_open, kept, may_fix, repaired, same_comments, uses_crlf}
+use Rattle.toml_span_check.specs.Statements.{offset_of, own_bytes, own_pieces}
 use Rattle.toml_span_check.specs.declared.fixing.Fix.{Fix}
 use Rattle.toml_span_check.specs.declared.fixing.Fixed.{Fixed}
 use Rattle.toml_span_check.specs.declared.fixing.FixLevel.{FixLevel}
@@ -95,11 +94,13 @@ Checks text own made None =
     ⊎ ((pieces : List Piece) × (statements : List Statement) × IsReading made.0 pieces statements
     × (same_comments text own made.0 pieces ≡ false))
 
--- The statement is fixed, or has no error, or can't be fixed.
+-- The statement is fixed, or has no error, or can't be fixed, or may not be fixed.
 abbrev pub FixOf : List ℕ → List Piece → Statement → Way → Option Mended → Type 0
 FixOf text pieces s way new =
-    ((made : Made) × Mends (own_bytes text pieces s) way (Some made) × Checks text (own_pieces pieces s) made new)
-    ⊎ ((Mends (own_bytes text pieces s) way None ⊎ ¬ IsUtf8 (own_bytes text pieces s)) × (new ≡ None))
+    ((made : Made) × Mends (own_bytes text pieces s) way (Some made) × Checks text (own_pieces pieces s) made new
+    × (may_fix text pieces s way.limit ≡ true))
+    ⊎ ((Mends (own_bytes text pieces s) way None ⊎ ¬ IsUtf8 (own_bytes text pieces s)
+    ⊎ (may_fix text pieces s way.limit ≡ false)) × (new ≡ None))
 
 -- ---- a text
 
@@ -123,18 +124,17 @@ Finishes count parts (Some made) =
     (0 < count) × HasSizes parts.text parts true × (made.0 ≡ parts.text) × (made.1 ≡ count)
 Finishes count parts None = (count ≡ 0) ⊎ HasSizes parts.text parts false ⊎ ¬ IsUtf8 parts.text
 
--- Lines end as the first one does.
+-- Lines end as the first one does. Nothing is fixed after a multi-line string that is not closed: any line may then be a
+-- part of the string.
 abbrev pub way_of : List Piece → FixLevel → Way
-way_of pieces level = record { level = level; is_crlf = uses_crlf pieces }
+way_of pieces level = record { level = level; is_crlf = uses_crlf pieces; limit = first_open pieces }
 
--- The statements are fixed one by one, unless a multi-line string is not closed: any line may then be a part of a
--- string.
+-- The statements are fixed one by one.
 abbrev pub FixesStatements : List ℕ → FixLevel → Option Made → Type 0
 FixesStatements text level made =
     (pieces : List Piece) × (statements : List Statement) × IsReading text pieces statements
-    × (((has_open_string pieces ≡ true) × (made ≡ None))
-    ⊎ ((count : ℕ) × (parts : Parts) × (has_open_string pieces ≡ false)
-    × Drafts text pieces (way_of pieces level) statements count parts × Finishes count parts made))
+    × ((count : ℕ) × (parts : Parts) × Drafts text pieces (way_of pieces level) statements count parts
+    × Finishes count parts made)
 
 -- The text with its errors fixed, or as it was: if it is valid, or if its statements have no fixes.
 abbrev pub Fixes : List ℕ → FixLevel → Made → Type 0
@@ -145,18 +145,20 @@ Fixes text level made =
 
 -- ---- one fix
 
--- The errors of a statement can be fixed by safe fixes.
-abbrev pub HasFix : List ℕ → Type 0
-HasFix text =
-    (pieces : List Piece) × (statements : List Statement) × IsReading text pieces statements
-    × ((s : Statement) × (m : Mended) × FixOf text pieces s (way_of pieces levels.Safe) (Some m))
+-- Safe fixes fix the errors of a statement, or not.
+abbrev pub HasFix : List ℕ → List Piece → Statement → Type 0
+HasFix text pieces s = (m : Mended) × FixOf text pieces s (way_of pieces levels.Safe) (Some m)
 
--- The statement with these replacements made has no error, and the same comments.
+abbrev pub HasNoFix : List ℕ → List Piece → Statement → Type 0
+HasNoFix text pieces s = FixOf text pieces s (way_of pieces levels.Safe) None
+
+-- The statement with these replacements made has no error, and the same comments. It may be fixed.
 abbrev pub IsMade : List ℕ → List Piece → Statement → List Repair → Way → Mended → Type 0
 IsMade text pieces s repairs way m =
     (Some m.text ≡ repaired (own_bytes text pieces s) (offset_of text pieces s.first) repairs way)
     × ((root : Value) × IsTree m.text depth_limit root) × IsReading m.text m.pieces m.statements
     × (same_comments text (own_pieces pieces s) m.text m.pieces ≡ true)
+    × (may_fix text pieces s way.limit ≡ true)
 
 -- The text with these replacements made is that of the parts, and has their pieces and statements.
 abbrev pub Makes : List ℕ → List Repair → Bool → Parts → Type 0
@@ -171,7 +173,6 @@ pub record IsSafeFix (text : List ℕ) (repairs : List Repair) : Type 0 where
   pub statement : Statement
   pub after : List Statement
   pub reading : IsReading text pieces (before ++ statement ∷ after)
-  pub closed : has_open_string pieces ≡ false
   pub fix : Mended
   pub made : IsMade text pieces statement repairs (way_of pieces levels.Safe) fix
   pub others : Makes text repairs (uses_crlf pieces)

@@ -15,5 +15,6 @@ pub mod Safety
 pub mod Sarif
 pub mod Schemas
 pub mod Shown
+pub mod Statements
 pub mod Words
 pub mod code

@@ -1,7 +1,8 @@
 -- What a fix must keep.
 use Rattle.std.specs.Prelude.{◌≡◌, ℕ, ◌+◌, ◌-◌, Bool, true, false, ◌&&◌, ◌==◌, List, [], ◌∷◌, map, length}
-use Rattle.std.specs.Prelude.{slice_get, slice_range, Option, Some, None, if◌then◌else◌}
-use Rattle.std.specs.List.{list_all, list_any}
+use Rattle.std.specs.Prelude.{Option, Some, None, if◌then◌else◌, min, nat_le, not, position, slice_get, slice_index}
+use Rattle.std.specs.Prelude.{unwrap_or}
+use Rattle.std.specs.List.{list_all}
 use Rattle.std.specs.Str.{bytes_eq}
 use Rattle.toml_span_lex.specs.declared.span.Span.{Span}
 use Rattle.toml_span_places.specs.Replace.{SpanEdit, replaced}
@@ -10,8 +11,11 @@ use Rattle.toml_span_safety.specs.Comments.{comments}
 use Rattle.toml_span_safety.specs.Drafts.{Parts, add}
 use Rattle.toml_span_safety.specs.Quotes.{quotes_value}
 use Rattle.toml_span_syntax.specs.Statements.{is_line_end, is_open_long}
+use Rattle.toml_span_syntax.specs.declared.pieces.Kind.{Kind}
+use Rattle.toml_span_syntax.specs.declared.pieces.Kind.TheVariants as kinds
 use Rattle.toml_span_syntax.specs.declared.pieces.Piece.{Piece}
 use Rattle.toml_span_syntax.specs.declared.statements.Statement.{Statement}
+use Rattle.toml_span_check.specs.Statements.{is_continued, own_bytes, own_pieces}
 use Rattle.toml_span_check.specs.declared.fixing.FixLevel.{FixLevel}
 use Rattle.toml_span_check.specs.declared.fixing.FixLevel.TheVariants as levels
 use Rattle.toml_span_check.specs.declared.fixing.Way.{Way}
@@ -58,24 +62,29 @@ uses_crlf [] = false
 uses_crlf (piece ∷ pieces) =
     if is_line_end piece.kind then piece.end - piece.start == 2 else uses_crlf pieces
 
--- whether a multi-line string is not closed
-abbrev pub has_open_string : List Piece → Bool
-has_open_string pieces = list_any (λ piece. is_open_long piece.kind) pieces
+-- the position of the first multi-line string that is not closed, or the number of pieces
+abbrev pub first_open : List Piece → ℕ
+first_open pieces = unwrap_or (position (λ piece. is_open_long piece.kind) pieces) (length pieces)
 
--- the offset of a piece, or the length of the text after the last one
-abbrev pub start_or : ℕ → Option Piece → ℕ
-start_or end None = end
-start_or end (Some piece) = piece.start
+-- whether an item of a YAML list begins at a piece, perhaps after a blank
+abbrev pub past_blank : Kind → Piece → ℕ
+past_blank kinds.Blank piece = piece.end
+past_blank _ piece = piece.start
 
-abbrev pub offset_of : List ℕ → List Piece → ℕ → ℕ
-offset_of text pieces index = start_or (length text) (slice_get pieces index)
+abbrev pub solid_or : ℕ → Option Piece → ℕ
+solid_or end None = end
+solid_or end (Some piece) = past_blank piece.kind piece
 
--- the pieces of a statement, and its bytes
-abbrev pub own_pieces : List Piece → Statement → List Piece
-own_pieces pieces s = slice_range pieces s.first s.end
+abbrev pub is_item : List ℕ → List Piece → ℕ → Bool
+is_item text pieces index =
+    let at = solid_or (length text) (slice_get pieces index) in
+    slice_index text at == 45 && slice_index text (min (at + 1) 18446744073709551615) == 32
 
-abbrev pub own_bytes : List ℕ → List Piece → Statement → List ℕ
-own_bytes text pieces s = slice_range text (offset_of text pieces s.first) (offset_of text pieces s.end)
+-- whether a statement may be fixed by itself: it is not after the first multi-line string that is not closed, and what
+-- follows is neither an unreadable line that is indented further nor an item of a YAML list
+abbrev pub may_fix : List ℕ → List Piece → Statement → ℕ → Bool
+may_fix text pieces s limit =
+    nat_le s.first limit && not (is_continued pieces s) && not (is_item text pieces s.end)
 
 -- whether pieces of a text have the same comments as those of another text
 abbrev pub same_comments : List ℕ → List Piece → List ℕ → List Piece → Bool

@@ -1,20 +1,23 @@
 //! Finds the errors of a text, not only the first.
 ghost use Rattle.std.specs.Prelude.{◌≡◌, ◌∷◌, ◌++◌, [], IfOk, OnOk, map, length, nat_le, string_bytes};
+ghost use Rattle.std.specs.Str.{IsCharBoundary};
 ghost use Rattle.toml_span_lex.specs.declared.stop.Stop.TheVariants.{Fault};
 ghost use Rattle.toml_span.specs.Parsing.{IsRefusal};
 ghost use Rattle.toml_span_read.specs.Data.{depth_limit};
 ghost use Rattle.toml_span_report.specs.Report.{report_content};
+ghost use Rattle.toml_span_tree.specs.Error.{kind_of};
 ghost use Rattle.toml_span_check.specs.Every as spec;
-ghost use Rattle.toml_span_check.specs.Every.{Adds, AddsReport, Checks, Finds, IsBlanked};
-ghost use Rattle.toml_span_check.specs.code.Every.{IsErrorOf, IsNextError, progress};
+ghost use Rattle.toml_span_check.specs.Every.{Adds, AddsReport, Checks, Finds, IsRead};
+ghost use Rattle.toml_span_check.specs.code.Every.{IsErrorOf, IsNextError, progress, source_of};
 
 use crate::fixable::settled;
-use crate::statements::{Statement, is_clash, statement_of};
+use crate::statements::{Extent, extent_of, offset_of};
 use std::alloc::{AllocError, Global};
-use toml_span::Error;
 use toml_span::de::parse;
+use toml_span::{Error, ErrorKind};
 use toml_span_mistakes::error_report;
 use toml_span_report::Report;
+use toml_span_safety::drafts::{Reading, read};
 
 /// The maximum number of errors to look for.
 const MOST: usize = 100;
@@ -23,22 +26,24 @@ const MOST: usize = 100;
 /// parse of the text.
 const WORK: usize = 134_217_728;
 
-/// The report of an error, and the statement that contains the error.
+/// The report of an error, and the statements that the error concerns.
 #[derive(Drop)]
 struct ErrorAt {
     report: Report,
     /// The byte offset at which the error's span starts.
     place: usize,
-    /// Whether `statements::is_clash` is true for the error.
+    /// Whether `is_clash` is true for the error.
     is_clash: bool,
-    statement: Statement,
+    extent: Extent,
 }
 
 /// The errors found so far.
 #[derive(Drop)]
 struct Found {
-    /// The text, with spaces in place of the statements with errors.
+    /// The text, with spaces in place of the statements that the errors concern.
     blanked: String,
+    /// The position of the piece at which reading goes on.
+    next: usize,
     /// The byte offsets at which the errors' spans start.
     places: Vec<usize>,
     reports: Vec<Report>,
@@ -51,14 +56,13 @@ fn most(len: usize) -> usize
     (WORK / len.max(1)).min(MOST).max(1)
 }
 
-/// Returns the text with spaces in place of the bytes from `from` to `to`. Returns the text unchanged if `from` is
-/// greater than `to`, or if one of them is not a character boundary.
+/// Returns the text with spaces in place of the bytes from `from` to `to`, if there are any.
 fn blanked(alloc: Global, text: &str, from: usize, to: usize) -> Result<String, AllocError>
-    ensures { IfOk result (λ out. IsBlanked text.now (string_bytes out)) }
+    requires from { IsCharBoundary text.now from }
+    requires to { IsCharBoundary text.now to }
+    ensures { IfOk result (λ out. string_bytes out ≡ spec.blank from to text.now) }
 {
-    if from > to || !text.is_char_boundary(from) || !text.is_char_boundary(to) {
-        return String::from_str(alloc, text);
-    }
+    let to = to.max(from);
     let mut out = String::from_str(alloc, &text[..from])?;
     let spaces = " ".repeat(alloc, to - from)?;
     out.push_str(spaces.as_str())?;
@@ -66,36 +70,62 @@ fn blanked(alloc: Global, text: &str, from: usize, to: usize) -> Result<String, 
     Ok(out)
 }
 
-/// Returns the report of an error, with the statement that contains the error. The search for the statement begins at
-/// the offset `from`, where a statement must begin.
+/// Returns whether the error is a clash of two keys or headers, or a dotted key that goes through an earlier value. Such
+/// an error is reported only if every statement can be read.
+fn is_clash(kind: &ErrorKind<'_>) -> bool
+    ensures { result ≡ spec.is_clash (kind_of kind.now) }
+{
+    matches!(
+        kind,
+        ErrorKind::DuplicateKey { .. }
+            | ErrorKind::DuplicateTable { .. }
+            | ErrorKind::RedefineAsArray
+            | ErrorKind::DottedKeyInvalidType { .. }
+    )
+}
+
+/// Returns the report of an error of `copy`, a copy of the text with spaces in place of some statements. `reading` has
+/// the pieces and statements of the text. The statement with the error begins at or after the piece at `from`.
 fn error_at(
     alloc: Global,
     text: &str,
+    reading: &Reading,
+    copy: &str,
     from: usize,
     error: &Error<'_>,
 ) -> Result<ErrorAt, AllocError>
-    ensures { IfOk result (IsErrorOf text.now error.now) }
+    ensures { IfOk result (IsErrorOf (source_of text.now reading.now) copy.now from error.now) }
 {
+    let pieces = reading.pieces.as_slice();
+    let statements = reading.statements.as_slice();
     let place = error.span.start;
-    let report = error_report(alloc, error, text)?;
+    let clash = is_clash(&error.kind);
+    let extent = extent_of(text, pieces, statements, from, place, clash);
+    let made = error_report(alloc, error, copy)?;
+    let report = settled(alloc, text, pieces, extent.statement, made)?;
     Ok(ErrorAt {
-        report: settled(alloc, text, report)?,
+        report,
         place,
-        is_clash: is_clash(&error.kind),
-        statement: statement_of(text, from, place, is_clash(&error.kind)),
+        is_clash: clash,
+        extent,
     })
 }
 
-/// Parses a text. Returns the report of its error, with the statement that contains the error, or `None` if the text
-/// has no error. The search for the statement begins at the offset `from`, where a statement must begin.
-fn next_error(alloc: Global, text: &str, from: usize) -> Result<Option<ErrorAt>, AllocError>
-    ensures { IfOk result (IsNextError text.now) }
+/// Parses `copy`, a copy of the text. Returns its error as `error_at` does, or `None` if it has no error.
+fn next_error(
+    alloc: Global,
+    text: &str,
+    reading: &Reading,
+    copy: &str,
+    from: usize,
+) -> Result<Option<ErrorAt>, AllocError>
+    ensures { IfOk result (IsNextError (source_of text.now reading.now) copy.now from) }
 {
-    match parse(alloc, text) {
+    match parse(alloc, copy) {
         Ok(_) => Ok(None),
         Err(stop) => {
             let error = stop.fault()?;
-            let next = error_at(alloc, text, from, &error)?;
+            let next = error_at(alloc, text, reading, copy, from, &error)?;
             Ok(Some(next))
         }
     }
@@ -113,24 +143,30 @@ fn push_new(found: &mut Found, report: Report, place: usize) -> Result<(), Alloc
     Ok(())
 }
 
-/// Returns `found` with the error `next` added, and with spaces in place of the error's statement (for a header, up to
-/// the end of its section).
-fn with_error(alloc: Global, mut found: Found, next: ErrorAt) -> Result<Found, AllocError>
-    ensures { IfOk result (λ more. Adds (report_content next.report) next.place (progress found)
-        (progress more)) }
+/// Returns `found` with the error `next` added, and with spaces in place of the statements that it concerns.
+fn with_error(
+    alloc: Global,
+    text: &str,
+    reading: &Reading,
+    mut found: Found,
+    next: ErrorAt,
+) -> Result<Found, AllocError>
+    requires reading { IsRead (source_of text.now reading.now) }
+    requires found { Finds (source_of text.now reading.now) (progress found) }
+    ensures { IfOk result (λ more. Adds (source_of text.now reading.now) next.extent (report_content next.report)
+        next.place (progress found) (progress more)) }
 {
     let ErrorAt {
         report,
         place,
         is_clash: _,
-        statement,
+        extent,
     } = next;
-    found.blanked = blanked(
-        alloc,
-        found.blanked.as_str(),
-        statement.start,
-        statement.end,
-    )?;
+    let pieces = reading.pieces.as_slice();
+    let start = offset_of(text, pieces, extent.statement.first);
+    let end = offset_of(text, pieces, extent.end);
+    found.blanked = blanked(alloc, found.blanked.as_str(), start, end)?;
+    found.next = extent.next;
     push_new(&mut found, report, place)?;
     Ok(found)
 }
@@ -142,30 +178,30 @@ fn is_full(found: &Found, len: usize) -> bool
     most(len) <= found.places.len()
 }
 
-/// Returns `found` with the errors at or after the offset `from`, where a statement must begin. After each error,
-/// reading continues at the next statement. Stops before an error for which `is_clash` is true, and at the maximum
-/// number of errors.
+/// Returns `found` with the faults from `found.next` on. After each fault, reading goes on at the next statement. Stops
+/// before an error for which `is_clash` is true, and at the maximum number of errors.
 fn with_faults(
     alloc: Global,
-    mut found: Found,
     text: &str,
-    from: usize,
+    reading: &Reading,
+    mut found: Found,
 ) -> Result<Found, AllocError>
-    requires { Finds text.now (progress found) }
-    ensures { IfOk result (λ more. Finds text.now (progress more)) }
+    requires reading { IsRead (source_of text.now reading.now) }
+    requires found { Finds (source_of text.now reading.now) (progress found) }
+    ensures { IfOk result (λ more. Finds (source_of text.now reading.now) (progress more)) }
 {
-    let mut at = from;
     'faults: while !is_full(&found, text.len()) {
+        let from = found.next;
+        let at = offset_of(text, reading.pieces.as_slice(), from);
         let copy = blanked(alloc, text, 0, at)?;
-        let next = match next_error(alloc, copy.as_str(), at)? {
+        let next = match next_error(alloc, text, reading, copy.as_str(), from)? {
             Some(next) => next,
             None => return Ok(found),
         };
         if next.is_clash {
             return Ok(found);
         }
-        at = next.statement.next;
-        found = with_error(alloc, found, next)?;
+        found = with_error(alloc, text, reading, found, next)?;
     }
     Ok(found)
 }
@@ -182,17 +218,23 @@ fn with_too_many(alloc: Global, mut reports: Vec<Report>) -> Result<Vec<Report>,
 
 /// Returns the reports of `found`, and those of the errors that remain in `found.blanked`. If there are more errors
 /// than the maximum, the last report says so.
-fn with_clashes(alloc: Global, mut found: Found, text: &str) -> Result<Vec<Report>, AllocError>
-    requires { Finds text.now (progress found) }
+fn with_clashes(
+    alloc: Global,
+    text: &str,
+    reading: &Reading,
+    mut found: Found,
+) -> Result<Vec<Report>, AllocError>
+    requires reading { IsRead (source_of text.now reading.now) }
+    requires found { Finds (source_of text.now reading.now) (progress found) }
     ensures { IfOk result (λ reports. Checks text.now (map report_content reports.items)) }
 {
     'clashes: while !is_full(&found, text.len()) {
-        match next_error(alloc, found.blanked.as_str(), 0)? {
-            Some(next) => found = with_error(alloc, found, next)?,
+        match next_error(alloc, text, reading, found.blanked.as_str(), 0)? {
+            Some(next) => found = with_error(alloc, text, reading, found, next)?,
             None => return Ok(found.reports),
         }
     }
-    match next_error(alloc, found.blanked.as_str(), 0)? {
+    match next_error(alloc, text, reading, found.blanked.as_str(), 0)? {
         Some(_) => with_too_many(alloc, found.reports),
         None => Ok(found.reports),
     }
@@ -207,16 +249,17 @@ pub(crate) fn errors_from(
     requires { IsRefusal text.now depth_limit (Fault error.now) }
     ensures { IfOk result (λ reports. Checks text.now (map report_content reports.items)) }
 {
+    let reading = read(alloc, text)?;
     let nothing = Found {
         blanked: String::from_str(alloc, text)?,
+        next: 0,
         places: Vec::new(alloc),
         reports: Vec::new(alloc),
     };
-    let first = error_at(alloc, text, 0, error)?;
-    let next = first.statement.next;
-    let found = with_error(alloc, nothing, first)?;
-    let found = with_faults(alloc, found, text, next)?;
-    with_clashes(alloc, found, text)
+    let first = error_at(alloc, text, &reading, text, 0, error)?;
+    let found = with_error(alloc, text, &reading, nothing, first)?;
+    let found = with_faults(alloc, text, &reading, found)?;
+    with_clashes(alloc, text, &reading, found)
 }
 
 /// Returns the reports of the errors of a text, not only of the first. The list is empty if and only if `parse` returns

@@ -7,6 +7,8 @@ use crate::fixing::{FixLevel, is_fixable};
 use crate::sums::sum_of;
 use std::alloc::{AllocError, Global};
 use toml_span_report::{Replacement, Report};
+use toml_span_syntax::pieces::Piece;
+use toml_span_syntax::statements::Statement;
 
 /// Returns the replacements, marked as unsafe.
 fn all_unsafe(alloc: Global, repairs: &[Replacement]) -> Result<Vec<Replacement>, AllocError>
@@ -92,25 +94,24 @@ fn level_of(repairs: &[Replacement]) -> Option<FixLevel>
     }
 }
 
-/// Returns the offset at which the first replacement begins, or 0 without replacements.
-fn place_of(repairs: &[Replacement]) -> usize {
-    match repairs.first() {
-        Some(first) => first.span.start,
-        None => 0,
-    }
-}
-
-/// Returns the report of an error of a text. Its replacements stay marked as safe only if `is_fixable` returns `true`
-/// for the statement of the first one.
-pub(crate) fn settled(alloc: Global, text: &str, mut report: Report) -> Result<Report, AllocError>
-    ensures { IfOk result (λ made. spec.IsSettled text.now (report_content report) (report_content made)) }
+/// Returns the report of an error in a statement of a text. Its replacements stay marked as safe only if `is_fixable`
+/// returns `true` for the statement.
+pub(crate) fn settled(
+    alloc: Global,
+    text: &str,
+    pieces: &[Piece],
+    statement: Statement,
+    mut report: Report,
+) -> Result<Report, AllocError>
+    ensures { IfOk result (λ made. spec.IsSettled text.now pieces.now statement (report_content report)
+        (report_content made)) }
 {
     let repairs = report.replacements.as_slice();
     match level_of(repairs) {
         Some(FixLevel::Safe) => {}
         Some(FixLevel::Unsafe) | None => return Ok(report),
     }
-    if is_fixable(alloc, text, place_of(repairs))? {
+    if is_fixable(alloc, text, pieces, statement)? {
         return Ok(report);
     }
     report.replacements = all_unsafe(alloc, repairs)?;

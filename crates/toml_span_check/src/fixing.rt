@@ -1,14 +1,16 @@
 //! Fixes errors with the replacements of their reports.
-ghost use Rattle.std.specs.Prelude.{◌≡◌, ◌++◌, IfOk, IfSome, OnOk, map, option_map, string_bytes};
-ghost use Rattle.std.specs.Bool.{OnTrue};
+ghost use Rattle.std.specs.Prelude.{◌≡◌, ◌++◌, IfOk, IfSome, OnOk, map, option_map, position, string_bytes};
+ghost use Rattle.std.specs.Bool.{OnFalse, OnTrue};
 ghost use Rattle.std.specs.Str.{bytes_eq};
 ghost use Rattle.toml_span_tree.specs.Error.{content_of};
 ghost use Rattle.toml_span_places.specs.Replace.{edit_of};
 ghost use Rattle.toml_span_report.specs.Report.{repair_of};
 ghost use Rattle.toml_span_safety.specs.Drafts as drafts;
+ghost use Rattle.toml_span_syntax.specs.Statements.{is_open_long};
 ghost use Rattle.toml_span_check.specs.Fixing as spec;
 ghost use Rattle.toml_span_check.specs.Safety as safety;
 
+use crate::statements::{is_continued, offset_of, own_bytes, own_pieces};
 use std::alloc::{AllocError, Global};
 use toml_span::de::parse;
 use toml_span::{Error, Stop};
@@ -16,7 +18,7 @@ use toml_span_lex::span::Span;
 use toml_span_mistakes::error_report;
 use toml_span_places::{Replacement, replace_all};
 use toml_span_report::{Replacement as Repair, Report};
-use toml_span_safety::bytes::bytes_in;
+use toml_span_safety::bytes::byte_at;
 use toml_span_safety::comments::comments;
 use toml_span_safety::drafts::{Draft, Reading, empty, is_right, push, read};
 use toml_span_safety::quotes::quotes_value;
@@ -41,6 +43,9 @@ struct Way {
     level: FixLevel,
     /// Whether lines end with CRLF.
     is_crlf: bool,
+    /// The position of the first piece that is a multi-line string without an end, or the number of pieces. Statements
+    /// after it are not fixed, since they may be parts of the string.
+    limit: usize,
 }
 
 /// A source in which errors have been fixed or newer syntax has been replaced, with the number of changes.
@@ -254,35 +259,54 @@ fn uses_crlf(pieces: &[Piece]) -> bool
     false
 }
 
-/// Returns the offset of the piece at the position `index`, or the length of the text after the last piece.
-fn offset_of(text: &str, pieces: &[Piece], index: usize) -> usize
-    ensures { result ≡ safety.offset_of text.now pieces.now index }
+/// Returns the position of the first piece that is a multi-line string without an end.
+fn open_position(pieces: &[Piece]) -> Option<usize>
+    ensures { result ≡ position (λ piece. is_open_long piece.kind) pieces.now }
 {
-    match pieces.get(index) {
+    pieces
+        .iter()
+        .position(|piece| matches!(piece.kind, Kind::Open(true)))
+}
+
+/// Returns the position of the first piece that is a multi-line string without an end, or the number of pieces.
+fn first_open(pieces: &[Piece]) -> usize
+    ensures { result ≡ safety.first_open pieces.now }
+{
+    open_position(pieces).unwrap_or(pieces.len())
+}
+
+/// Returns how errors of a text with these pieces are fixed at this level.
+fn way_of(pieces: &[Piece], level: FixLevel) -> Way
+    ensures { result ≡ spec.way_of pieces.now level }
+{
+    Way {
+        level,
+        is_crlf: uses_crlf(pieces),
+        limit: first_open(pieces),
+    }
+}
+
+/// Returns whether an item of a YAML list begins at the piece at `index`, perhaps after a blank.
+fn is_item(text: &str, pieces: &[Piece], index: usize) -> bool
+    ensures { result ≡ safety.is_item text.now pieces.now index }
+{
+    let next = match pieces.get(index) {
+        Some(piece) if matches!(piece.kind, Kind::Blank) => piece.end,
         Some(piece) => piece.start,
         None => text.len(),
-    }
+    };
+    byte_at(text.as_bytes(), next) == b'-'
+        && byte_at(text.as_bytes(), next.saturating_add(1)) == b' '
 }
 
-/// Returns the pieces of a statement.
-fn own_pieces(pieces: &[Piece], statement: Statement) -> &[Piece]
-    ensures { result.now ≡ safety.own_pieces pieces.now statement }
+/// Returns whether a statement may be fixed by itself: it is not after `way.limit`, and what follows is neither an
+/// unreadable line that is indented further nor an item of a YAML list, which may belong to it.
+fn may_fix(text: &str, pieces: &[Piece], statement: Statement, way: Way) -> bool
+    ensures { result ≡ safety.may_fix text.now pieces.now statement way.limit }
 {
-    let end = statement.end.min(pieces.len());
-    if statement.first < end {
-        &pieces[statement.first..end]
-    } else {
-        &[]
-    }
-}
-
-/// Returns the bytes of a statement.
-fn own_bytes<'a>(text: &'a str, pieces: &[Piece], statement: Statement) -> &'a [u8]
-    ensures { result.now ≡ safety.own_bytes text.now pieces.now statement }
-{
-    let start = offset_of(text, pieces, statement.first);
-    let end = offset_of(text, pieces, statement.end);
-    bytes_in(text.as_bytes(), start, end)
+    statement.first <= way.limit
+        && !is_continued(pieces, statement)
+        && !is_item(text, pieces, statement.end)
 }
 
 /// Returns whether the bytes are the same.
@@ -331,7 +355,8 @@ fn checked(alloc: Global, text: &str, own: &[Piece], new: Fixed) -> Result<Optio
     }
 }
 
-/// Returns the statement with its errors fixed. Returns `None` if there are no errors, or if they can't be fixed.
+/// Returns the statement with its errors fixed. Returns `None` if there are no errors, if they can't be fixed, or if
+/// `may_fix` is false.
 fn fix_of(
     alloc: Global,
     text: &str,
@@ -341,6 +366,9 @@ fn fix_of(
 ) -> Result<Option<Fix>, AllocError>
     ensures { IfOk result (λ fix. spec.FixOf text.now pieces.now statement way (option_map spec.fix fix)) }
 {
+    if !may_fix(text, pieces, statement, way) {
+        return Ok(None);
+    }
     let Ok(old) = str::from_utf8(own_bytes(text, pieces, statement)) else {
         return Ok(None);
     };
@@ -453,20 +481,7 @@ fn finished(alloc: Global, work: &Work) -> Result<Option<Fixed>, AllocError>
     }
 }
 
-/// Returns whether a multi-line string among the pieces is not closed.
-pub(crate) fn has_open_string(pieces: &[Piece]) -> bool
-    ensures { result ≡ safety.has_open_string pieces.now }
-{
-    for piece in pieces {
-        if matches!(piece.kind, Kind::Open(true)) {
-            return true;
-        }
-    }
-    false
-}
-
-/// Returns a text that is not valid with its errors fixed. Returns `None` if there are no fixes, or if a multi-line
-/// string is not closed, since any line may then be a part of a string.
+/// Returns a text that is not valid with its errors fixed. Returns `None` if there are no fixes.
 fn with_statements_fixed(
     alloc: Global,
     text: &str,
@@ -476,13 +491,7 @@ fn with_statements_fixed(
 {
     let reading = read(alloc, text)?;
     let pieces = reading.pieces.as_slice();
-    if has_open_string(pieces) {
-        return Ok(None);
-    }
-    let way = Way {
-        level,
-        is_crlf: uses_crlf(pieces),
-    };
+    let way = way_of(pieces, level);
     let work = drafted(alloc, text, pieces, reading.statements.as_slice(), way)?;
     finished(alloc, &work)
 }
@@ -492,7 +501,9 @@ fn with_statements_fixed(
 /// Each statement of the source (a header, an assignment, or a line that is neither) is fixed by itself. As long as it
 /// has an error, the replacements of the first error's report are made. Either all its errors are fixed, at most 100,
 /// or the statement stays as it is. The statements around it stay the same, and are read as before. If the new source
-/// had other statements than these, the source is returned unchanged.
+/// had other statements than these, the source is returned unchanged. Statements after a multi-line string that is not
+/// closed stay as they are, since they may be parts of the string. So does a statement before a line that may belong to
+/// it: an unreadable line that is indented further, or an item of a YAML list.
 ///
 /// At `FixLevel::Safe`, all replacements are safe, and the quotes that they add enclose a whole value. At either level,
 /// a statement keeps its comments, except that the markers `//` and `;` of comments become `#`. Takes time linear in
@@ -525,25 +536,21 @@ fn position_of(text: &str, pieces: &[Piece], statements: &[Statement], place: us
     found
 }
 
-/// Returns whether `with_fixes` at `FixLevel::Safe` fixes the last statement that begins at or before the offset `place`.
-pub(crate) fn is_fixable(alloc: Global, text: &str, place: usize) -> Result<bool, AllocError>
-    ensures { IfOk result (λ fixes. OnTrue fixes (spec.HasFix text.now)) }
+/// Returns whether `with_fixes` at `FixLevel::Safe` fixes the errors of this statement of a text.
+pub(crate) fn is_fixable(
+    alloc: Global,
+    text: &str,
+    pieces: &[Piece],
+    statement: Statement,
+) -> Result<bool, AllocError>
+    ensures fixable { IfOk result (λ fixes. OnTrue fixes (spec.HasFix text.now pieces.now statement)) }
+    ensures not_fixable { IfOk result (λ fixes. OnFalse fixes (spec.HasNoFix text.now pieces.now statement)) }
 {
-    let reading = read(alloc, text)?;
-    let pieces = reading.pieces.as_slice();
-    let statements = reading.statements.as_slice();
-    let at = position_of(text, pieces, statements, place);
-    if has_open_string(pieces) || at >= statements.len() {
+    let way = way_of(pieces, FixLevel::Safe);
+    let Some(_) = fix_of(alloc, text, pieces, statement, way)? else {
         return Ok(false);
-    }
-    let way = Way {
-        level: FixLevel::Safe,
-        is_crlf: uses_crlf(pieces),
     };
-    match fix_of(alloc, text, pieces, statements[at], way)? {
-        Some(_) => Ok(true),
-        None => Ok(false),
-    }
+    Ok(true)
 }
 
 /// Appends the statements to the draft as they are.
@@ -564,7 +571,7 @@ fn push_all(
 }
 
 /// Returns the statement with these replacements made, whose spans are offsets in the text. Returns `None` if they may
-/// not be made, if the statement then has an error, or if its comments change.
+/// not be made, if the statement then has an error, if its comments change, or if `may_fix` is false.
 fn fix_with(
     alloc: Global,
     text: &str,
@@ -576,6 +583,9 @@ fn fix_with(
     ensures { IfOk result (λ fix. IfSome fix (λ f. spec.IsMade text.now pieces.now statement
         (map repair_of repairs.now) way (spec.fix f))) }
 {
+    if !may_fix(text, pieces, statement, way) {
+        return Ok(None);
+    }
     let Ok(old) = str::from_utf8(own_bytes(text, pieces, statement)) else {
         return Ok(None);
     };
@@ -623,9 +633,6 @@ pub fn is_safe_fix(alloc: Global, text: &str, replacements: &[Repair]) -> Result
     let reading = read(alloc, text)?;
     let pieces = reading.pieces.as_slice();
     let statements = reading.statements.as_slice();
-    if has_open_string(pieces) {
-        return Ok(false);
-    }
     let [first, ..] = replacements else {
         return Ok(false);
     };
@@ -633,10 +640,7 @@ pub fn is_safe_fix(alloc: Global, text: &str, replacements: &[Repair]) -> Result
     if at >= statements.len() {
         return Ok(false);
     }
-    let way = Way {
-        level: FixLevel::Safe,
-        is_crlf: uses_crlf(pieces),
-    };
+    let way = way_of(pieces, FixLevel::Safe);
     let Some(fix) = fix_with(alloc, text, pieces, statements[at], replacements, way)? else {
         return Ok(false);
     };

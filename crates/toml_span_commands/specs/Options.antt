@@ -78,13 +78,19 @@ schemas =
     with_rule (with_rule (with_rule (with_rule common (optional (codes "schema"))) (optional (codes "catalog")))
     (several (codes "schema-map"))) (flag (codes "no-formats"))
 
--- `check [..] [--quiet] [--fix] [--unsafe-fixes] [--diff] [--toml VERSION] [--exclude GLOB].. [--stdin-name NAME]
--- [FILE..]`, with the options for schemas
+-- `[..] [--fix] [--unsafe-fixes] [--diff] [--force] [--change-owner] [--in-place]`, with the options for schemas
+unfoldable pub fixing : App
+fixing =
+    with_rule (with_rule (with_rule (with_rule (with_rule (with_rule schemas
+    (flag (codes "fix"))) (flag (codes "unsafe-fixes"))) (flag (codes "diff"))) (flag (codes "force")))
+    (flag (codes "change-owner"))) (flag (codes "in-place"))
+
+-- `check [..] [--quiet] [--toml VERSION] [--exclude GLOB].. [--stdin-name NAME] [FILE..]`, with the options for schemas
+-- and fixes
 unfoldable pub check : App
 check =
-    with_rule (with_rule (with_rule (with_rule (with_rule (with_rule (with_rule (with_rule schemas
-    (flag (codes "quiet"))) (flag (codes "fix"))) (flag (codes "unsafe-fixes"))) (flag (codes "diff")))
-    (with_default (codes "toml") (codes "auto"))) (several (codes "exclude")))
+    with_rule (with_rule (with_rule (with_rule (with_rule fixing
+    (flag (codes "quiet"))) (with_default (codes "toml") (codes "auto"))) (several (codes "exclude")))
     (with_default (codes "stdin-name") (codes "-"))) files
 
 -- `[--format FORMAT] [--color WHEN] [--json] [--raw] [--toml] [--tagged] [--items]`
@@ -182,10 +188,16 @@ fixing_of rows =
     then (if is_given rows (codes "diff") then fixings.Diff (level_of rows) else fixings.Write (level_of rows))
     else fixings.No
 
+-- whether there is an option that says how files are written
+abbrev pub has_writing : List Row → Bool
+has_writing rows =
+    is_given rows (codes "force") || is_given rows (codes "change-owner") || is_given rows (codes "in-place")
+
 -- whether there is an option that needs `--fix`, but not `--fix`
 abbrev pub lacks_fix : List Row → Bool
 lacks_fix rows =
-    not (is_given rows (codes "fix")) && (is_given rows (codes "diff") || is_given rows (codes "unsafe-fixes"))
+    not (is_given rows (codes "fix"))
+    && (is_given rows (codes "diff") || is_given rows (codes "unsafe-fixes") || has_writing rows)
 
 -- the task, or the mistake in the arguments
 abbrev pub task_of : Query → List Row → Result Task Mistake

@@ -25,6 +25,8 @@ use toml_span_report::visible::visible;
 #[derive(Drop)]
 struct Fixes {
     level: FixLevel,
+    /// How files are written.
+    writing: toml_span_files::Options,
     /// Whether to print what the fixes would change, and to write no file.
     is_diff: bool,
     /// The number of fixes.
@@ -87,7 +89,15 @@ impl Fixes {
             let changes = unified(alloc, shown.as_str(), text, new)?;
             self.changes.push_str(changes.as_str())?;
             self.status = self.status.max(1);
-        } else if let Some(answer) = replace(alloc, &host.rt, name, text.as_bytes(), new)? {
+        } else if let Some(answer) = replace(
+            alloc,
+            &host.rt,
+            name,
+            self.writing,
+            false,
+            text.as_bytes(),
+            new,
+        )? {
             return self.fail(&answer);
         }
         self.errors = self.errors.saturating_add(made.count);
@@ -185,6 +195,7 @@ fn fix_files(
 ) -> Result<Fixes, AllocError> {
     let mut fixes = Fixes {
         level,
+        writing: options.writing,
         is_diff,
         errors: 0,
         files: 0,
@@ -301,6 +312,7 @@ fn show_changes<O: Sink, E: Sink>(
 {
     let Fixes {
         level: _,
+        writing: _,
         is_diff: _,
         errors: _,
         files: _,

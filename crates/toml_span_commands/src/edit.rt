@@ -72,7 +72,7 @@ fn show(
         Err(stop) => return refused(alloc, file, stop),
     };
     if new.len() > LIMIT {
-        return unedited(alloc, file, &Failure::ResultTooLong, Some(asked.options));
+        return unedited(alloc, file, &Failure::ResultTooLong, asked.options, true);
     }
     if asked.show != Show::Diff {
         return Ok(printed(alloc, escaped(alloc, new, host.rt.stdout().is_terminal())?));
@@ -96,7 +96,7 @@ fn write(
     match edit_file(&host.rt, file, asked.options, make) {
         Ok(_) => Ok(printed(alloc, String::new(alloc))),
         Err(Failed::Edit(stop)) => refused(alloc, file, stop),
-        Err(Failed::File(failure)) => unedited(alloc, file, &failure, Some(asked.options)),
+        Err(Failed::File(failure)) => unedited(alloc, file, &failure, asked.options, true),
     }
 }
 

@@ -54,22 +54,21 @@ fn reason_of(alloc: Global, failure: &Failure) -> Result<String, AllocError> {
 }
 
 /// Returns a line of help on what to do after a failure of an edit with these options, or an empty text if there is
-/// nothing to say. `None` means that the command has no such options.
-fn hint(failure: &Failure, options: Option<Options>) -> &'static str {
-    match (failure, options) {
-        (Failure::Taken(_), _) => {
+/// nothing to say. `has_wait` says whether the command has the option `--wait`.
+fn hint(failure: &Failure, options: Options, has_wait: bool) -> &'static str {
+    match failure {
+        Failure::Taken(_) => {
             "help: the result is first written to a file of that name; rename or remove yours\n"
         }
-        (_, None) => "",
-        (Failure::ReadOnly, _) => "help: `--force` edits it all the same\n",
-        (Failure::Linked, _) => {
+        Failure::ReadOnly => "help: `--force` edits it all the same\n",
+        Failure::Linked => {
             "help: `--in-place` writes into the file itself, which keeps its names\n"
         }
-        (Failure::Owner(_), _) => {
+        Failure::Owner(_) => {
             "help: `--in-place` keeps them; `--change-owner` edits the file without keeping them\n"
         }
-        (Failure::Busy(_), _) => "help: `--wait SECONDS` waits longer\n",
-        (Failure::Unwritten(error), Some(options)) => match error.kind() {
+        Failure::Busy(_) if has_wait => "help: `--wait SECONDS` waits longer\n",
+        Failure::Unwritten(error) => match error.kind() {
             ErrorKind::PermissionDenied | ErrorKind::ResourceBusy if !options.is_in_place => {
                 "help: `--in-place` writes into the file itself, not beside it\n"
             }
@@ -79,13 +78,14 @@ fn hint(failure: &Failure, options: Option<Options>) -> &'static str {
     }
 }
 
-/// Returns the answer for a file that was not edited with these options, or by a command that has no such options
-/// (`None`). The answer also says what helps, if anything does. Fails if `failure` is `Memory`.
+/// Returns the answer for a file that was not edited with these options. The answer also says what helps, if anything
+/// does. `has_wait` says whether the command has the option `--wait`. Fails if `failure` is `Memory`.
 pub(crate) fn unedited(
     alloc: Global,
     file: &str,
     failure: &Failure,
-    options: Option<Options>,
+    options: Options,
+    has_wait: bool,
 ) -> Result<Answer, AllocError> {
     if let Failure::Memory = failure {
         return Err(AllocError);
@@ -93,35 +93,23 @@ pub(crate) fn unedited(
     let (front, status) = beginning(failure);
     let reason = reason_of(alloc, failure)?;
     let mut answer = failed(alloc, front, file, reason.as_str(), status)?;
-    answer.errors.push_str(hint(failure, options))?;
+    answer.errors.push_str(hint(failure, options, has_wait))?;
     Ok(answer)
 }
 
-/// Replaces the content of the file `name` with `text`, as `replace_with` does, for a command that has no options about
-/// how files are written.
+/// Replaces the content of the file `name` with `text`, if the content is still `bytes`. Returns `None` on success,
+/// otherwise the answer for a file that was not written. `has_wait` says whether the command has the option `--wait`.
 pub(crate) fn replace(
     alloc: Global,
     rt: &HostRuntime,
     name: &str,
+    options: Options,
+    has_wait: bool,
     bytes: &[u8],
     text: &str,
 ) -> Result<Option<Answer>, AllocError> {
-    replace_with(alloc, rt, name, None, bytes, text)
-}
-
-/// Replaces the content of the file `name` with `text`, if the content is still `bytes`. Returns `None` on success,
-/// otherwise the answer for a file that was not written. `options` is `None` if the command has no options about how
-/// files are written.
-pub(crate) fn replace_with(
-    alloc: Global,
-    rt: &HostRuntime,
-    name: &str,
-    options: Option<Options>,
-    bytes: &[u8],
-    text: &str,
-) -> Result<Option<Answer>, AllocError> {
-    match put_file(rt, name, options.unwrap_or(Options::USUAL), bytes, text) {
+    match put_file(rt, name, options, bytes, text) {
         Ok(()) => Ok(None),
-        Err(failure) => Ok(Some(unedited(alloc, name, &failure, options)?)),
+        Err(failure) => Ok(Some(unedited(alloc, name, &failure, options, has_wait)?)),
     }
 }

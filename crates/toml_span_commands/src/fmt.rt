@@ -6,7 +6,7 @@ use crate::answers::{Answer, failed, give, printed};
 use crate::arguments::seconds;
 use crate::commands::{Command, help_of};
 use crate::edit::escaped;
-use crate::files::{read_file, replace_with, set_write_option};
+use crate::files::{read_file, replace, set_write_option};
 use crate::say::{say, say_misuse, unexpected};
 use crate::words::is_help;
 use std::alloc::{AllocError, Global};
@@ -299,11 +299,12 @@ fn put(
     let new = new.as_str();
     let answer = if !is_written {
         would_change(alloc, asked, name, text, new)?
-    } else if let Some(unwritten) = replace_with(
+    } else if let Some(unwritten) = replace(
         alloc,
         &host.rt,
         name,
-        Some(asked.writing),
+        asked.writing,
+        true,
         text.as_bytes(),
         new,
     )? {

@@ -56,6 +56,11 @@ Options:
   --unsafe-fixes   with --fix, also apply the unsafe fixes that reports show;
                    they may differ from what was meant
   --diff           with --fix, write and check no file; print what would change
+  --force          with --fix, write read-only files too
+  --change-owner   with --fix, write files whose owner or group can't be kept too
+  --in-place       with --fix, write into the files themselves, which keeps their
+                   owner, hard links and attributes; a run that is killed may
+                   leave half a file
   --toml VERSION   1.0, 1.1 or auto [default: auto]; auto means 1.0 for files
                    named `pyproject.toml`, which pip reads, and 1.1 for others
   --schema FILE    check against this JSON Schema; without this option, a

@@ -53,6 +53,8 @@ pub(crate) struct Options<'w> {
     /// Whether to print nothing.
     pub(crate) is_quiet: bool,
     pub(crate) fixing: Fixing,
+    /// How fixed files are written.
+    pub(crate) writing: toml_span_files::Options,
     pub(crate) schemas: SchemaOptions<'w>,
 }
 
@@ -73,7 +75,7 @@ enum Mistake {
     Sarif,
     /// A value of `--schema-map` has no `=`.
     Map,
-    /// `--diff` or `--unsafe-fixes` is given without `--fix`.
+    /// An option about fixes is given without `--fix`.
     Fix,
 }
 
@@ -149,15 +151,25 @@ fn schema_command<'w>(alloc: Global) -> Result<Command<'w>, AllocError>
         .arg(flag(alloc, "no-formats"))
 }
 
+/// Returns the command `check` with the options of `schema_command` and those about fixes.
+fn fixing_command<'w>(alloc: Global) -> Result<Command<'w>, AllocError>
+    ensures { IfOk result (λ c. app_of c ≡ spec.fixing) }
+{
+    schema_command(alloc)?
+        .arg(flag(alloc, "fix"))?
+        .arg(flag(alloc, "unsafe-fixes"))?
+        .arg(flag(alloc, "diff"))?
+        .arg(flag(alloc, "force"))?
+        .arg(flag(alloc, "change-owner"))?
+        .arg(flag(alloc, "in-place"))
+}
+
 /// Returns the command `check` with all its arguments.
 fn check_command<'w>(alloc: Global) -> Result<Command<'w>, AllocError>
     ensures { IfOk result (λ c. app_of c ≡ spec.check) }
 {
-    schema_command(alloc)?
+    fixing_command(alloc)?
         .arg(flag(alloc, "quiet"))?
-        .arg(flag(alloc, "fix"))?
-        .arg(flag(alloc, "unsafe-fixes"))?
-        .arg(flag(alloc, "diff"))?
         .arg(with_default(alloc, "toml", "auto"))?
         .arg(several(alloc, "exclude"))?
         .arg(with_default(alloc, "stdin-name", "-"))?
@@ -333,11 +345,29 @@ fn fixing_of(matches: &ArgMatches<'_>) -> Fixing
     }
 }
 
-/// Returns whether `--diff` or `--unsafe-fixes` is given without `--fix`.
+/// Returns whether an option says how files are written.
+fn has_writing(matches: &ArgMatches<'_>) -> bool
+    ensures { result ≡ spec.has_writing (rows_of (found_of matches.now)) }
+{
+    is_given(matches, "force") || is_given(matches, "change-owner") || is_given(matches, "in-place")
+}
+
+/// Returns whether an option about fixes is given without `--fix`.
 fn lacks_fix(matches: &ArgMatches<'_>) -> bool
     ensures { result ≡ spec.lacks_fix (rows_of (found_of matches.now)) }
 {
-    !is_given(matches, "fix") && (is_given(matches, "diff") || is_given(matches, "unsafe-fixes"))
+    !is_given(matches, "fix")
+        && (is_given(matches, "diff") || is_given(matches, "unsafe-fixes") || has_writing(matches))
+}
+
+/// Returns how fixed files are written.
+fn writing_of(matches: &ArgMatches<'_>) -> toml_span_files::Options {
+    toml_span_files::Options {
+        is_forced: is_given(matches, "force"),
+        may_change_owner: is_given(matches, "change-owner"),
+        is_in_place: is_given(matches, "in-place"),
+        ..toml_span_files::Options::USUAL
+    }
 }
 
 /// Returns what to do with the files. Fails with a `Mistake` if the arguments are wrong.
@@ -412,7 +442,8 @@ fn message_of(mistake: Mistake) -> &'static str {
         Mistake::Path => "the path is not valid UTF-8",
         Mistake::Map => "the value of '--schema-map' must be URL=FILE",
         Mistake::Sarif => "'--format sarif' can only be used with `check`",
-        Mistake::Fix => "'--diff' and '--unsafe-fixes' can only be used with '--fix'",
+        Mistake::Fix =>
+            "'--unsafe-fixes', '--diff', '--force', '--change-owner' and '--in-place' need '--fix'",
     }
 }
 
@@ -442,6 +473,7 @@ pub(crate) fn options_of<'w>(
             stdin_name: value_of(&matches, "stdin-name"),
             is_quiet: is_given(&matches, "quiet"),
             fixing: fixing_of(&matches),
+            writing: writing_of(&matches),
             schemas: SchemaOptions {
                 schema: value_of(&matches, "schema"),
                 catalog: value_of(&matches, "catalog"),

@@ -15,7 +15,7 @@ pub(crate) fn without_duplicate(
     diagnostic_index: usize,
     count: usize,
 ) -> Result<Option<Repair>, AllocError> {
-    let Some(span) = assignment_lines(text, at) else {
+    let Some(span) = assignment_lines(alloc, text, at)? else {
         return Ok(None);
     };
     let mut edits = Vec::new(alloc);

@@ -3,4 +3,5 @@ pub mod Expressions
 pub mod Judged
 pub mod Monotone
 pub mod Remainders
+pub mod Rests
 pub mod Views

@@ -1,10 +1,10 @@
 -- A verdict does not change if more subschemas may nest.
-use Rattle.std.proofs.Common.{◌≡◌, ℕ, ◌+◌, zero, suc, Bool, true, false, not, ◌&&◌, ◌==◌, nat_le, List, [], ◌∷◌, Option, Some, None, option_map, option_and_then, ap, ◌∙◌, refl, arith, if◌then◌else◌, string_bytes, String, Global, add-zero}
+use Rattle.std.proofs.Common.{◌≡◌, ℕ, ◌+◌, zero, suc, Bool, true, false, not, ◌&&◌, ◌==◌, nat_le, List, [], ◌∷◌, Option, Some, None, option_map, option_and_then, ap, ◌∙◌, refl, arith, if◌then◌else◌, add-zero}
 use Rattle.toml_span_tree.specs.Node.{Node, Inner, taken, scalar, array, table}
 use Rattle.toml_span_tree.specs.Value.{inner_of}
-use Rattle.toml_span_schema.specs.Applied.{schemas_for}
-use Rattle.toml_span_schema.specs.Parts.{Part, entry, element, value_of, parts_of, has_key, names_of, is_entry, same_bool}
-use Rattle.toml_span_schema.specs.Valid.{Verdict, Judge, allows, allows_other, allows_part, any, both, contains_enough, count, counted, covers, either, elements, every, is_evaluated_element, judged, keywords, optional, parts_allow, reaches, valid}
+use Rattle.toml_span_schema.specs.Applied.{Applied, applied}
+use Rattle.toml_span_schema.specs.Parts.{Part, entry, element, whole, value_of, kind_in, names_of}
+use Rattle.toml_span_schema.specs.Valid.{Verdict, Judge, allows, allows_other, any, both, contains_enough, count, counted, covers, either, every, is_evaluated_element, judged, keywords, optional, passes, reaches, unevaluated_allow, valid}
 use Rattle.toml_span_schema.specs.declared.keyword.Keyword.{Keyword}
 use Rattle.toml_span_schema.specs.declared.keyword.Keyword.TheVariants as keyword
 use Rattle.toml_span_schema.specs.declared.keyword.Placed.{Placed}
@@ -62,86 +62,83 @@ pub record Knows (j j' : Judge) : Type 0 where
   pub valid : (k : ℕ) (n : Node) → Le (j.valid k n) (j'.valid k n)
   pub evaluates : (k : ℕ) (n : Node) (part : Part) → Le (j.evaluates k n part) (j'.evaluates k n part)
 
-covers_le : (j j' : Judge) → Knows j j' → (k : ℕ) (n : Node) (part : Part) → Le (covers j k n part) (covers j' k n part)
-covers_le j j' h k n part = both_le (j.valid k n) (j'.valid k n) (j.evaluates k n part) (j'.evaluates k n part) (h.valid k n) (h.evaluates k n part)
+passes_le : (j j' : Judge) → Knows j j' → (a : Applied) → Le (passes j a) (passes j' a)
+passes_le j j' h a = h.valid a.0 (value_of a.1)
 
-part_le : (j j' : Judge) → Knows j j' → (entries : Bool) (nodes : ℕ × ℕ) (n : Node) (part : Part)
-    → Le (allows_part j entries nodes n part) (allows_part j' entries nodes n part)
-part_le j j' h entries nodes n part =
-    if_le (same_bool (is_entry part) entries)
-    (either (j.evaluates nodes.0 n part) (j.valid nodes.1 (value_of part)))
-    (either (j'.evaluates nodes.0 n part) (j'.valid nodes.1 (value_of part))) (Some true)
-    (either_le (j.evaluates nodes.0 n part) (j'.evaluates nodes.0 n part) (j.valid nodes.1 (value_of part)) (j'.valid nodes.1 (value_of part))
-    (h.evaluates nodes.0 n part) (h.valid nodes.1 (value_of part)))
+covers_le : (j j' : Judge) → Knows j j' → (part : Part) (a : Applied) → Le (covers j part a) (covers j' part a)
+covers_le j j' h part a =
+    both_le (passes j a) (passes j' a) (j.evaluates a.0 (value_of a.1) part) (j'.evaluates a.0 (value_of a.1) part)
+    (passes_le j j' h a) (h.evaluates a.0 (value_of a.1) part)
 
-contains_le : (j j' : Judge) → Knows j j' → (k least most : ℕ) (i : Inner)
-    → Le (contains_enough j k least most i) (contains_enough j' k least most i)
-contains_le j j' h k least most (array ns) =
-    map_le (λ c. nat_le least c && nat_le c most) (count (λ n. j.valid k n) 0 (elements ns)) (count (λ n. j'.valid k n) 0 (elements ns))
-    (count_le (λ n. j.valid k n) (λ n. j'.valid k n) (λ n. h.valid k n) (elements ns) 0)
-contains_le j j' h k least most taken = λ b e. e
-contains_le j j' h k least most (scalar s) = λ b e. e
-contains_le j j' h k least most (table ms) = λ b e. e
+all_le : (j j' : Judge) → Knows j j' → (list : List Applied) → Le (every (passes j) list) (every (passes j') list)
+all_le j j' h list = every_le (passes j) (passes j') (passes_le j j' h) list
 
-parts_le : (s : Schema) (j j' : Judge) → Knows j j' → (k : Keyword) (ps : List Part) → Le (parts_allow s j k ps) (parts_allow s j' k ps)
-parts_le s j j' h k ps =
-    every_le (λ p. every (λ m. j.valid m (value_of p)) (schemas_for s k p)) (λ p. every (λ m. j'.valid m (value_of p)) (schemas_for s k p))
-    (λ p. every_le (λ m. j.valid m (value_of p)) (λ m. j'.valid m (value_of p)) (λ m. h.valid m (value_of p)) (schemas_for s k p)) ps
+contains_le : (j j' : Judge) → Knows j j' → (list : List Applied) (least most : ℕ) (i : Inner)
+    → Le (contains_enough j list least most i) (contains_enough j' list least most i)
+contains_le j j' h list least most (array ns) =
+    map_le (λ c. nat_le least c && nat_le c most) (count (passes j) 0 list) (count (passes j') 0 list)
+    (count_le (passes j) (passes j') (passes_le j j' h) list 0)
+contains_le j j' h list least most taken = λ b e. e
+contains_le j j' h list least most (scalar s) = λ b e. e
+contains_le j j' h list least most (table ms) = λ b e. e
+
+unevaluated_le : (j j' : Judge) → Knows j j' → (entries : Bool) (others k : ℕ) (n : Node)
+    → Le (unevaluated_allow j entries others k n) (unevaluated_allow j' entries others k n)
+unevaluated_le j j' h entries others k n =
+    every_le (λ p. either (j.evaluates others n p) (j.valid k (value_of p))) (λ p. either (j'.evaluates others n p) (j'.valid k (value_of p)))
+    (λ p. either_le (j.evaluates others n p) (j'.evaluates others n p) (j.valid k (value_of p)) (j'.valid k (value_of p))
+    (h.evaluates others n p) (h.valid k (value_of p))) (kind_in entries (inner_of n))
 
 allows_other_le : (s : Schema) (j j' : Judge) → Knows j j' → (k : Keyword) (n : Node)
     → Le (allows_other s j k n) (allows_other s j' k n)
 unfolding allows_other
 allows_other_le s j j' h (keyword.PropertyNames k) n = every_le (λ m. j.valid k m) (λ m. j'.valid k m) (λ m. h.valid k m) (names_of n)
-allows_other_le s j j' h (keyword.Contains k least most evaluates) n = contains_le j j' h k least most (inner_of n)
-allows_other_le s j j' h (keyword.Items prefix rest) n = parts_le s j j' h (keyword.Items prefix rest) (parts_of n)
-allows_other_le s j j' h (keyword.Properties named matching rest) n = parts_le s j j' h (keyword.Properties named matching rest) (parts_of n)
-allows_other_le s j j' h (keyword.UnevaluatedItems others k) n =
-    every_le (λ p. allows_part j false (others, k) n p) (λ p. allows_part j' false (others, k) n p) (λ p. part_le j j' h false (others, k) n p) (parts_of n)
-allows_other_le s j j' h (keyword.UnevaluatedProperties others k) n =
-    every_le (λ p. allows_part j true (others, k) n p) (λ p. allows_part j' true (others, k) n p) (λ p. part_le j j' h true (others, k) n p) (parts_of n)
+allows_other_le s j j' h (keyword.Contains k least most evaluates) n =
+    contains_le j j' h (applied s (keyword.Contains k least most evaluates) (whole n)) least most (inner_of n)
+allows_other_le s j j' h (keyword.UnevaluatedItems others k) n = unevaluated_le j j' h false others k n
+allows_other_le s j j' h (keyword.UnevaluatedProperties others k) n = unevaluated_le j j' h true others k n
 allows_other_le s j j' h _ n = λ b e. e
 
 pub allows_le : (s : Schema) (j j' : Judge) → Knows j j' → (k : Keyword) (n : Node) → Le (allows s j k n) (allows s j' k n)
 unfolding allows
-allows_le s j j' h (keyword.AllOf ks) n = every_le (λ k. j.valid k n) (λ k. j'.valid k n) (λ k. h.valid k n) ks.items
-allows_le s j j' h (keyword.AnyOf ks) n = any_le (λ k. j.valid k n) (λ k. j'.valid k n) (λ k. h.valid k n) ks.items
+allows_le s j j' h (keyword.AllOf ks) n = all_le j j' h (applied s (keyword.AllOf ks) (whole n))
+allows_le s j j' h (keyword.AnyOf ks) n = any_le (passes j) (passes j') (passes_le j j' h) (applied s (keyword.AnyOf ks) (whole n))
 allows_le s j j' h (keyword.OneOf ks) n =
-    map_le (λ c. c == 1) (count (λ k. j.valid k n) 0 ks.items) (count (λ k. j'.valid k n) 0 ks.items)
-    (count_le (λ k. j.valid k n) (λ k. j'.valid k n) (λ k. h.valid k n) ks.items 0)
+    map_le (λ c. c == 1) (count (passes j) 0 (applied s (keyword.OneOf ks) (whole n))) (count (passes j') 0 (applied s (keyword.OneOf ks) (whole n)))
+    (count_le (passes j) (passes j') (passes_le j j' h) (applied s (keyword.OneOf ks) (whole n)) 0)
 allows_le s j j' h (keyword.Not k) n = map_le not (j.valid k n) (j'.valid k n) (h.valid k n)
 allows_le s j j' h (keyword.If c consequent alternative) n =
     then_le (λ b. optional (λ k. j.valid k n) (Some true) (if b then consequent else alternative)) (λ b. optional (λ k. j'.valid k n) (Some true) (if b then consequent else alternative))
     (λ b. optional_le (λ k. j.valid k n) (λ k. j'.valid k n) (λ k. h.valid k n) (Some true) (if b then consequent else alternative)) (j.valid c n) (j'.valid c n) (h.valid c n)
-allows_le s j j' h (keyword.DependentSchemas es) n =
-    every_le (λ (e : String Global × ℕ). if has_key n (string_bytes e.0) then j.valid e.1 n else Some true) (λ (e : String Global × ℕ). if has_key n (string_bytes e.0) then j'.valid e.1 n else Some true)
-    (λ (e : String Global × ℕ). if_le (has_key n (string_bytes e.0)) (j.valid e.1 n) (j'.valid e.1 n) (Some true) (h.valid e.1 n)) es.items
+allows_le s j j' h (keyword.DependentSchemas es) n = all_le j j' h (applied s (keyword.DependentSchemas es) (whole n))
+allows_le s j j' h (keyword.Items prefix rest) n = all_le j j' h (applied s (keyword.Items prefix rest) (whole n))
+allows_le s j j' h (keyword.Properties named matching rest) n = all_le j j' h (applied s (keyword.Properties named matching rest) (whole n))
 allows_le s j j' h k n = allows_other_le s j j' h k n
 
 element_le : (j j' : Judge) → Knows j j' → (k : ℕ) (part : Part) → Le (is_evaluated_element j k part) (is_evaluated_element j' k part)
 element_le j j' h k (element i n) = h.valid k n
 element_le j j' h k (entry name span n) = λ b e. e
+element_le j j' h k (whole n) = λ b e. e
 
-any_covers_le : (j j' : Judge) → Knows j j' → (ks : List ℕ) (n : Node) (part : Part)
-    → Le (any (λ k. covers j k n part) ks) (any (λ k. covers j' k n part) ks)
-any_covers_le j j' h ks n part = any_le (λ k. covers j k n part) (λ k. covers j' k n part) (λ k. covers_le j j' h k n part) ks
+any_covers_le : (j j' : Judge) → Knows j j' → (part : Part) (list : List Applied)
+    → Le (any (covers j part) list) (any (covers j' part) list)
+any_covers_le j j' h part list = any_le (covers j part) (covers j' part) (covers_le j j' h part) list
 
 pub reaches_le : (s : Schema) (j j' : Judge) → Knows j j' → (k : Keyword) (n : Node) (part : Part) → Le (reaches s j k n part) (reaches s j' k n part)
 unfolding reaches
-reaches_le s j j' h (keyword.AllOf ks) n part = any_covers_le j j' h ks.items n part
-reaches_le s j j' h (keyword.AnyOf ks) n part = any_covers_le j j' h ks.items n part
-reaches_le s j j' h (keyword.OneOf ks) n part = any_covers_le j j' h ks.items n part
+reaches_le s j j' h (keyword.AllOf ks) n part = any_covers_le j j' h part (applied s (keyword.AllOf ks) (whole n))
+reaches_le s j j' h (keyword.AnyOf ks) n part = any_covers_le j j' h part (applied s (keyword.AnyOf ks) (whole n))
+reaches_le s j j' h (keyword.OneOf ks) n part = any_covers_le j j' h part (applied s (keyword.OneOf ks) (whole n))
+reaches_le s j j' h (keyword.DependentSchemas es) n part = any_covers_le j j' h part (applied s (keyword.DependentSchemas es) (whole n))
 reaches_le s j j' h (keyword.If c consequent alternative) n part =
     then_le
-    (λ b. either (if b then j.evaluates c n part else Some false) (optional (λ k. covers j k n part) (Some false) (if b then consequent else alternative)))
-    (λ b. either (if b then j'.evaluates c n part else Some false) (optional (λ k. covers j' k n part) (Some false) (if b then consequent else alternative)))
+    (λ b. either (if b then j.evaluates c n part else Some false) (optional (λ k. covers j part (k, whole n)) (Some false) (if b then consequent else alternative)))
+    (λ b. either (if b then j'.evaluates c n part else Some false) (optional (λ k. covers j' part (k, whole n)) (Some false) (if b then consequent else alternative)))
     (λ b. either_le (if b then j.evaluates c n part else Some false) (if b then j'.evaluates c n part else Some false)
-    (optional (λ k. covers j k n part) (Some false) (if b then consequent else alternative)) (optional (λ k. covers j' k n part) (Some false) (if b then consequent else alternative))
+    (optional (λ k. covers j part (k, whole n)) (Some false) (if b then consequent else alternative)) (optional (λ k. covers j' part (k, whole n)) (Some false) (if b then consequent else alternative))
     (if_le b (j.evaluates c n part) (j'.evaluates c n part) (Some false) (h.evaluates c n part))
-    (optional_le (λ k. covers j k n part) (λ k. covers j' k n part) (λ k. covers_le j j' h k n part) (Some false) (if b then consequent else alternative)))
+    (optional_le (λ k. covers j part (k, whole n)) (λ k. covers j' part (k, whole n)) (λ k. covers_le j j' h part (k, whole n)) (Some false) (if b then consequent else alternative)))
     (j.valid c n) (j'.valid c n) (h.valid c n)
-reaches_le s j j' h (keyword.DependentSchemas es) n part =
-    any_le (λ (e : String Global × ℕ). if has_key n (string_bytes e.0) then covers j e.1 n part else Some false) (λ (e : String Global × ℕ). if has_key n (string_bytes e.0) then covers j' e.1 n part else Some false)
-    (λ (e : String Global × ℕ). if_le (has_key n (string_bytes e.0)) (covers j e.1 n part) (covers j' e.1 n part) (Some false) (covers_le j j' h e.1 n part)) es.items
 reaches_le s j j' h (keyword.Contains k least most evaluates) n part =
     if_le evaluates (is_evaluated_element j k part) (is_evaluated_element j' k part) (Some false) (element_le j j' h k part)
 reaches_le s j j' h _ n part = λ b e. e

@@ -5,7 +5,6 @@ use Rattle.toml_span_tree.specs.Value.{items_view, members_view, view}
 use Rattle.toml_span_tree.specs.declared.value.Value.{Value}
 use Rattle.toml_span_schema.specs.Canonical.{canonical, forms}
 use Rattle.toml_span_schema.specs.Parts.{items_count, members_count}
-use Rattle.toml_span_schema.specs.Valid.{elements}
 
 pub items_count_view : (vs : List Value) → items_count (items_view vs) ≡ length vs
 items_count_view [] = refl
@@ -20,7 +19,3 @@ forms_view [] = refl
 forms_view (v ∷ vs) = ap (λ l. canonical (view v) ∷ l) (forms_view vs)
 
 pub ruleset arrays = (items_count_view, forms_view)
-
-pub elements_view : (vs : List Value) → elements (items_view vs) ≡ map view vs
-elements_view [] = refl
-elements_view (v ∷ vs) = ap (λ l. view v ∷ l) (elements_view vs)

@@ -1,5 +1,5 @@
 -- The values directly inside a value.
-use Rattle.std.specs.Prelude.{ℕ, ◌+◌, List, [], ◌∷◌, Option, None, Some, Bool, true, false, not, ◌||◌}
+use Rattle.std.specs.Prelude.{ℕ, ◌+◌, List, [], ◌∷◌, Option, None, Some, Bool, true, false, ◌||◌}
 use Rattle.std.specs.Str.{bytes_eq}
 use Rattle.std.specs.Cow.{cow_str_bytes}
 use Rattle.toml_span_lex.specs.declared.span.Span.{Span}
@@ -8,18 +8,22 @@ use Rattle.toml_span_tree.specs.Value.{view, inner_of, members_in}
 use Rattle.toml_span_schema.specs.declared.listed.Part.{Part as Lent}
 use Rattle.toml_span_schema.specs.declared.listed.Part.TheVariants as lent
 
--- an entry of a table with its name and the span of its key, or an element of an array with its position
+-- an entry of a table with its name and the span of its key, an element of an array with its position, or a value of
+-- which the place does not matter
 pub data Part : Type 0 where
   entry : List ℕ → Span → Node → Part
   element : ℕ → Node → Part
+  whole : Node → Part
 
 abbrev pub part_of : Lent → Part
 part_of (lent.Member key value) = entry (cow_str_bytes key.now.name) key.now.span (view value.now)
 part_of (lent.Element i value) = element i (view value.now)
+part_of (lent.Whole value) = whole (view value.now)
 
 abbrev pub value_of : Part → Node
 value_of (entry name span n) = n
 value_of (element i n) = n
+value_of (whole n) = n
 
 -- the elements of an array, numbered from i
 abbrev pub elements_from : ℕ → Items → List Part
@@ -38,6 +42,12 @@ parts_in _ = []
 -- the elements of an array in order, or the entries of a table in the order of their names
 abbrev pub parts_of : Node → List Part
 parts_of n = parts_in (inner_of n)
+
+-- the entries of a table, or the elements of an array, as the `Bool` says; empty for all other values
+abbrev pub kind_in : Bool → Inner → List Part
+kind_in true (table ms) = entries_of ms
+kind_in false (array ns) = elements_from 0 ns
+kind_in _ _ = []
 
 -- Whether a table has this key.
 abbrev pub has_name : List ℕ → Members → Bool
@@ -74,8 +84,4 @@ names_of n = names_in (members_in (inner_of n))
 
 abbrev pub is_entry : Part → Bool
 is_entry (entry name span n) = true
-is_entry (element i n) = false
-
-abbrev pub same_bool : Bool → Bool → Bool
-same_bool true b = b
-same_bool false b = not b
+is_entry _ = false

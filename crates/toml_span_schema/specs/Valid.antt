@@ -3,13 +3,12 @@
 -- A verdict is `Some true`, `Some false`, or `None` if subschemas nest deeper than a limit, so that it is not known
 -- whether a value is valid.
 use Rattle.std.specs.Prelude.{ℕ, zero, suc, ◌+◌, ◌==◌, nat_le, List, [], ◌∷◌, Bool, true, false, ◌&&◌, not}
-use Rattle.std.specs.Prelude.{Option, Some, None, option_map, option_and_then, if◌then◌else◌, string_bytes, String, slice_get}
-use Rattle.std.specs.declared.alloc.Global.{Global}
-use Rattle.toml_span_tree.specs.Node.{Node, Inner, array, Items, no_items, item}
+use Rattle.std.specs.Prelude.{Option, Some, None, option_map, option_and_then, if◌then◌else◌, slice_get}
+use Rattle.toml_span_tree.specs.Node.{Node, Inner, array}
 use Rattle.toml_span_tree.specs.Value.{inner_of}
-use Rattle.toml_span_schema.specs.Applied.{schemas_for}
+use Rattle.toml_span_schema.specs.Applied.{Applied, applied, schemas_for}
 use Rattle.toml_span_schema.specs.Asserted.{allows_simple}
-use Rattle.toml_span_schema.specs.Parts.{Part, entry, element, value_of, parts_of, has_key, names_of, is_entry, same_bool}
+use Rattle.toml_span_schema.specs.Parts.{Part, element, whole, value_of, kind_in, names_of, is_entry}
 use Rattle.toml_span_schema.specs.declared.keyword.Keyword.{Keyword}
 use Rattle.toml_span_schema.specs.declared.keyword.Keyword.TheVariants as keyword
 use Rattle.toml_span_schema.specs.declared.keyword.Placed.{Placed}
@@ -63,97 +62,90 @@ pub record Judge : Type 0 where
   pub valid : ℕ → Node → Verdict
   pub evaluates : ℕ → Node → Part → Verdict
 
--- the elements of an array
-abbrev pub elements : Items → List Node
-elements no_items = []
-elements (item n ns) = n ∷ elements ns
+-- whether a value is valid against a subschema that is applied to it
+abbrev pub passes : Judge → Applied → Verdict
+passes j a = j.valid a.0 (value_of a.1)
 
 -- `contains` with `minContains` and `maxContains`: whether `least` to `most` elements of an array are valid. All other
 -- values are allowed.
-abbrev pub contains_enough : Judge → ℕ → ℕ → ℕ → Inner → Verdict
-contains_enough j k least most (array ns) =
-    option_map (λ c. nat_le least c && nat_le c most) (count (λ n. j.valid k n) 0 (elements ns))
-contains_enough j k least most _ = Some true
+abbrev pub contains_enough : Judge → List Applied → ℕ → ℕ → Inner → Verdict
+contains_enough j list least most (array ns) =
+    option_map (λ c. nat_le least c && nat_le c most) (count (passes j) 0 list)
+contains_enough j list least most _ = Some true
 
--- Whether `unevaluatedItems`, or `unevaluatedProperties` if `entries` is true, allows `part`, an element or entry of
--- `n`. The schema `nodes.0` must evaluate `part`, or the value of `part` must be valid against `nodes.1`. But
--- `unevaluatedItems` allows all entries, and `unevaluatedProperties` all elements.
-abbrev pub allows_part : Judge → Bool → ℕ × ℕ → Node → Part → Verdict
-allows_part j entries nodes n part =
-    if same_bool (is_entry part) entries
-    then either (j.evaluates nodes.0 n part) (j.valid nodes.1 (value_of part))
-    else Some true
+-- Whether `unevaluatedItems`, or `unevaluatedProperties` if `entries` is true, allows a value. The schema `others` must
+-- evaluate each element or entry, or else the element or entry must be valid against `k`.
+abbrev pub unevaluated_allow : Judge → Bool → ℕ → ℕ → Node → Verdict
+unevaluated_allow j entries others k n =
+    every (λ p. either (j.evaluates others n p) (j.valid k (value_of p))) (kind_in entries (inner_of n))
 
--- whether a value is valid against the subschema of each listed key that it has
-abbrev pub dependents_allow : Judge → List (String Global × ℕ) → Node → Verdict
-dependents_allow j es n = every (λ e. if has_key n (string_bytes e.0) then j.valid e.1 n else Some true) es
-
--- whether each element or entry is valid against the subschemas for its position or name
-abbrev pub parts_allow : Schema → Judge → Keyword → List Part → Verdict
-parts_allow s j k ps = every (λ p. every (λ m. j.valid m (value_of p)) (schemas_for s k p)) ps
-
--- whether `unevaluatedItems` or `unevaluatedProperties` (see `allows_part`) allows all elements and entries of a value
-abbrev pub unevaluated_allow : Judge → Bool → ℕ × ℕ → Node → Verdict
-unevaluated_allow j entries nodes n = every (λ p. allows_part j entries nodes n p) (parts_of n)
-
--- Whether a keyword allows a value. The keyword must apply no subschema to the value itself.
+-- Whether a keyword allows a value. The keyword must be one of those that look inside the value, or have no subschemas.
 unfoldable pub allows_other : Schema → Judge → Keyword → Node → Verdict
 -- each key of the table, as a string, is valid
 allows_other s j (keyword.PropertyNames k) n = every (λ name. j.valid k name) (names_of n)
-allows_other s j (keyword.Contains k least most evaluates) n = contains_enough j k least most (inner_of n)
-allows_other s j (keyword.Items prefix rest) n = parts_allow s j (keyword.Items prefix rest) (parts_of n)
-allows_other s j (keyword.Properties named matching rest) n =
-    parts_allow s j (keyword.Properties named matching rest) (parts_of n)
-allows_other s j (keyword.UnevaluatedItems others k) n = unevaluated_allow j false (others, k) n
-allows_other s j (keyword.UnevaluatedProperties others k) n = unevaluated_allow j true (others, k) n
+allows_other s j (keyword.Contains k least most evaluates) n =
+    contains_enough j (applied s (keyword.Contains k least most evaluates) (whole n)) least most (inner_of n)
+allows_other s j (keyword.UnevaluatedItems others k) n = unevaluated_allow j false others k n
+allows_other s j (keyword.UnevaluatedProperties others k) n = unevaluated_allow j true others k n
 allows_other s j k n = Some (allows_simple s k n)
 
 -- Whether a keyword allows a value.
 unfoldable pub allows : Schema → Judge → Keyword → Node → Verdict
--- valid against all, any, exactly one or none of the subschemas
-allows s j (keyword.AllOf ks) n = every (λ k. j.valid k n) ks.items
-allows s j (keyword.AnyOf ks) n = any (λ k. j.valid k n) ks.items
-allows s j (keyword.OneOf ks) n = option_map (λ c. c == 1) (count (λ k. j.valid k n) 0 ks.items)
+-- the value is valid against all, any, exactly one or none of the subschemas
+allows s j (keyword.AllOf ks) n = every (passes j) (applied s (keyword.AllOf ks) (whole n))
+allows s j (keyword.AnyOf ks) n = any (passes j) (applied s (keyword.AnyOf ks) (whole n))
+allows s j (keyword.OneOf ks) n = option_map (λ c. c == 1) (count (passes j) 0 (applied s (keyword.OneOf ks) (whole n)))
 allows s j (keyword.Not k) n = option_map not (j.valid k n)
 -- valid against `then` if it is valid against `if`, else against `else`
 allows s j (keyword.If c consequent alternative) n =
     option_and_then (λ b. optional (λ k. j.valid k n) (Some true) (if b then consequent else alternative)) (j.valid c n)
-allows s j (keyword.DependentSchemas es) n = dependents_allow j es.items n
+-- valid against the subschemas of the keys that it has
+allows s j (keyword.DependentSchemas es) n = every (passes j) (applied s (keyword.DependentSchemas es) (whole n))
+-- each element or entry is valid against the subschemas for its position or name
+allows s j (keyword.Items prefix rest) n = every (passes j) (applied s (keyword.Items prefix rest) (whole n))
+allows s j (keyword.Properties named matching rest) n =
+    every (passes j) (applied s (keyword.Properties named matching rest) (whole n))
 allows s j k n = allows_other s j k n
 
 -- whether a value is valid against a subschema that evaluates the given entry or element of the value
-abbrev pub covers : Judge → ℕ → Node → Part → Verdict
-covers j k n part = both (j.valid k n) (j.evaluates k n part)
-
-abbrev pub is_evaluated_element : Judge → ℕ → Part → Verdict
-is_evaluated_element j k (element i n) = j.valid k n
-is_evaluated_element j k (entry name span n) = Some false
-
--- whether the value has a listed key whose subschema allows the value and evaluates the entry or element
-abbrev pub dependents_cover : Judge → List (String Global × ℕ) → Node → Part → Verdict
-dependents_cover j es n part = any (λ e. if has_key n (string_bytes e.0) then covers j e.1 n part else Some false) es
+abbrev pub covers : Judge → Part → Applied → Verdict
+covers j part a = both (passes j a) (j.evaluates a.0 (value_of a.1) part)
 
 abbrev pub is_nonempty : List ℕ → Bool
 is_nonempty [] = false
 is_nonempty (k ∷ ks) = true
 
+-- Whether a keyword that needs no verdicts evaluates an entry or element.
+unfoldable pub reaches_simply : Schema → Keyword → Part → Bool
+reaches_simply s (keyword.Items prefix rest) part = is_nonempty (schemas_for s (keyword.Items prefix rest) part)
+reaches_simply s (keyword.Properties named matching rest) part =
+    is_nonempty (schemas_for s (keyword.Properties named matching rest) part)
+reaches_simply s (keyword.UnevaluatedItems others k) part = not (is_entry part)
+reaches_simply s (keyword.UnevaluatedProperties others k) part = is_entry part
+reaches_simply s k part = false
+
+abbrev pub is_evaluated_element : Judge → ℕ → Part → Verdict
+is_evaluated_element j k (element i n) = j.valid k n
+is_evaluated_element j k _ = Some false
+
 -- Whether a keyword evaluates an entry or element of a value. The value must be one that the keyword allows.
 unfoldable pub reaches : Schema → Judge → Keyword → Node → Part → Verdict
-reaches s j (keyword.AllOf ks) n part = any (λ k. covers j k n part) ks.items
-reaches s j (keyword.AnyOf ks) n part = any (λ k. covers j k n part) ks.items
-reaches s j (keyword.OneOf ks) n part = any (λ k. covers j k n part) ks.items
+reaches s j (keyword.AllOf ks) n part = any (covers j part) (applied s (keyword.AllOf ks) (whole n))
+reaches s j (keyword.AnyOf ks) n part = any (covers j part) (applied s (keyword.AnyOf ks) (whole n))
+reaches s j (keyword.OneOf ks) n part = any (covers j part) (applied s (keyword.OneOf ks) (whole n))
+reaches s j (keyword.DependentSchemas es) n part =
+    any (covers j part) (applied s (keyword.DependentSchemas es) (whole n))
 reaches s j (keyword.If c consequent alternative) n part =
     option_and_then (λ b. either (if b then j.evaluates c n part else Some false)
-    (optional (λ k. covers j k n part) (Some false) (if b then consequent else alternative))) (j.valid c n)
-reaches s j (keyword.DependentSchemas es) n part = dependents_cover j es.items n part
+    (optional (λ k. covers j part (k, whole n)) (Some false) (if b then consequent else alternative))) (j.valid c n)
 reaches s j (keyword.Contains k least most evaluates) n part =
     if evaluates then is_evaluated_element j k part else Some false
-reaches s j (keyword.Items prefix rest) n part = Some (is_nonempty (schemas_for s (keyword.Items prefix rest) part))
-reaches s j (keyword.Properties named matching rest) n part =
-    Some (is_nonempty (schemas_for s (keyword.Properties named matching rest) part))
-reaches s j (keyword.UnevaluatedItems others k) n part = Some (not (is_entry part))
-reaches s j (keyword.UnevaluatedProperties others k) n part = Some (is_entry part)
-reaches s j k n part = Some false
+reaches s j k n part = Some (reaches_simply s k part)
+
+-- the listed entries and elements on which the verdict is false
+abbrev pub refused : (Part → Verdict) → List Part → Option (List Part)
+refused f [] = Some []
+refused f (p ∷ ps) = option_and_then (λ b. option_map (λ qs. if b then qs else p ∷ qs) (refused f ps)) (f p)
 
 abbrev pub keywords_in : Option Compiled → List Placed
 keywords_in None = []

@@ -1,14 +1,16 @@
-//! The subschemas that a keyword applies to the values inside a value, and the keys of a table.
-ghost use Rattle.std.specs.Prelude.{◌≡◌, ◌++◌, IfOk, OnOk, map};
+//! The subschemas that a keyword applies to a value and to the values inside it, and the keys of a table.
+ghost use Rattle.std.specs.Prelude.{◌≡◌, ◌++◌, IfOk, OnOk, false, map};
 ghost use Rattle.toml_span_tree.specs.Value.{inner_of, members_view, view};
-ghost use Rattle.toml_span_schema.specs.Applied.{at_or_rest, matches, matching_for, otherwise, schemas_for};
-ghost use Rattle.toml_span_schema.specs.Parts.{has_key, has_name, name_values, names_of, part_of};
+ghost use Rattle.toml_span_schema.specs.Applied.{applied, applied_of, at_or_rest, dependents, each_to, inside};
+ghost use Rattle.toml_span_schema.specs.Applied.{matches, matching_for, otherwise, schemas_for};
+ghost use Rattle.toml_span_schema.specs.Parts.{has_key, has_name, kind_in, name_values, names_of, part_of, parts_of};
+ghost use Rattle.toml_span_schema.specs.Parts.{value_of};
 ghost use Rattle.std.specs.BTreeMap.{get_by_text};
 ghost use Rattle.std.specs.List.{slice_get};
 ghost use Rattle.std.specs.Prelude.{option_to_list};
 
 use crate::keyword::Keyword;
-use crate::listed::Part;
+use crate::listed::{Part, parts, parts_of_kind};
 use crate::schema::Schema;
 use std::alloc::{AllocError, Global};
 use std::borrow::CowStr;
@@ -123,6 +125,105 @@ pub(crate) fn schemas_for(
         }
         _ => Ok(Vec::new(alloc)),
     }
+}
+
+/// Appends a pair of `part` and each of the subschemas `nodes`.
+fn push_each<'v, 'de>(
+    list: &mut Vec<(usize, Part<'v, 'de>)>,
+    nodes: &[usize],
+    part: Part<'v, 'de>,
+) -> Result<(), AllocError>
+    ensures { OnOk result (map applied_of list.new.items
+        ≡ map applied_of list.old.items ++ each_to (part_of part.entry) nodes.now) }
+{
+    for node in nodes {
+        list.push((*node, part))?;
+    }
+    Ok(())
+}
+
+/// Appends a pair of `node` and each of `parts`.
+pub(crate) fn push_to_each<'v, 'de>(
+    list: &mut Vec<(usize, Part<'v, 'de>)>,
+    node: usize,
+    parts: &[Part<'v, 'de>],
+) -> Result<(), AllocError>
+    ensures { OnOk result (map applied_of list.new.items
+        ≡ map applied_of list.old.items ++ map (λ q. (node, q)) (map part_of parts.now)) }
+{
+    for part in parts {
+        list.push((node, *part))?;
+    }
+    Ok(())
+}
+
+/// Returns the subschemas of those of `entries` whose keys are in a value.
+fn dependents(
+    alloc: Global,
+    value: &Value<'_>,
+    entries: &[(String, usize)],
+) -> Result<Vec<usize>, AllocError>
+    ensures { IfOk result (λ nodes. nodes.items ≡ dependents (view value.now) entries.now) }
+{
+    let mut nodes = Vec::new(alloc);
+    for entry in entries {
+        if has_key(value, entry.0.as_str()) {
+            nodes.push(entry.1)?;
+        }
+    }
+    Ok(nodes)
+}
+
+/// Appends pairs of each of `parts` and the subschemas that `Items` or `Properties` applies to it.
+fn push_inside<'v, 'de>(
+    list: &mut Vec<(usize, Part<'v, 'de>)>,
+    schema: &Schema,
+    keyword: &Keyword,
+    parts: &[Part<'v, 'de>],
+) -> Result<(), AllocError>
+    ensures { OnOk result (map applied_of list.new.items
+        ≡ map applied_of list.old.items ++ inside schema.now keyword.now (map part_of parts.now)) }
+{
+    let alloc = *list.allocator();
+    for part in parts {
+        let nodes = schemas_for(alloc, schema, keyword, *part)?;
+        push_each(list, nodes.as_slice(), *part)?;
+    }
+    Ok(())
+}
+
+/// Returns what a keyword applies to which values: pairs of a subschema and either `part` itself or a value directly
+/// inside it. The list is empty for `not`, `if`, `propertyNames`, `unevaluatedItems`, `unevaluatedProperties` and
+/// keywords without subschemas.
+#[tactic(auto, unfolding(crate::specs::Applied::applied))]
+pub(crate) fn applied<'v, 'de>(
+    alloc: Global,
+    schema: &Schema,
+    keyword: &Keyword,
+    part: Part<'v, 'de>,
+) -> Result<Vec<(usize, Part<'v, 'de>)>, AllocError>
+    ensures { IfOk result (λ list. map applied_of list.items ≡ applied schema.now keyword.now (part_of part.entry)) }
+{
+    let mut list = Vec::new(alloc);
+    match keyword {
+        Keyword::AllOf(nodes) | Keyword::AnyOf(nodes) | Keyword::OneOf(nodes) => {
+            push_each(&mut list, nodes.as_slice(), part)?;
+        }
+        Keyword::DependentSchemas(entries) => {
+            let nodes = dependents(alloc, part.value(), entries.as_slice())?;
+            push_each(&mut list, nodes.as_slice(), part)?;
+        }
+        Keyword::Contains(node, _, _, _) => {
+            let elements = parts_of_kind(alloc, part.value(), false)?;
+            push_to_each(&mut list, *node, elements.as_slice())?;
+        }
+        Keyword::Items(_, _) | Keyword::Properties(_, _, _) => {
+            let inner = parts(alloc, part.value())?;
+            push_inside(&mut list, schema, keyword, inner.as_slice())?;
+        }
+        _ => {}
+    }
+    Ok(list)
 }
 
 /// Returns the keys of a table as strings, with their spans. The list is empty if the value is not a table.

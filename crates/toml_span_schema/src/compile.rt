@@ -6,11 +6,11 @@ use crate::canonical::LEVELS;
 use crate::cycles::longest_chain;
 use crate::documents::Document;
 use crate::error::SchemaError;
+use crate::formats::expanded;
 use crate::guide::Guide;
-use crate::keyword::Node;
+use crate::keyword::{Node, Placed};
 use crate::notes::{Notes, read_notes};
-use crate::pointers::{with_position, with_step};
-use crate::read::read_node;
+use crate::pointers::with_step;
 use crate::schema::Schema;
 use crate::sources::{
     Dialect, Draft, MOST_SCHEMAS, Resource, Source, Sources, decoded, joined, without_fragment,
@@ -47,6 +47,8 @@ pub(crate) struct Site<'v, 'a> {
     pub(crate) dialect: Dialect,
     /// Whether to leave out `unevaluatedItems` and `unevaluatedProperties`.
     pub(crate) without_unevaluated: bool,
+    /// The keywords that have been read so far.
+    pub(crate) keywords: Vec<Placed>,
 }
 
 /// The place that a reference names. If the reference's fragment is the name of an anchor, `anchor` is the index of
@@ -95,71 +97,36 @@ fn missing(alloc: Global, place: &str, address: &str) -> Result<SchemaError, All
     })
 }
 
-/// Returns the error that the document at `address` is not JSON.
-fn not_json(alloc: Global, address: &str) -> Result<SchemaError, AllocError> {
-    Ok(SchemaError::Json {
-        address: String::from_str(alloc, address)?,
-    })
-}
-
-/// Appends the text of a document to `out`. Fails with `Json` if the text is not JSON or nests more than 128 levels
-/// deep.
-fn push_document(
-    alloc: Global,
-    out: &mut String,
-    document: Document<'_>,
-) -> Result<(), SchemaError> {
-    let mut scratch = Scratch::new(alloc);
-    if !is_valid(document.text, &mut scratch)? {
-        return Err(not_json(alloc, document.address)?);
-    }
-    out.push_str(document.text)?;
-    Ok(())
-}
-
-/// Returns the text of a JSON array of the documents, `root` first. Fails like `push_document`.
-fn joined_texts(
-    alloc: Global,
-    root: Document<'_>,
-    others: &[Document<'_>],
-) -> Result<String, SchemaError> {
+/// Returns the text of a JSON array of the documents. Fails with `Json` if a text is not JSON or nests more than 128
+/// levels deep.
+fn joined_texts(alloc: Global, documents: &[Document<'_>]) -> Result<String, SchemaError> {
     let mut out = String::from_str(alloc, "[")?;
-    push_document(alloc, &mut out, root)?;
-    for document in others {
-        out.push(',')?;
-        push_document(alloc, &mut out, *document)?;
+    for (i, document) in documents.iter().enumerate() {
+        let mut scratch = Scratch::new(alloc);
+        if !is_valid(document.text, &mut scratch)? {
+            let address = String::from_str(alloc, document.address)?;
+            return Err(SchemaError::Json { address });
+        }
+        if i > 0 {
+            out.push(',')?;
+        }
+        out.push_str(document.text)?;
     }
     out.push(']')?;
     Ok(out)
-}
-
-/// Returns the addresses of the documents, first that of `root`.
-fn addresses(
-    alloc: Global,
-    root: Document<'_>,
-    others: &[Document<'_>],
-) -> Result<Vec<String>, AllocError> {
-    let mut list = Vec::new(alloc);
-    list.push(String::from_str(alloc, root.address)?)?;
-    for document in others {
-        list.push(String::from_str(alloc, document.address)?)?;
-    }
-    Ok(list)
 }
 
 /// Returns each document in the JSON array `values` with its address.
 fn with_addresses<'v, 'a>(
     alloc: Global,
     values: &'v Json<'a>,
-    addresses: &[String],
+    documents: &[Document<'_>],
 ) -> Result<Vec<Source<'v, 'a>>, AllocError> {
     let mut sources = Vec::new(alloc);
-    for (i, address) in addresses.iter().enumerate() {
+    for (i, document) in documents.iter().enumerate() {
         if let Some(value) = values.at(i) {
-            sources.push(Source {
-                address: String::from_str(alloc, address.as_str())?,
-                value,
-            })?;
+            let address = String::from_str(alloc, document.address)?;
+            sources.push(Source { address, value })?;
         }
     }
     Ok(sources)
@@ -172,17 +139,13 @@ pub(crate) fn compile(
     root: Document<'_>,
     others: &[Document<'_>],
 ) -> Result<Guide, SchemaError> {
-    let text = joined_texts(alloc, root, others)?;
-    let addresses = addresses(alloc, root, others)?;
-    compile_text(alloc, text.as_str(), addresses.as_slice())
-}
-
-/// Compiles the schema in the first document of `text`, a JSON array of documents. `addresses` are the addresses of the
-/// documents. Fails as `Schema::from_json` does.
-fn compile_text(alloc: Global, text: &str, addresses: &[String]) -> Result<Guide, SchemaError> {
+    let mut documents = Vec::new(alloc);
+    documents.push(root)?;
+    documents.extend_from_slice(others)?;
+    let text = joined_texts(alloc, documents.as_slice())?;
     let mut scratch = Scratch::new(alloc);
-    let values = parsed(alloc, text, &mut scratch)?;
-    let made = compile_all(alloc, &values, addresses);
+    let values = parsed(alloc, text.as_str(), &mut scratch)?;
+    let made = compile_all(alloc, &values, documents.as_slice());
     drop(values);
     made
 }
@@ -200,15 +163,15 @@ fn parsed<'a>(
     }
 }
 
-/// Compiles the schema in the first document of `values`, a JSON array of documents. `addresses` are the addresses of
-/// the documents. Fails as `Schema::from_json` does.
+/// Compiles the schema in the first document of `values`, the JSON array of `documents`. Fails as `Schema::from_json`
+/// does.
 fn compile_all<'v, 'a>(
     alloc: Global,
     values: &'v Json<'a>,
-    addresses: &[String],
+    documents: &[Document<'_>],
 ) -> Result<Guide, SchemaError> {
-    let documents = with_addresses(alloc, values, addresses)?;
-    compile_sources(alloc, Sources::new(alloc, documents)?)
+    let sources = with_addresses(alloc, values, documents)?;
+    compile_sources(alloc, Sources::new(alloc, sources)?)
 }
 
 /// Compiles the schema in the first document of `sources`. Fails as `Schema::from_json` does.
@@ -250,7 +213,7 @@ impl<'v, 'a> Compiler<'v, 'a> {
             let Some(site) = self.site(at)? else {
                 return Ok(nodes);
             };
-            nodes.push(read_node(self, &site)?)?;
+            nodes.push(self.read_node(site)?)?;
         }
         Err(SchemaError::TooLarge)
     }
@@ -268,7 +231,22 @@ impl<'v, 'a> Compiler<'v, 'a> {
             scope: task.scope,
             dialect: self.dialect(task.source, pointer),
             without_unevaluated: task.without_unevaluated,
+            keywords: Vec::new(self.alloc),
         }))
+    }
+
+    /// Returns the place of a schema as messages name it (`Node::place`).
+    pub(crate) fn place_of(&self, site: &Site<'v, 'a>) -> Result<String, AllocError> {
+        let alloc = self.alloc;
+        let pointer = site.pointer.as_str();
+        match self.sources.documents.get(site.source) {
+            Some(document) if site.source > 0 => {
+                let address = document.address.as_str();
+                let name = address.rsplit_once("/").map_or(address, |parts| parts.1);
+                format!(in alloc; "{name}#{pointer}")
+            }
+            _ => String::from_str(alloc, pointer),
+        }
     }
 
     /// Returns the innermost resource that contains a place, or `None` if the list of resources is empty.
@@ -419,7 +397,8 @@ impl<'v, 'a> Compiler<'v, 'a> {
             return Ok(*at);
         }
         let at = self.patterns.len();
-        self.patterns.push(Regex::new(self.alloc, pattern)?)?;
+        let text = expanded(self.alloc, pattern)?;
+        self.patterns.push(Regex::new(self.alloc, text.as_str())?)?;
         let _none = self.formats.insert(pattern, at)?;
         Ok(at)
     }
@@ -436,9 +415,9 @@ impl<'v, 'a> Compiler<'v, 'a> {
         self.node(value, site.source, pointer.as_str(), site.scope, false)
     }
 
-    /// Returns the index of the compiled form of `value`, the subschema with this name in the object that is the value
-    /// of a keyword in the schema `site`. Fails like `node`.
-    pub(crate) fn member(
+    /// Returns the index of the compiled form of `value`, the subschema with this name or position in the object or
+    /// array that is the value of a keyword in the schema `site`. Fails like `node`.
+    pub(crate) fn inside(
         &mut self,
         site: &Site<'v, 'a>,
         keyword: &str,
@@ -447,20 +426,6 @@ impl<'v, 'a> Compiler<'v, 'a> {
     ) -> Result<usize, SchemaError> {
         let outer = with_step(self.alloc, site.pointer.as_str(), keyword)?;
         let pointer = with_step(self.alloc, outer.as_str(), name)?;
-        self.node(value, site.source, pointer.as_str(), site.scope, false)
-    }
-
-    /// Returns the index of the compiled form of `value`, the subschema at the position `at` in the array that is the
-    /// value of a keyword in the schema `site`. Fails like `node`.
-    pub(crate) fn element(
-        &mut self,
-        site: &Site<'v, 'a>,
-        keyword: &str,
-        at: usize,
-        value: &'v Json<'a>,
-    ) -> Result<usize, SchemaError> {
-        let outer = with_step(self.alloc, site.pointer.as_str(), keyword)?;
-        let pointer = with_position(self.alloc, outer.as_str(), at)?;
         self.node(value, site.source, pointer.as_str(), site.scope, false)
     }
 

@@ -38,7 +38,7 @@ fn push_optional(list: &mut Vec<usize>, node: Option<usize>) -> Result<(), Alloc
 }
 
 /// Returns the indices of the subschemas that `node` applies to the checked value itself, not to values inside it.
-fn in_place(alloc: Global, node: &Node) -> Result<Vec<usize>, AllocError> {
+pub(crate) fn in_place(alloc: Global, node: &Node) -> Result<Vec<usize>, AllocError> {
     let mut list = Vec::new(alloc);
     for placed in node.keywords.as_slice() {
         push_in_place(&mut list, &placed.keyword)?;

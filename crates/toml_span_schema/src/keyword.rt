@@ -19,6 +19,35 @@ pub(crate) struct Types {
     pub(crate) whole: bool,
 }
 
+impl Types {
+    /// No type.
+    pub(crate) const NONE: Types = Types {
+        boolean: false,
+        object: false,
+        array: false,
+        string: false,
+        number: false,
+        integer: false,
+        whole: false,
+    };
+
+    /// Returns whether no value of TOML has one of the types.
+    pub(crate) fn is_empty(&self) -> bool {
+        let inside = self.object || self.array;
+        !(inside || self.boolean || self.string || self.number || self.integer)
+    }
+
+    /// Adds types to these.
+    pub(crate) fn add(&mut self, more: Types) {
+        self.boolean |= more.boolean;
+        self.object |= more.object;
+        self.array |= more.array;
+        self.string |= more.string;
+        self.number |= more.number;
+        self.integer |= more.integer;
+    }
+}
+
 /// A compiled keyword. Subschemas are indices in `Schema::nodes`, and regular expressions are indices in
 /// `Schema::patterns`.
 #[derive(Drop)]
@@ -27,7 +56,7 @@ pub(crate) enum Keyword {
     Never,
     Type(Types),
     /// The values of `enum` or `const` as canonical texts (see `canonical`), without values that are or contain `null`.
-    /// The second field has the strings among these values, for suggestions.
+    /// The second field has these values as messages show them, such as `"a"` in backticks.
     Enum(BTreeSet<String>, Vec<String>),
     Minimum(Decimal),
     ExclusiveMinimum(Decimal),
@@ -81,7 +110,7 @@ pub(crate) enum Keyword {
 pub(crate) struct Placed {
     pub(crate) keyword: Keyword,
     pub(crate) name: &'static str,
-    /// The keyword's value in the schema, as messages show it.
+    /// The keyword's value in the schema, as messages show it, if it is a number, string or boolean.
     pub(crate) shown: String,
 }
 
@@ -89,7 +118,7 @@ pub(crate) struct Placed {
 #[derive(Drop)]
 pub(crate) struct Node {
     pub(crate) keywords: Vec<Placed>,
-    /// Where the schema is in its document, as a JSON pointer.
+    /// Where the schema is: a JSON pointer, after the name of the document and `#` if it is not the root's document.
     pub(crate) place: String,
     /// The schema's `title` or, if it has none, its `description`.
     pub(crate) title: Option<String>,

@@ -12,22 +12,22 @@
 //!   that apply to a value. `keys_of`, `is_required`, `kinds_of` and `notes_of` return the keys in these subschemas,
 //!   whether they require a key, the kinds of values that they name, and their notes.
 //!
-//! A report's code is `schema-` and the keyword in kebab case, such as `schema-min-length`. For an unknown key, the
-//! code is `schema-unevaluated-properties` if the keyword is `unevaluatedProperties`, otherwise
-//! `schema-additional-properties`. The code is `schema-false` for the schema `false`, except as the subschema for an
-//! entry or element. Warnings have the code `schema-deprecated`.
+//! A report's code is `schema-` and the keyword in kebab case, such as `schema-min-length`. For a key that is not
+//! allowed, the code is `schema-unevaluated-properties` if the keyword is `unevaluatedProperties`, otherwise
+//! `schema-additional-properties`. For an element that `items` or `additionalItems` does not allow, it is
+//! `schema-max-items`. For all other places where the schema is `false`, it is `schema-false`. Warnings have the code
+//! `schema-deprecated`. If there are more than 100 violations, the last report has the code `too-many-errors`.
 #![tactic(auto)]
 
+mod alternatives;
 mod applied;
 mod asserted;
 mod canonical;
 mod compile;
 mod cycles;
 mod decimal;
-mod deprecated;
 mod documents;
 mod error;
-mod explain;
 mod formats;
 mod guide;
 mod keyword;
@@ -43,6 +43,7 @@ mod schema;
 mod sources;
 mod subschemas;
 mod valid;
+mod walk;
 
 pub use documents::Document;
 pub use error::{CheckError, SchemaError};

@@ -1,28 +1,32 @@
 //! The values directly inside a value.
 ghost use Rattle.std.specs.Prelude.{◌≡◌, ◌++◌, IfOk, OnOk, map, option_map};
-ghost use Rattle.toml_span_tree.specs.Value.{items_view, members_view, view};
-ghost use Rattle.toml_span_schema.specs.Parts.{elements_from, entries_of, is_entry, part_of};
-ghost use Rattle.toml_span_schema.specs.Parts.{parts_of, same_bool, value_of};
+ghost use Rattle.toml_span_tree.specs.Value.{inner_of, items_view, members_view, view};
+ghost use Rattle.toml_span_schema.specs.Parts.{elements_from, entries_of, is_entry, kind_in, part_of};
+ghost use Rattle.toml_span_schema.specs.Parts.{parts_of, value_of};
 
 use std::alloc::{AllocError, Global};
 use toml_span_lex::key::Key;
+use toml_span_lex::span::Span;
 use toml_span_tree::{Table, Value, ValueInner};
 
-/// A value directly inside another: an entry of a table with its key, or an element of an array with its position.
+/// A value by its place: an entry of a table with its key, an element of an array with its position, or a value of
+/// which the place does not matter.
 #[derive(Clone, Copy)]
 pub(crate) enum Part<'v, 'de> {
     Member(&'v Key<'de>, &'v Value<'de>),
     Element(usize, &'v Value<'de>),
+    Whole(&'v Value<'de>),
 }
 
 impl<'v, 'de> Part<'v, 'de> {
-    /// Returns the value of the entry, or the element.
+    /// Returns the value of the entry, the element, or the value.
     pub(crate) fn value(&self) -> &'v Value<'de>
         ensures { view result.now ≡ value_of (part_of self.now) }
     {
         match self {
             Part::Member(_, value) => *value,
             Part::Element(_, value) => *value,
+            Part::Whole(value) => *value,
         }
     }
 
@@ -32,16 +36,32 @@ impl<'v, 'de> Part<'v, 'de> {
     {
         match self {
             Part::Member(_, _) => true,
-            Part::Element(_, _) => false,
+            Part::Element(_, _) | Part::Whole(_) => false,
+        }
+    }
+}
+
+impl<'v, 'de> Part<'v, 'de> {
+    /// Returns the span that marks the value in a report: that of its key if the value is a table with a header, the
+    /// start of a document, and otherwise the value's own.
+    pub(crate) fn mark(&self) -> Span {
+        let Span { start, end } = self.value().span;
+        match self {
+            Part::Member(key, _) if self.is_header() => key.span,
+            Part::Whole(value) if value.as_table().is_some() => Span { start, end: start },
+            _ => Span { start, end },
         }
     }
 
-    /// Returns whether this is an entry of a table if `entries` is set, and otherwise whether this is an element of an
-    /// array.
-    pub(crate) fn is_of(&self, entries: bool) -> bool
-        ensures { result ≡ same_bool (is_entry (part_of self.now)) entries }
-    {
-        if self.is_entry() { entries } else { !entries }
+    /// Returns whether the value is a table with a header, in which its key is.
+    pub(crate) fn is_header(&self) -> bool {
+        match self {
+            Part::Member(key, value) => {
+                let is_inside = value.span.start < key.span.start && key.span.end <= value.span.end;
+                is_inside && value.as_table().is_some()
+            }
+            _ => false,
+        }
     }
 }
 
@@ -60,6 +80,27 @@ pub(crate) fn parts<'v, 'de>(
     match value.as_ref() {
         ValueInner::Array(array) => push_elements(&mut list, array.as_slice())?,
         ValueInner::Table(table) => push_members(&mut list, table)?,
+        _ => {}
+    }
+    Ok(list)
+}
+
+/// Lists the entries of a table if `entries` is set, otherwise the elements of an array. The list is empty for all
+/// other values.
+pub(crate) fn parts_of_kind<'v, 'de>(
+    alloc: Global,
+    value: &'v Value<'de>,
+    entries: bool,
+) -> Result<Vec<Part<'v, 'de>>, AllocError>
+    ensures { IfOk result (λ list. map part_of list.items ≡ kind_in entries (inner_of (view value.now))) }
+{
+    let mut list = Vec::new(alloc);
+    if value.is_taken() {
+        return Ok(list);
+    }
+    match value.as_ref() {
+        ValueInner::Array(array) if !entries => push_elements(&mut list, array.as_slice())?,
+        ValueInner::Table(table) if entries => push_members(&mut list, table)?,
         _ => {}
     }
     Ok(list)

@@ -1,11 +1,38 @@
-//! The codes and messages of reports.
+//! The codes, messages and help of reports.
 
-use crate::keyword::{Keyword, Placed};
+use crate::applied::has_key;
+use crate::error::CheckError;
+use crate::keyword::{Keyword, Placed, Types};
+use crate::listed::Part;
+use crate::schema::Schema;
+use crate::walk::{Cause, Violation};
 use std::alloc::{AllocError, Global};
-use toml_span_tree::Value;
+use std::borrow::CowStr;
+use std::fmt::Write;
+use toml_span_tree::{Value, ValueInner};
 
-/// Returns the code of a keyword's reports, such as `schema-min-length` for `minLength`. The code leaves out a `$`.
-pub(crate) fn code_of(alloc: Global, name: &str) -> Result<String, AllocError> {
+/// The number of schemas that may be nested to say which types and constants they name, and to check a key.
+const MOST_NESTED: usize = 65;
+
+/// The maximum number of subschemas that are applied to say why a key is not allowed.
+const MOST_APPLIED: u64 = 10_000;
+
+/// The maximum number of constants in a message.
+const MOST_SHOWN: usize = 5;
+
+/// Returns the code of the report on a violation, such as `schema-min-length`. The code leaves out a `$`.
+pub(crate) fn code_of(
+    alloc: Global,
+    violation: &Violation<'_, '_, '_>,
+) -> Result<String, AllocError> {
+    let name = match (&violation.placed.keyword, violation.cause) {
+        (Keyword::UnevaluatedItems(_, _) | Keyword::UnevaluatedProperties(_, _), _) => {
+            violation.placed.name
+        }
+        (Keyword::Items(_, _), _) => "maxItems",
+        (Keyword::Properties(_, _, _) | Keyword::PropertyNames(_), _) => "additionalProperties",
+        _ => violation.placed.name,
+    };
     let mut code = String::from_str(alloc, "schema-")?;
     for c in name.chars() {
         match c {
@@ -13,74 +40,367 @@ pub(crate) fn code_of(alloc: Global, name: &str) -> Result<String, AllocError> {
                 code.push('-')?;
                 code.push(c.to_ascii_lowercase())?;
             }
-            '$' => {}
             _ => code.push(c)?,
         }
     }
     Ok(code)
 }
 
-/// Returns the beginning of the message about a keyword. The beginning is the whole message if `shows_value` returns
-/// `false`.
-fn start_of(keyword: &Keyword) -> &'static str {
-    match keyword {
-        Keyword::Type(_) => "expected",
-        Keyword::Enum(_, _) => "expected",
-        Keyword::Minimum(_) => "the number must be at least",
-        Keyword::ExclusiveMinimum(_) => "the number must be greater than",
-        Keyword::Maximum(_) => "the number must be at most",
-        Keyword::ExclusiveMaximum(_) => "the number must be less than",
-        Keyword::MultipleOf(_, _) => "the number must be a multiple of",
-        Keyword::MinLength(_) => "the number of characters must be at least",
-        Keyword::MaxLength(_) => "the number of characters must be at most",
-        Keyword::Pattern(_) => "the string must match the regular expression",
-        Keyword::Format(_, _, _) | Keyword::RegexFormat => "the string must have the format",
-        Keyword::MinItems(_) => "the number of elements must be at least",
-        Keyword::MaxItems(_) => "the number of elements must be at most",
-        Keyword::MinProperties(_) => "the number of keys must be at least",
-        Keyword::MaxProperties(_) => "the number of keys must be at most",
-        Keyword::UniqueItems => "the elements must be unique",
-        Keyword::Contains(_, _, _, _) => "too few or too many elements match `contains`",
-        Keyword::Not(_) => "the value must not match the schema `not`",
-        Keyword::AnyOf(_) => "the value matches none of the alternatives",
-        Keyword::OneOf(_) => "the value must match exactly one of the alternatives",
-        Keyword::DependentRequired(_) => "a key is missing that another key requires",
-        Keyword::Never => "no value is allowed here",
-        Keyword::UnevaluatedItems(_, _) => "an element is not allowed",
-        _ => "the value does not match the schema",
+/// Returns what a value is, as messages name it.
+fn kind_of(value: &Value<'_>) -> &'static str {
+    match value.type_str() {
+        "integer" => "an integer",
+        "array" => "an array",
+        "float" => "a float",
+        "boolean" => "a boolean",
+        "table" => "a table",
+        "datetime" => "a date-time",
+        _ => "a string",
     }
 }
 
-/// Returns whether messages about a keyword show the keyword's value.
-fn shows_value(keyword: &Keyword) -> bool {
-    match keyword {
-        Keyword::Type(_)
-        | Keyword::Enum(_, _)
-        | Keyword::Minimum(_)
-        | Keyword::ExclusiveMinimum(_) => true,
-        Keyword::Maximum(_) | Keyword::ExclusiveMaximum(_) | Keyword::MultipleOf(_, _) => true,
-        Keyword::MinLength(_) | Keyword::MaxLength(_) | Keyword::Pattern(_) => true,
-        Keyword::Format(_, _, _) | Keyword::RegexFormat => true,
-        Keyword::MinItems(_) | Keyword::MaxItems(_) => true,
-        Keyword::MinProperties(_) | Keyword::MaxProperties(_) => true,
-        _ => false,
+/// Returns `words`, separated by commas and, before the last, by `last`.
+fn listing(alloc: Global, words: &[&str], last: &str) -> Result<String, AllocError> {
+    let mut out = String::new(alloc);
+    for (i, word) in words.iter().enumerate() {
+        if i > 0 {
+            let is_last = i.saturating_add(1) == words.len();
+            out.push_str(if is_last { last } else { ", " })?;
+        }
+        out.push_str(*word)?;
     }
+    Ok(out)
 }
 
-/// Returns the message that a keyword does not allow a value.
-pub(crate) fn message_of(
+/// Returns the names of keys, each in backticks, separated by commas and `and`.
+fn keys_listed(alloc: Global, names: &[&str]) -> Result<String, AllocError> {
+    let mut quoted = Vec::new(alloc);
+    for name in names {
+        let name = *name;
+        quoted.push(format!(in alloc; "`{name}`")?)?;
+    }
+    let mut words = Vec::new(alloc);
+    for name in quoted.as_slice() {
+        words.push(name.as_str())?;
+    }
+    listing(alloc, words.as_slice(), " and ")
+}
+
+/// Returns the types as messages name them, such as `a string, boolean or array`, or an empty text for none.
+fn types_listed(alloc: Global, types: &Types) -> Result<String, AllocError> {
+    let all = [
+        (types.string, "string"),
+        (types.integer && !types.number, "integer"),
+        (types.number, "number"),
+        (types.boolean, "boolean"),
+        (types.array, "array"),
+        (types.object, "table"),
+    ];
+    let mut words = Vec::new(alloc);
+    for (is_named, word) in all {
+        if is_named {
+            words.push(word)?;
+        }
+    }
+    let article = match words.first() {
+        Some(word) if word.starts_with("integer") || word.starts_with("array") => "an ",
+        Some(_) => "a ",
+        None => "",
+    };
+    let listed = listing(alloc, words.as_slice(), " or ")?;
+    format!(in alloc; "{article}{listed}")
+}
+
+/// Returns the message that a limit on a number of things is not kept: `limit` of them are expected, and `found` are
+/// there.
+fn counted(
+    alloc: Global,
+    bound: &str,
+    limit: &str,
+    thing: &str,
+    found: usize,
+) -> Result<String, AllocError> {
+    let plural = if limit == "1" { "" } else { "s" };
+    format!(in alloc; "expected {bound} {limit} {thing}{plural}, found {found}")
+}
+
+/// Returns those of `wanted` that a table lacks, as `keys_listed` does.
+fn missing_keys(alloc: Global, value: &Value<'_>, wanted: &[String]) -> Result<String, AllocError> {
+    let mut missing = Vec::new(alloc);
+    for other in wanted {
+        if !has_key(value, other.as_str()) {
+            missing.push(other.as_str())?;
+        }
+    }
+    keys_listed(alloc, missing.as_slice())
+}
+
+/// Returns the message that a string, array or table does not have as many characters, elements or keys as a keyword
+/// allows, or `None` for any other keyword.
+fn size_message(
     alloc: Global,
     placed: &Placed,
     value: &Value<'_>,
-) -> Result<String, AllocError> {
-    let mut message = String::from_str(alloc, start_of(&placed.keyword))?;
-    if shows_value(&placed.keyword) && !placed.shown.is_empty() {
-        message.push(' ')?;
-        message.push_str(placed.shown.as_str())?;
+) -> Result<Option<String>, AllocError> {
+    let (bound, thing) = match &placed.keyword {
+        Keyword::MinLength(_) => ("at least", "character"),
+        Keyword::MaxLength(_) => ("at most", "character"),
+        Keyword::MinItems(_) => ("at least", "element"),
+        Keyword::MaxItems(_) => ("at most", "element"),
+        Keyword::MinProperties(_) => ("at least", "key"),
+        Keyword::MaxProperties(_) => ("at most", "key"),
+        _ => return Ok(None),
+    };
+    let size = match (value.as_str(), value.as_array(), value.as_table()) {
+        (Some(text), _, _) => text.chars().count(),
+        (_, Some(array), _) => array.len(),
+        (_, _, Some(table)) => table.len(),
+        _ => 0,
+    };
+    Ok(Some(counted(alloc, bound, placed.shown.as_str(), thing, size)?))
+}
+
+impl Schema {
+    /// Returns the types that a violation's keyword or alternatives name, and the constants as messages show them.
+    pub(crate) fn listed<'s>(
+        &'s self,
+        alloc: Global,
+        violation: &Violation<'s, '_, '_>,
+    ) -> Result<(Types, Vec<&'s str>), AllocError> {
+        let mut types = Types::NONE;
+        let mut constants: Vec<&'s str> = Vec::new(alloc);
+        match (&violation.placed.keyword, violation.cause) {
+            (Keyword::Type(named), _) => types = *named,
+            (Keyword::Enum(_, shown), _) => {
+                for constant in shown.as_slice() {
+                    constants.push(constant.as_str())?;
+                }
+            }
+            (_, Cause::Unlisted(nodes)) => {
+                self.push_listed(MOST_NESTED, nodes, &mut types, &mut constants)?;
+            }
+            _ => {}
+        }
+        Ok((types, constants))
     }
-    if let Keyword::Type(_) = placed.keyword {
-        message.push_str(", found ")?;
-        message.push_str(value.type_str())?;
+
+    /// Returns the message that a value has a wrong type or is not among the listed constants.
+    fn unlisted_message<'s>(
+        &'s self,
+        alloc: Global,
+        violation: &Violation<'s, '_, '_>,
+    ) -> Result<String, AllocError> {
+        let (types, constants) = self.listed(alloc, violation)?;
+        let named = types_listed(alloc, &types)?;
+        if named.is_empty() && constants.is_empty() {
+            return String::from_str(alloc, "no value is allowed here");
+        }
+        let shown = constants.as_slice();
+        let more = if shown.len() > MOST_SHOWN + 1 {
+            shown.len() - MOST_SHOWN
+        } else {
+            0
+        };
+        let one_of = if shown.len() > 1 { "one of " } else { "" };
+        let mut listed = listing(alloc, &shown[..shown.len() - more], ", ")?;
+        if more > 0 {
+            write!(&mut listed, " or {more} others")?;
+        }
+        let or = match (named.is_empty() || shown.is_empty(), shown.len() > 1) {
+            (true, _) => "",
+            (_, true) => ", or ",
+            _ => " or ",
+        };
+        let mut message = format!(in alloc; "expected {one_of}{listed}{or}{named}")?;
+        let value = violation.part.value();
+        let is_string = value.as_str().is_some();
+        let all_strings = shown.iter().all(|one| one.starts_with("`\""));
+        let no_strings = !shown.iter().any(|one| one.starts_with("`\""));
+        if is_string && no_strings || !is_string && all_strings {
+            let found = kind_of(value);
+            write!(&mut message, ", found {found}")?;
+        }
+        Ok(message)
     }
-    Ok(message)
+
+    /// Returns the message that the entry or element of a violation is not allowed.
+    fn never_message<'s>(
+        &'s self,
+        alloc: Global,
+        violation: &Violation<'s, '_, '_>,
+    ) -> Result<String, AllocError> {
+        match (violation.part, &violation.placed.keyword) {
+            (Part::Member(key, _), Keyword::Properties(named, matching, _)) => {
+                let name = key.name.as_ref();
+                if named.get(name).is_some()
+                    || violation.placed.name != "additionalProperties" && !matching.is_empty()
+                {
+                    return format!(in alloc; "key `{name}` is not allowed");
+                }
+                format!(in alloc; "unknown key `{name}`")
+            }
+            (Part::Member(key, _), _) => {
+                let name = key.name.as_ref();
+                format!(in alloc; "unknown key `{name}`")
+            }
+            (_, Keyword::Items(prefix, _)) if prefix.is_empty() => {
+                String::from_str(alloc, "the array must be empty")
+            }
+            (_, Keyword::Items(prefix, _)) => {
+                let most = prefix.len();
+                let found = if most == 1 {
+                    "element is"
+                } else {
+                    "elements are"
+                };
+                format!(in alloc; "at most {most} {found} allowed")
+            }
+            _ => String::from_str(alloc, "this element is not allowed"),
+        }
+    }
+
+    /// Returns the message on a violation, except for `Cause::Name`.
+    fn plain_message<'s>(
+        &'s self,
+        alloc: Global,
+        violation: &Violation<'s, '_, '_>,
+    ) -> Result<String, AllocError> {
+        let value = violation.part.value();
+        match violation.cause {
+            Cause::Never => return self.never_message(alloc, violation),
+            Cause::Unlisted(_) => return self.unlisted_message(alloc, violation),
+            Cause::Missing(name) => {
+                let table = violation.table.as_str();
+                if table.is_empty() {
+                    return format!(in alloc; "missing key `{name}`");
+                }
+                return format!(in alloc; "missing key `{name}` in `{table}`");
+            }
+            Cause::Requires(name, wanted) => {
+                let missing = missing_keys(alloc, value, wanted)?;
+                return format!(in alloc; "`{name}` requires {missing}");
+            }
+            Cause::Both(first, second) => {
+                let (first, second) = (first.saturating_add(1), second.saturating_add(1));
+                return format!(in alloc;
+                    "alternatives {first} and {second} match, but only one may match"
+                );
+            }
+            _ => {}
+        }
+        match &violation.placed.keyword {
+            Keyword::Type(_) | Keyword::Enum(_, _) => self.unlisted_message(alloc, violation),
+            _ => self.keyword_message(alloc, violation.placed, violation.cause, value),
+        }
+    }
+
+    /// Returns the message that a keyword, except `type` and `enum`, does not allow a value.
+    fn keyword_message(
+        &self,
+        alloc: Global,
+        placed: &Placed,
+        cause: Cause<'_>,
+        value: &Value<'_>,
+    ) -> Result<String, AllocError> {
+        let limit = placed.shown.as_str();
+        if let Some(message) = size_message(alloc, placed, value)? {
+            return Ok(message);
+        }
+        let text = match (&placed.keyword, cause) {
+            (Keyword::Contains(_, least, most, _), Cause::Count(found)) => {
+                let is_less = (found as u64) < *least;
+                let bound = if is_less { "at least" } else { "at most" };
+                let limit = if is_less { *least } else { *most };
+                let limit = format!(in alloc; "{limit}")?;
+                return counted(alloc, bound, limit.as_str(), "matching element", found);
+            }
+            (Keyword::Not(node), _) => {
+                let mut names = Vec::new(alloc);
+                for name in self.excluded(*node) {
+                    names.push(name.as_str())?;
+                }
+                let keys = keys_listed(alloc, names.as_slice())?;
+                return match names.len() {
+                    0 => String::from_str(alloc, "the value must not match the schema `not`"),
+                    1 => format!(in alloc; "key {keys} is not allowed here"),
+                    _ => format!(in alloc; "keys {keys} are not allowed together"),
+                };
+            }
+            (Keyword::UniqueItems, _) => "this element is a duplicate",
+            (Keyword::Never, _) => "no value is allowed here",
+            (Keyword::Minimum(_), _) => "the number must be at least ",
+            (Keyword::ExclusiveMinimum(_), _) => "the number must be greater than ",
+            (Keyword::Maximum(_), _) => "the number must be at most ",
+            (Keyword::ExclusiveMaximum(_), _) => "the number must be less than ",
+            (Keyword::MultipleOf(_, _), _) => "the number must be a multiple of ",
+            (Keyword::Pattern(_), _) => "the string must match the regular expression ",
+            (Keyword::Format(_, _, _) | Keyword::RegexFormat, _) => {
+                "the string must have the format "
+            }
+            _ => "the value does not match the schema",
+        };
+        let limit = if text.ends_with(" ") { limit } else { "" };
+        format!(in alloc; "{text}{limit}")
+    }
+
+    /// Returns the message on a violation. Fails like `is_valid`.
+    pub(crate) fn message_of<'s, 'v, 'de>(
+        &'s self,
+        alloc: Global,
+        violation: &Violation<'s, 'v, 'de>,
+    ) -> Result<String, CheckError> {
+        let (Keyword::PropertyNames(node), Part::Member(key, _)) = (
+            &violation.placed.keyword,
+            violation.part,
+        ) else {
+            return Ok(self.plain_message(alloc, violation)?);
+        };
+        let name = key.name.as_ref();
+        let text = ValueInner::String(CowStr::Borrowed(name));
+        let value = Value::with_span(text, key.span);
+        let mut left = MOST_APPLIED;
+        for placed in self.keywords(*node) {
+            if !self.allows(alloc, &mut left, MOST_NESTED, &placed.keyword, &value)? {
+                let reason = self.keyword_message(alloc, placed, Cause::Refused, &value)?;
+                return Ok(format!(in alloc; "key `{name}` is not allowed: {reason}")?);
+            }
+        }
+        Ok(format!(in alloc; "key `{name}` is not allowed")?)
+    }
+
+    /// Returns what to do about a value of a wrong type, or an empty text: quotes around a number or boolean, or a
+    /// table instead of an array of tables.
+    pub(crate) fn help_of<'s>(
+        &'s self,
+        alloc: Global,
+        violation: &Violation<'s, '_, '_>,
+    ) -> Result<String, AllocError> {
+        if !violation.is_unlisted() {
+            return Ok(String::new(alloc));
+        }
+        let (types, constants) = self.listed(alloc, violation)?;
+        let value = violation.part.value();
+        if let Some(text) = value.as_str() {
+            let is_meant = !types.string
+                && (is_number(text, &types)
+                    || types.boolean && (text == "true" || text == "false"));
+            let quoted = format!(in alloc; "`{text}`")?;
+            if is_meant || constants.iter().any(|one| *one == quoted.as_str()) {
+                return format!(in alloc; "remove the quotes: {quoted}");
+            }
+        }
+        if let (true, Part::Member(key, _)) = (violation.part.is_header(), violation.part) {
+            if types.array && !types.object {
+                let name = key.name.as_ref();
+                return format!(in alloc; "write `[[{name}]]` for an array of tables");
+            }
+        }
+        Ok(String::new(alloc))
+    }
+}
+
+/// Returns whether a text spells a number of these types.
+fn is_number(text: &str, types: &Types) -> bool {
+    let is_integer = fast_float::parse_i64(text.as_bytes()).is_ok();
+    is_integer && (types.integer || types.number)
 }

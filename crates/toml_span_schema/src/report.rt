@@ -1,18 +1,25 @@
-//! Checks a value against a schema, and reports each violation.
+//! Reports violations and deprecated values.
 ghost use Rattle.std.specs.Prelude.{◌≡◌, ◌<◌, ◌+◌, ◌==◌, ℕ, IfOk, Some, length};
 ghost use Rattle.toml_span_tree.specs.Value.{view};
 ghost use Rattle.toml_span_schema.specs.Valid.{valid};
 
+use crate::canonical::canonical;
 use crate::error::CheckError;
+use crate::keyword::Keyword;
+use crate::listed::Part;
+use crate::messages::code_of;
 use crate::schema::Schema;
 use crate::valid::MOST_STEPS;
-use std::alloc::Global;
-use toml_span_report::Report;
+use crate::walk::{Cause, MOST, Violation, is_plain};
+use std::alloc::{AllocError, Global};
+use std::collections::BTreeMap;
+use toml_span_lex::span::Span;
+use toml_span_report::{Report, nearest};
 use toml_span_tree::Value;
 
 impl Schema {
-    /// Checks a value. Returns a report for each violation of the schema, in the order of the text. The list is empty
-    /// if and only if the value is valid.
+    /// Checks a value. Returns a report for each violation of the schema, in the order of the text, and one more if
+    /// there are more than 100. The list is empty if and only if the value is valid.
     ///
     /// Each report marks a value that a keyword does not allow, or a key that is not allowed. The report's notes name
     /// the keyword's place in the schema and the schema's title, if the schema has one. Fails with `TooDeep` if the
@@ -36,7 +43,7 @@ impl Schema {
     fn reports(&self, alloc: Global, value: &Value<'_>) -> Result<Vec<Report>, CheckError>
         ensures { IfOk result (λ reports. 0 < length reports.items) }
     {
-        let mut reports = self.explanations(alloc, value)?;
+        let mut reports = self.violations(alloc, value)?;
         if !reports.is_empty() {
             return Ok(reports);
         }
@@ -45,21 +52,271 @@ impl Schema {
         Ok(reports)
     }
 
-    /// Returns the reports of all keywords that don't allow the value or a value inside it, in the order of the text.
-    /// Fails like `check`.
-    fn explanations(&self, alloc: Global, value: &Value<'_>) -> Result<Vec<Report>, CheckError> {
-        let mut reports = Vec::new(alloc);
+    /// Returns a report for each violation, in the order of the text. Fails like `check`.
+    fn violations(&self, alloc: Global, value: &Value<'_>) -> Result<Vec<Report>, CheckError> {
         let mut left = MOST_STEPS;
-        self.explain(alloc, &mut left, self.depth, 0, value, &mut reports)?;
+        let found = self.walked(alloc, &mut left, 0, value)?.violations;
+        let mut reports: Vec<Report> = Vec::new(alloc);
+        for violation in found.iter().take(MOST - 1) {
+            if !self.is_misspelled(alloc, violation, found.as_slice())? {
+                let report = self.report(alloc, violation)?;
+                if !reports.iter().any(|other| is_same(other, &report)) {
+                    reports.push(report)?;
+                }
+            }
+        }
+        reports.sort_by_key(|report| start_of(report))?;
+        if found.len() >= MOST {
+            reports.push(Report::error(alloc, "too-many-errors", "too many errors")?)?;
+        }
+        Ok(reports)
+    }
+
+    /// Returns the warnings about deprecated values, in the order of the text: one each time a schema with
+    /// `deprecated: true` applies to a value. Each warning marks the value's key, or the value if it has no key.
+    ///
+    /// An alternative of `anyOf` or `oneOf` applies only if the value is valid against it. Schemas in `not`, `if`,
+    /// `contains` and `propertyNames` cause no warnings. Fails like `check`.
+    pub fn warnings(&self, alloc: Global, value: &Value<'_>) -> Result<Vec<Report>, CheckError> {
+        let mut reports = Vec::new(alloc);
+        if !self.nodes.iter().any(|node| node.deprecated) {
+            return Ok(reports);
+        }
+        let mut left = MOST_STEPS;
+        for (node, part) in self.walked(alloc, &mut left, 0, value)?.deprecated {
+            let report = Report::warning(alloc, "schema-deprecated", "this is deprecated")?;
+            let report = report.primary(key_span(part), "")?;
+            reports.push(self.with_title(report, node)?)?;
+        }
         reports.sort_by_key(|report| start_of(report))?;
         Ok(reports)
+    }
+
+    /// Returns whether a key is missing since it is misspelled: `others` has an unknown key in the same table that is
+    /// near to it.
+    fn is_misspelled<'s>(
+        &'s self,
+        alloc: Global,
+        violation: &Violation<'s, '_, '_>,
+        others: &[Violation<'s, '_, '_>],
+    ) -> Result<bool, AllocError> {
+        let Cause::Missing(name) = violation.cause else {
+            return Ok(false);
+        };
+        let Some(table) = violation.part.value().as_table() else {
+            return Ok(false);
+        };
+        for other in others {
+            if let (Cause::Never, Part::Member(key, _)) = (other.cause, other.part) {
+                let is_here = other.level == violation.level
+                    && table.iter().any(|entry| entry.0.span == key.span);
+                if is_here && self.meant(alloc, other)? == Some(name) {
+                    return Ok(true);
+                }
+            }
+        }
+        Ok(false)
+    }
+
+    /// Returns the report on a violation.
+    fn report<'s, 'v, 'de>(
+        &'s self,
+        alloc: Global,
+        violation: &Violation<'s, 'v, 'de>,
+    ) -> Result<Report, CheckError> {
+        let message = self.message_of(alloc, violation)?;
+        let code = code_of(alloc, violation)?;
+        let mut report = Report::error(alloc, code.as_str(), message.as_str())?;
+        let span = self.span_of(alloc, violation)?;
+        report = report.primary(span, "")?;
+        if let (Keyword::UniqueItems, Some(pair)) = (
+            &violation.placed.keyword,
+            equal_elements(alloc, violation.part.value())?,
+        ) {
+            report = report.secondary(pair.0, "equal to this element")?;
+        }
+        if let Some(meant) = self.meant(alloc, violation)? {
+            let help = format!(in alloc; "did you mean `{meant}`?")?;
+            report = report.help(help.as_str())?;
+            if is_plain(meant) {
+                report = report.suggest(span, meant)?;
+            }
+        }
+        let help = self.help_of(alloc, violation)?;
+        if !help.is_empty() {
+            report = report.help(help.as_str())?;
+        }
+        let place = self.place_of(alloc, violation)?;
+        report = report.note(place.as_str())?;
+        Ok(self.with_title(report, violation.node)?)
+    }
+
+    /// Returns the span that the report on a violation marks: a key that is not allowed, the key of a table that lacks
+    /// a key, or otherwise the value.
+    fn span_of<'s>(
+        &'s self,
+        alloc: Global,
+        violation: &Violation<'s, '_, '_>,
+    ) -> Result<Span, CheckError> {
+        let part = violation.part;
+        let name = match (violation.cause, &violation.placed.keyword, part) {
+            (Cause::Missing(_) | Cause::Never | Cause::Name, _, Part::Member(key, _)) => {
+                return Ok(key.span);
+            }
+            (Cause::Requires(name, _), _, _) => Some(name),
+            (_, Keyword::Not(node), _) => self.excluded(*node).first().map(|name| name.as_str()),
+            (_, Keyword::UniqueItems, _) => {
+                let pair = equal_elements(alloc, part.value())?;
+                return Ok(pair.map_or(part.mark(), |pair| pair.1));
+            }
+            _ => None,
+        };
+        if let (Some(name), Some(table)) = (name, part.value().as_table()) {
+            for (key, _value) in table.iter() {
+                if key.name.as_ref() == name {
+                    return Ok(key.span);
+                }
+            }
+        }
+        Ok(part.mark())
+    }
+
+    /// Returns the keys in `required` if this is all that the schema at index `node` says, otherwise an empty slice.
+    pub(crate) fn excluded(&self, node: usize) -> &[String] {
+        match self.keywords(node) {
+            [placed] => match &placed.keyword {
+                Keyword::Required(names) => names.as_slice(),
+                _ => &[],
+            },
+            _ => &[],
+        }
+    }
+
+    /// Returns the name that a misspelled key or string probably means: the same in other letter case, or the nearest
+    /// of the keys that the schema knows or the strings that it lists.
+    pub(crate) fn meant<'s>(
+        &'s self,
+        alloc: Global,
+        violation: &Violation<'s, '_, '_>,
+    ) -> Result<Option<&'s str>, AllocError> {
+        let known = match (&violation.placed.keyword, violation.cause, violation.part) {
+            (Keyword::Properties(named, _, _), Cause::Never, Part::Member(key, _)) => {
+                if named.get(key.name.as_ref()).is_some() {
+                    return Ok(None);
+                }
+                self.known_keys(alloc, &[violation.node])?
+            }
+            (Keyword::UnevaluatedProperties(others, _), Cause::Never, _) => {
+                self.known_keys(alloc, &[*others])?
+            }
+            (Keyword::Enum(_, _), _, _) | (_, Cause::Unlisted(_), _) => {
+                let mut words = Vec::new(alloc);
+                for constant in self.listed(alloc, violation)?.1 {
+                    if let Some(word) = word_in(constant) {
+                        words.push(word)?;
+                    }
+                }
+                words
+            }
+            _ => return Ok(None),
+        };
+        let word = match (violation.cause, violation.part) {
+            (Cause::Never, Part::Member(key, _)) => key.name.as_ref(),
+            (Cause::Never, _) => return Ok(None),
+            (_, part) => match part.value().as_str() {
+                Some(text) => text,
+                None => return Ok(None),
+            },
+        };
+        same_or_nearest(alloc, word, known.as_slice())
+    }
+
+    /// Returns the note that names the place of a violation's keyword.
+    fn place_of(
+        &self,
+        alloc: Global,
+        violation: &Violation<'_, '_, '_>,
+    ) -> Result<String, AllocError> {
+        let place = match self.nodes.get(violation.node) {
+            Some(node) => node.place.as_str(),
+            None => "",
+        };
+        let name = violation.placed.name;
+        let whose = if place.contains('#') {
+            ""
+        } else {
+            " in the schema"
+        };
+        format!(in alloc; "required by `{place}/{name}`{whose}")
+    }
+
+    /// Adds a note with the title of the schema at index `node`, if it has a title.
+    fn with_title(&self, report: Report, node: usize) -> Result<Report, AllocError> {
+        match self.nodes.get(node).and_then(|node| node.title.as_ref()) {
+            Some(title) => report.note(title.as_str()),
+            None => Ok(report),
+        }
     }
 }
 
 /// Returns the byte offset at which the first label of a report begins, or 0 if the report has no label.
-pub(crate) fn start_of(report: &Report) -> usize {
+fn start_of(report: &Report) -> usize {
     match report.labels.first() {
         Some(label) => label.span.start,
         None => 0,
+    }
+}
+
+/// Returns whether two reports say the same of the same place.
+fn is_same(one: &Report, other: &Report) -> bool {
+    start_of(one) == start_of(other) && one.message.as_str() == other.message.as_str()
+}
+
+/// Returns the span of the key of an entry, or otherwise that of the value.
+fn key_span(part: Part<'_, '_>) -> Span {
+    match part {
+        Part::Member(key, _) => key.span,
+        Part::Element(_, value) | Part::Whole(value) => value.span,
+    }
+}
+
+/// Returns the spans of the first element that is equal to an earlier one, after the span of the earlier one, or `None`
+/// if all elements differ. Fails like `canonical`.
+fn equal_elements(alloc: Global, value: &Value<'_>) -> Result<Option<(Span, Span)>, CheckError> {
+    let mut seen: BTreeMap<String, Span> = BTreeMap::new(alloc);
+    if let Some(array) = value.as_array() {
+        for element in array.as_slice() {
+            let text = canonical(alloc, element)?;
+            if let Some(earlier) = seen.get(text.as_str()) {
+                return Ok(Some((*earlier, element.span)));
+            }
+            let _none = seen.insert(text, element.span)?;
+        }
+    }
+    Ok(None)
+}
+
+/// Returns the word in `known` that is the same as `word` in other letter case, or else the nearest, if one is near
+/// enough.
+fn same_or_nearest<'s>(
+    alloc: Global,
+    word: &str,
+    known: &[&'s str],
+) -> Result<Option<&'s str>, AllocError> {
+    for name in known {
+        if name.eq_ignore_ascii_case(word) {
+            return Ok(Some(*name));
+        }
+    }
+    nearest(alloc, word, known)
+}
+
+/// Returns the text of a constant that messages show as a string without escapes, or `None` for any other constant.
+fn word_in(shown: &str) -> Option<&str> {
+    let word = shown.strip_prefix("`\"")?.strip_suffix("\"`")?;
+    if word.contains('\\') {
+        None
+    } else {
+        Some(word)
     }
 }

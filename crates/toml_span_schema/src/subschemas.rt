@@ -1,10 +1,11 @@
 //! Finds the subschemas that apply to a value, which may be incomplete, for editors.
 
 use crate::applied::{has_key, schemas_for};
+use crate::cycles::in_place;
 use crate::error::CheckError;
 use crate::guide::Guide;
 use crate::keyword::{Keyword, Types};
-use crate::listed::{Part, parts};
+use crate::listed::Part;
 use crate::notes::Notes;
 use crate::schema::Schema;
 use std::alloc::{AllocError, Global};
@@ -119,7 +120,7 @@ impl Guide {
     /// `None` if it can't be read.
     ///
     /// An alternative of `anyOf` or `oneOf` applies if the value fits it. Only `type`, `enum`, `const` and subschemas
-    /// that are `false` are checked, for the value and, at any depth, for the values of its keys. If the value fits no
+    /// that are `false` are checked, for the value and, at any depth, for the values inside it. If the value fits no
     /// alternative, or if `value` is `None`, all alternatives apply. Fails if an allocation fails.
     pub fn subschemas(
         &self,
@@ -185,16 +186,7 @@ impl Guide {
         alloc: Global,
         subschemas: &Subschemas,
     ) -> Result<Vec<&'s str>, AllocError> {
-        let mut keys: Vec<&'s str> = Vec::new(alloc);
-        for node in subschemas.nodes.as_slice() {
-            for placed in self.schema.keywords(*node) {
-                if let Keyword::Properties(named, _, _) = &placed.keyword {
-                    for (name, _) in named.iter() {
-                        keys.push(name.as_str())?;
-                    }
-                }
-            }
-        }
+        let mut keys = self.schema.keys_in(alloc, subschemas.nodes.as_slice())?;
         keys.sort()?;
         keys.dedup();
         Ok(keys)
@@ -238,6 +230,38 @@ impl Guide {
 }
 
 impl Schema {
+    /// Returns the keys in `properties` of the schemas at the indices `nodes`.
+    fn keys_in<'s>(&'s self, alloc: Global, nodes: &[usize]) -> Result<Vec<&'s str>, AllocError> {
+        let mut keys: Vec<&'s str> = Vec::new(alloc);
+        for node in nodes {
+            for placed in self.keywords(*node) {
+                if let Keyword::Properties(named, _, _) = &placed.keyword {
+                    for (name, _) in named.iter() {
+                        keys.push(name.as_str())?;
+                    }
+                }
+            }
+        }
+        Ok(keys)
+    }
+
+    /// Returns the keys in `properties` of the schemas at the indices `nodes`, and of all schemas that they may apply
+    /// to the same value.
+    pub(crate) fn known_keys<'s>(
+        &'s self,
+        alloc: Global,
+        nodes: &[usize],
+    ) -> Result<Vec<&'s str>, AllocError> {
+        let mut all = Vec::from_slice(alloc, nodes)?;
+        for at in 0..MOST_SUBSCHEMAS {
+            let Some(node) = all.get(at).and_then(|node| self.nodes.get(*node)) else {
+                break;
+            };
+            push_all(&mut all, in_place(alloc, node)?.as_slice())?;
+        }
+        self.keys_in(alloc, all.as_slice())
+    }
+
     /// Returns the schemas at the indices `nodes`, and the schemas that they apply to the same value, such as those in
     /// `allOf`. Returns at most `MOST_SUBSCHEMAS` schemas. `value` is as for `subschemas`.
     fn with_applied(
@@ -330,7 +354,7 @@ impl Schema {
         let mut fitting = Vec::new(alloc);
         if let Some(value) = value {
             for node in list {
-                let found = self.may_fit(alloc, left, self.depth, *node, value);
+                let found = self.may_fit(alloc, left, *node, value);
                 if verdict(found)? {
                     fitting.push(*node)?;
                 }
@@ -384,99 +408,17 @@ impl Schema {
         Ok(())
     }
 
-    /// Returns whether a value may become valid against the schema at index `node` if more keys are added to it. Checks
-    /// only `type`, `enum`, `const` and subschemas that are `false`, for the value and for the values of its keys at
-    /// any depth. `enum` and `const` compare the value as it is. Fails like `is_valid`.
-    #[cycle(fit)]
-    fn may_fit(
-        &self,
+    /// Returns whether a value may become valid against the schema at index `node` if more keys are added to it: no
+    /// type, constant or key is wrong. Fails like `is_valid`.
+    fn may_fit<'s, 'v, 'de>(
+        &'s self,
         alloc: Global,
         left: &mut u64,
-        depth: usize,
         node: usize,
-        value: &Value<'_>,
+        value: &'v Value<'de>,
     ) -> Result<bool, CheckError> {
-        *left = left.checked_sub(1).ok_or(CheckError::TooLong)?;
-        if depth == 0 {
-            return Err(CheckError::TooDeep);
-        }
-        for placed in self.keywords(node) {
-            if !self.keyword_may_fit(alloc, left, depth - 1, &placed.keyword, value)? {
-                return Ok(false);
-            }
-        }
-        Ok(true)
-    }
-
-    /// Returns whether `keyword` may allow `value` after more keys are added to it. `Type`, `Enum` and `Never` judge
-    /// `value` as it is; `AllOf`, `AnyOf`, `OneOf` and `Properties` apply `may_fit` to their subschemas. Returns true for
-    /// all other keywords. Fails like `is_valid`.
-    #[cycle(fit)]
-    fn keyword_may_fit(
-        &self,
-        alloc: Global,
-        left: &mut u64,
-        depth: usize,
-        keyword: &Keyword,
-        value: &Value<'_>,
-    ) -> Result<bool, CheckError> {
-        match keyword {
-            Keyword::AllOf(nodes) => {
-                let count = self.count_fitting(alloc, left, depth, nodes.as_slice(), value)?;
-                Ok(count == nodes.len())
-            }
-            Keyword::AnyOf(nodes) | Keyword::OneOf(nodes) => {
-                let count = self.count_fitting(alloc, left, depth, nodes.as_slice(), value)?;
-                Ok(count > 0)
-            }
-            Keyword::Type(_) | Keyword::Enum(_, _) | Keyword::Never => {
-                self.allows(alloc, left, depth, keyword, value)
-            }
-            Keyword::Properties(_, _, _) => {
-                let parts = parts(alloc, value)?;
-                self.parts_may_fit(alloc, left, depth, keyword, parts.as_slice())
-            }
-            _ => Ok(true),
-        }
-    }
-
-    /// Returns the number of schemas at the indices `nodes` that `may_fit` accepts for a value. Fails like `is_valid`.
-    #[cycle(fit)]
-    fn count_fitting(
-        &self,
-        alloc: Global,
-        left: &mut u64,
-        depth: usize,
-        nodes: &[usize],
-        value: &Value<'_>,
-    ) -> Result<usize, CheckError> {
-        let mut count = 0usize;
-        for node in nodes {
-            if self.may_fit(alloc, left, depth, *node, value)? {
-                count = count.saturating_add(1);
-            }
-        }
-        Ok(count)
-    }
-
-    /// Returns whether `may_fit` accepts each part of a value for all subschemas that a keyword applies to the part.
-    /// Fails like `is_valid`.
-    #[cycle(fit)]
-    fn parts_may_fit(
-        &self,
-        alloc: Global,
-        left: &mut u64,
-        depth: usize,
-        keyword: &Keyword,
-        parts: &[Part<'_, '_>],
-    ) -> Result<bool, CheckError> {
-        for part in parts {
-            for node in schemas_for(alloc, self, keyword, *part)?.as_slice() {
-                if !self.may_fit(alloc, left, depth, *node, part.value())? {
-                    return Ok(false);
-                }
-            }
-        }
-        Ok(true)
+        let walk = self.walked(alloc, left, node, value)?;
+        let mut wrong = walk.violations.iter();
+        Ok(!wrong.any(|one| one.is_unlisted() || one.is_never()))
     }
 }

@@ -1,19 +1,20 @@
 //! Decides whether a value is valid. In all functions, `depth` is the number of subschemas that may still be nested,
 //! and `left` the number that may still be applied.
-ghost use Rattle.std.specs.Prelude.{◌≡◌, ◌&&◌, nat_le, IfOk, Some, None, false, true, map, option_map, ℕ};
-ghost use Rattle.toml_span_tree.specs.Value.{inner_of, items_view, view};
-ghost use Rattle.toml_span_schema.specs.Parts.{Part as Piece, is_entry, part_of, value_of};
-ghost use Rattle.toml_span_schema.specs.Valid.{allows, allows_other, allows_part, any, both, contains_enough, count};
-ghost use Rattle.toml_span_schema.specs.Valid.{covers, dependents_allow, dependents_cover, every, is_evaluated_element};
-ghost use Rattle.toml_span_schema.specs.Valid.{judged, optional, parts_allow, reaches, unevaluated_allow};
+ghost use Rattle.std.specs.Prelude.{◌≡◌, ◌&&◌, nat_le, IfOk, Some, None, false, true, map, ℕ};
+ghost use Rattle.toml_span_tree.specs.Value.{inner_of, view};
+ghost use Rattle.toml_span_schema.specs.Applied.{applied_of};
+ghost use Rattle.toml_span_schema.specs.Parts.{is_entry, part_of, value_of, whole};
+ghost use Rattle.toml_span_schema.specs.Valid.{allows, allows_other, any, both, contains_enough, count, covers, every};
+ghost use Rattle.toml_span_schema.specs.Valid.{is_evaluated_element, judged, optional, passes, reaches, reaches_simply};
+ghost use Rattle.toml_span_schema.specs.Valid.{refused, unevaluated_allow};
 
-use crate::applied::{has_key, names, schemas_for};
+use crate::applied::{applied, names, push_to_each, schemas_for};
 use crate::asserted::allows_simple;
 use crate::error::CheckError;
 use crate::keyword::Keyword;
-use crate::listed::{Part, parts};
+use crate::listed::{Part, parts_of_kind};
 use crate::schema::Schema;
-use std::alloc::Global;
+use std::alloc::{AllocError, Global};
 use toml_span_tree::{Value, ValueInner};
 
 /// The maximum number of subschemas that are applied to decide whether a value is valid. The same number can be applied
@@ -78,10 +79,20 @@ impl Schema {
         ensures { IfOk result (λ r. allows self.now (judged self.now depth) keyword.now (view value.now) ≡ Some r) }
     {
         match keyword {
-            Keyword::AllOf(nodes) => self.all_allow(alloc, left, depth, nodes.as_slice(), value),
-            Keyword::AnyOf(nodes) => self.any_allows(alloc, left, depth, nodes.as_slice(), value),
-            Keyword::OneOf(nodes) => {
-                let count = self.count_allowing(alloc, left, depth, nodes.as_slice(), value)?;
+            Keyword::AllOf(_)
+            | Keyword::DependentSchemas(_)
+            | Keyword::Items(_, _)
+            | Keyword::Properties(_, _, _) => {
+                let list = applied(alloc, self, keyword, Part::Whole(value))?;
+                self.all_valid(alloc, left, depth, list.as_slice())
+            }
+            Keyword::AnyOf(_) => {
+                let list = applied(alloc, self, keyword, Part::Whole(value))?;
+                self.any_valid(alloc, left, depth, list.as_slice())
+            }
+            Keyword::OneOf(_) => {
+                let list = applied(alloc, self, keyword, Part::Whole(value))?;
+                let count = self.count_valid(alloc, left, depth, list.as_slice())?;
                 Ok(count == 1)
             }
             Keyword::Not(node) => Ok(!self.is_valid(alloc, left, depth, *node, value)?),
@@ -91,9 +102,6 @@ impl Schema {
                 } else {
                     self.maybe_allows(alloc, left, depth, *no, value)
                 }
-            }
-            Keyword::DependentSchemas(entries) => {
-                self.dependents_allow(alloc, left, depth, entries.as_slice(), value)
             }
             _ => self.allows_other(alloc, left, depth, keyword, value),
         }
@@ -119,12 +127,9 @@ impl Schema {
                 let names = names(alloc, value)?;
                 self.allows_each(alloc, left, depth, *node, names.as_slice())
             }
-            Keyword::Contains(node, least, most, _) => {
-                self.contains_enough(alloc, left, depth, *node, *least, *most, value)
-            }
-            Keyword::Items(_, _) | Keyword::Properties(_, _, _) => {
-                let parts = parts(alloc, value)?;
-                self.allows_parts(alloc, left, depth, keyword, parts.as_slice())
+            Keyword::Contains(_, least, most, _) => {
+                let list = applied(alloc, self, keyword, Part::Whole(value))?;
+                self.contains_enough(alloc, left, depth, list.as_slice(), (*least, *most), value)
             }
             Keyword::UnevaluatedItems(others, node) => {
                 self.allows_unevaluated(alloc, left, depth, false, (*others, *node), value)
@@ -136,83 +141,58 @@ impl Schema {
         }
     }
 
-    /// Returns whether `unevaluatedProperties`, or `unevaluatedItems` if `entries` is false, allows all entries and
-    /// elements of a value. `nodes.0` is the index of the schema with the other keywords, and `nodes.1` the index of
-    /// the keyword's subschema. Fails like `is_valid`.
+    /// Returns whether each value in `list` is valid against its subschema. Fails like `is_valid`.
     #[cycle(valid)]
-    fn allows_unevaluated(
+    fn all_valid(
         &self,
         alloc: Global,
         left: &mut u64,
         depth: usize,
-        entries: bool,
-        nodes: (usize, usize),
-        value: &Value<'_>,
+        list: &[(usize, Part<'_, '_>)],
     ) -> Result<bool, CheckError>
-        ensures { IfOk result (λ r.
-            unevaluated_allow (judged self.now depth) entries nodes (view value.now) ≡ Some r) }
+        ensures { IfOk result (λ r. every (passes (judged self.now depth)) (map applied_of list.now) ≡ Some r) }
     {
-        let parts = parts(alloc, value)?;
-        self.allows_rest(alloc, left, depth, entries, nodes, value, parts.as_slice())
-    }
-
-    /// Returns whether a value is valid against all subschemas at the indices `nodes`. Fails like `is_valid`.
-    #[cycle(valid)]
-    fn all_allow(
-        &self,
-        alloc: Global,
-        left: &mut u64,
-        depth: usize,
-        nodes: &[usize],
-        value: &Value<'_>,
-    ) -> Result<bool, CheckError>
-        ensures { IfOk result (λ r. every (λ k. (judged self.now depth).valid k (view value.now)) nodes.now ≡ Some r) }
-    {
-        for node in nodes {
-            if !self.is_valid(alloc, left, depth, *node, value)? {
+        for pair in list {
+            if !self.is_valid(alloc, left, depth, pair.0, pair.1.value())? {
                 return Ok(false);
             }
         }
         Ok(true)
     }
 
-    /// Returns whether a value is valid against at least one of the subschemas at the indices `nodes`. Fails like
-    /// `is_valid`.
+    /// Returns whether at least one value in `list` is valid against its subschema. Fails like `is_valid`.
     #[cycle(valid)]
-    fn any_allows(
+    fn any_valid(
         &self,
         alloc: Global,
         left: &mut u64,
         depth: usize,
-        nodes: &[usize],
-        value: &Value<'_>,
+        list: &[(usize, Part<'_, '_>)],
     ) -> Result<bool, CheckError>
-        ensures { IfOk result (λ r. any (λ k. (judged self.now depth).valid k (view value.now)) nodes.now ≡ Some r) }
+        ensures { IfOk result (λ r. any (passes (judged self.now depth)) (map applied_of list.now) ≡ Some r) }
     {
-        for node in nodes {
-            if self.is_valid(alloc, left, depth, *node, value)? {
+        for pair in list {
+            if self.is_valid(alloc, left, depth, pair.0, pair.1.value())? {
                 return Ok(true);
             }
         }
         Ok(false)
     }
 
-    /// Returns the number of subschemas at the indices `nodes` against which a value is valid. Fails like `is_valid`.
+    /// Returns how many values in `list` are valid against their subschemas. Fails like `is_valid`.
     #[cycle(valid)]
-    fn count_allowing(
+    pub(crate) fn count_valid(
         &self,
         alloc: Global,
         left: &mut u64,
         depth: usize,
-        nodes: &[usize],
-        value: &Value<'_>,
+        list: &[(usize, Part<'_, '_>)],
     ) -> Result<usize, CheckError>
-        ensures { IfOk result (λ r.
-            count (λ k. (judged self.now depth).valid k (view value.now)) 0 nodes.now ≡ Some r) }
+        ensures { IfOk result (λ r. count (passes (judged self.now depth)) 0 (map applied_of list.now) ≡ Some r) }
     {
         let mut count = 0usize;
-        for node in nodes {
-            if self.is_valid(alloc, left, depth, *node, value)? {
+        for pair in list {
+            if self.is_valid(alloc, left, depth, pair.0, pair.1.value())? {
                 count += 1;
             }
         }
@@ -239,29 +219,6 @@ impl Schema {
         }
     }
 
-    /// Returns whether a value is valid against the subschema of each pair in `entries` whose key is in the value.
-    /// Fails like `is_valid`.
-    #[cycle(valid)]
-    fn dependents_allow(
-        &self,
-        alloc: Global,
-        left: &mut u64,
-        depth: usize,
-        entries: &[(String, usize)],
-        value: &Value<'_>,
-    ) -> Result<bool, CheckError>
-        ensures { IfOk result (λ r. dependents_allow (judged self.now depth) entries.now (view value.now) ≡ Some r) }
-    {
-        for entry in entries {
-            if has_key(value, entry.0.as_str()) {
-                if !self.is_valid(alloc, left, depth, entry.1, value)? {
-                    return Ok(false);
-                }
-            }
-        }
-        Ok(true)
-    }
-
     /// Returns whether all of `values` are valid against the subschema at index `node`. Fails like `is_valid`.
     #[cycle(valid)]
     fn allows_each(
@@ -282,83 +239,39 @@ impl Schema {
         Ok(true)
     }
 
-    /// Returns the number of `values` that are valid against the subschema at index `node`. Fails like `is_valid`.
-    #[cycle(valid)]
-    fn count_allowed(
-        &self,
-        alloc: Global,
-        left: &mut u64,
-        depth: usize,
-        node: usize,
-        values: &[Value<'_>],
-    ) -> Result<usize, CheckError>
-        ensures { IfOk result (λ r.
-            count (λ n. (judged self.now depth).valid node n) 0 (map view values.now) ≡ Some r) }
-    {
-        let mut count = 0usize;
-        for value in values {
-            if self.is_valid(alloc, left, depth, node, value)? {
-                count += 1;
-            }
-        }
-        Ok(count)
-    }
-
-    /// Returns whether `least` to `most` elements of an array are valid against the subschema at index `node`. Returns
-    /// true for a value that is not an array. Fails like `is_valid`.
+    /// Returns whether an array has as many elements that `contains` counts as `bounds` allow, the least and the most.
+    /// `list` pairs the keyword's subschema with each element. Returns true for a value that is not an array. Fails
+    /// like `is_valid`.
     #[cycle(valid)]
     fn contains_enough(
         &self,
         alloc: Global,
         left: &mut u64,
         depth: usize,
-        node: usize,
-        least: u64,
-        most: u64,
+        list: &[(usize, Part<'_, '_>)],
+        bounds: (u64, u64),
         value: &Value<'_>,
     ) -> Result<bool, CheckError>
-        ensures { IfOk result (λ r.
-            contains_enough (judged self.now depth) node least most (inner_of (view value.now)) ≡ Some r) }
+        ensures { IfOk result (λ r. contains_enough (judged self.now depth) (map applied_of list.now) bounds.0 bounds.1
+            (inner_of (view value.now)) ≡ Some r) }
     {
         if value.is_taken() {
             return Ok(true);
         }
         match value.as_ref() {
-            ValueInner::Array(array) => {
-                let count = self.count_allowed(alloc, left, depth, node, array.as_slice())?;
-                Ok(is_between(least, count as u64, most))
+            ValueInner::Array(_) => {
+                let count = self.count_valid(alloc, left, depth, list)?;
+                Ok(is_between(bounds.0, count as u64, bounds.1))
             }
             _ => Ok(true),
         }
     }
 
-    /// Returns whether each entry or element in `parts` is valid against the subschemas that `keyword` applies to it.
-    /// Fails like `is_valid`.
+    /// Returns whether `unevaluatedProperties`, or `unevaluatedItems` if `entries` is false, allows a value. `nodes.0`
+    /// is the index of the schema with the other keywords, and `nodes.1` the index of the keyword's subschema. Fails
+    /// like `is_valid`.
     #[cycle(valid)]
-    fn allows_parts(
-        &self,
-        alloc: Global,
-        left: &mut u64,
-        depth: usize,
-        keyword: &Keyword,
-        parts: &[Part<'_, '_>],
-    ) -> Result<bool, CheckError>
-        ensures { IfOk result (λ r.
-            parts_allow self.now (judged self.now depth) keyword.now (map part_of parts.now) ≡ Some r) }
-    {
-        for part in parts {
-            let nodes = schemas_for(alloc, self, keyword, *part)?;
-            if !self.all_allow(alloc, left, depth, nodes.as_slice(), part.value())? {
-                return Ok(false);
-            }
-        }
-        Ok(true)
-    }
-
-    /// Returns whether `unevaluatedProperties`, or `unevaluatedItems` if `entries` is false, allows all entries or
-    /// elements in `parts`. `nodes` are as for `allows_unevaluated`. Fails like `is_valid`.
-    #[cycle(valid)]
-    fn allows_rest(
+    fn allows_unevaluated(
         &self,
         alloc: Global,
         left: &mut u64,
@@ -366,123 +279,183 @@ impl Schema {
         entries: bool,
         nodes: (usize, usize),
         value: &Value<'_>,
-        parts: &[Part<'_, '_>],
     ) -> Result<bool, CheckError>
         ensures { IfOk result (λ r.
-            every (λ p. allows_part (judged self.now depth) entries nodes (view value.now) p) (map part_of parts.now)
-            ≡ Some r) }
+            unevaluated_allow (judged self.now depth) entries nodes.0 nodes.1 (view value.now) ≡ Some r) }
     {
-        for part in parts {
-            if !self.allows_part(alloc, left, depth, entries, nodes, value, *part)? {
-                return Ok(false);
-            }
-        }
-        Ok(true)
+        let parts = parts_of_kind(alloc, value, entries)?;
+        let rest = self.unevaluated(alloc, left, depth, nodes.0, value, parts.as_slice())?;
+        let mut list = Vec::new(alloc);
+        push_to_each(&mut list, nodes.1, rest.as_slice())?;
+        Ok(self.all_valid(alloc, left, depth, list.as_slice())?)
     }
 
-    /// Returns whether `unevaluatedProperties`, or `unevaluatedItems` if `entries` is false, allows `part`, an entry or
-    /// element of `value`. The schema at index `nodes.0` must evaluate `part`, or `part` must be valid against the
-    /// schema at index `nodes.1`. But `unevaluatedProperties` allows all elements, and `unevaluatedItems` all entries.
-    /// Fails like `is_valid`.
+    /// Returns those of `parts`, entries or elements of `value`, that the schema at index `node` does not evaluate.
+    /// `value` must be valid against the schema. Fails like `is_valid`.
     #[cycle(valid)]
-    pub(crate) fn allows_part(
-        &self,
-        alloc: Global,
-        left: &mut u64,
-        depth: usize,
-        entries: bool,
-        nodes: (usize, usize),
-        value: &Value<'_>,
-        part: Part<'_, '_>,
-    ) -> Result<bool, CheckError>
-        ensures { IfOk result (λ r.
-            allows_part (judged self.now depth) entries nodes (view value.now) (part_of part.entry) ≡ Some r) }
-    {
-        if !part.is_of(entries) {
-            return Ok(true);
-        }
-        if self.evaluates(alloc, left, depth, nodes.0, value, part)? {
-            return Ok(true);
-        }
-        self.is_valid(alloc, left, depth, nodes.1, part.value())
-    }
-
-    /// Returns whether the schema at index `node` evaluates `part`, an entry or element of `value`, so that `part` does
-    /// not count as unevaluated. `value` must be valid against the schema. Fails like `is_valid`.
-    #[cycle(valid)]
-    fn evaluates(
+    pub(crate) fn unevaluated<'v, 'de>(
         &self,
         alloc: Global,
         left: &mut u64,
         depth: usize,
         node: usize,
         value: &Value<'_>,
-        part: Part<'_, '_>,
-    ) -> Result<bool, CheckError>
-        ensures { IfOk result (λ r.
-            (judged self.now depth).evaluates node (view value.now) (part_of part.entry) ≡ Some r) }
+        parts: &[Part<'v, 'de>],
+    ) -> Result<Vec<Part<'v, 'de>>, CheckError>
+        ensures { IfOk result (λ rest. refused ((judged self.now depth).evaluates node (view value.now))
+            (map part_of parts.now) ≡ Some (map part_of rest.items)) }
     {
         spend(left)?;
         if depth == 0 {
             return Err(CheckError::TooDeep);
         }
+        let mut rest = Vec::from_slice(alloc, parts)?;
         for placed in self.keywords(node) {
-            if self.reaches(alloc, left, depth - 1, &placed.keyword, value, part)? {
-                return Ok(true);
-            }
+            rest = self.unreached(
+                alloc,
+                left,
+                depth - 1,
+                &placed.keyword,
+                value,
+                rest.as_slice(),
+            )?;
         }
-        Ok(false)
+        Ok(rest)
     }
 
-    /// Returns whether a keyword evaluates `part`, an entry or element of `value`, so that `part` does not count as
-    /// unevaluated. The keyword must allow `value`. Fails like `is_valid`.
+    /// Returns those of `parts`, entries or elements of `value`, that a keyword does not evaluate. The keyword must
+    /// allow `value`. Fails like `is_valid`.
     #[cycle(valid)]
     #[tactic(auto, unfolding(crate::specs::Valid::reaches))]
-    fn reaches(
+    fn unreached<'v, 'de>(
         &self,
         alloc: Global,
         left: &mut u64,
         depth: usize,
         keyword: &Keyword,
         value: &Value<'_>,
-        part: Part<'_, '_>,
-    ) -> Result<bool, CheckError>
-        ensures { IfOk result (λ r.
-            reaches self.now (judged self.now depth) keyword.now (view value.now) (part_of part.entry) ≡ Some r) }
+        parts: &[Part<'v, 'de>],
+    ) -> Result<Vec<Part<'v, 'de>>, CheckError>
+        ensures { IfOk result (λ rest. refused (reaches self.now (judged self.now depth) keyword.now (view value.now))
+            (map part_of parts.now) ≡ Some (map part_of rest.items)) }
     {
         match keyword {
-            Keyword::AllOf(nodes) | Keyword::AnyOf(nodes) | Keyword::OneOf(nodes) => {
-                self.any_covers(alloc, left, depth, nodes.as_slice(), value, part)
+            Keyword::AllOf(_)
+            | Keyword::AnyOf(_)
+            | Keyword::OneOf(_)
+            | Keyword::DependentSchemas(_) => {
+                let list = applied(alloc, self, keyword, Part::Whole(value))?;
+                Ok(self.uncovered(alloc, left, depth, list.as_slice(), parts)?)
             }
             Keyword::If(condition, yes, no) => {
                 if !self.is_valid(alloc, left, depth, *condition, value)? {
-                    return self.maybe_covers(alloc, left, depth, *no, value, part);
+                    return self.maybe_uncovered(alloc, left, depth, *no, value, parts);
                 }
-                if self.evaluates(alloc, left, depth, *condition, value, part)? {
-                    return Ok(true);
-                }
-                self.maybe_covers(alloc, left, depth, *yes, value, part)
-            }
-            Keyword::DependentSchemas(entries) => {
-                self.dependents_cover(alloc, left, depth, entries.as_slice(), value, part)
+                let rest = self.unevaluated(alloc, left, depth, *condition, value, parts)?;
+                Ok(self.maybe_uncovered(alloc, left, depth, *yes, value, rest.as_slice())?)
             }
             Keyword::Contains(node, _, _, evaluates) => {
                 if *evaluates {
-                    return self.element_is_valid(alloc, left, depth, *node, part);
+                    return self.unmatched(alloc, left, depth, *node, parts);
                 }
-                Ok(false)
+                Ok(Vec::from_slice(alloc, parts)?)
             }
-            Keyword::Items(_, _) | Keyword::Properties(_, _, _) => {
-                Ok(!schemas_for(alloc, self, keyword, part)?.is_empty())
-            }
-            Keyword::UnevaluatedItems(_, _) => Ok(!part.is_entry()),
-            Keyword::UnevaluatedProperties(_, _) => Ok(part.is_entry()),
-            _ => Ok(false),
+            _ => Ok(simply_unreached(alloc, self, keyword, parts)?),
         }
     }
 
-    /// Returns whether `part` is an element, not an entry, and is valid against the subschema at index `node`. Fails
-    /// like `is_valid`.
+    /// Returns those of `parts`, entries or elements of a value, that no pair of a subschema and this value in `list`
+    /// covers: the value must be valid against the subschema, and the subschema evaluate the part. Fails like
+    /// `is_valid`.
+    #[cycle(valid)]
+    fn uncovered<'v, 'de>(
+        &self,
+        alloc: Global,
+        left: &mut u64,
+        depth: usize,
+        list: &[(usize, Part<'_, '_>)],
+        parts: &[Part<'v, 'de>],
+    ) -> Result<Vec<Part<'v, 'de>>, CheckError>
+        ensures { IfOk result (λ rest. refused
+            (λ p. any (covers (judged self.now depth) p) (map applied_of list.now))
+            (map part_of parts.now) ≡ Some (map part_of rest.items)) }
+    {
+        let mut rest = Vec::from_slice(alloc, parts)?;
+        for pair in list {
+            rest = self.uncovered_by(alloc, left, depth, *pair, rest.as_slice())?;
+        }
+        Ok(rest)
+    }
+
+    /// Returns those of `parts` that a pair does not cover (see `uncovered`). Fails like `is_valid`.
+    #[cycle(valid)]
+    fn uncovered_by<'v, 'de>(
+        &self,
+        alloc: Global,
+        left: &mut u64,
+        depth: usize,
+        pair: (usize, Part<'_, '_>),
+        parts: &[Part<'v, 'de>],
+    ) -> Result<Vec<Part<'v, 'de>>, CheckError>
+        ensures { IfOk result (λ rest. refused (λ p. covers (judged self.now depth) p (applied_of pair.entry))
+            (map part_of parts.now) ≡ Some (map part_of rest.items)) }
+    {
+        let value = pair.1.value();
+        if self.is_valid(alloc, left, depth, pair.0, value)? {
+            self.unevaluated(alloc, left, depth, pair.0, value, parts)
+        } else {
+            Ok(Vec::from_slice(alloc, parts)?)
+        }
+    }
+
+    /// Returns those of `parts`, entries or elements of `value`, that the subschema at index `node` does not cover (see
+    /// `uncovered`), or all if `node` is `None`. Fails like `is_valid`.
+    #[cycle(valid)]
+    fn maybe_uncovered<'v, 'de>(
+        &self,
+        alloc: Global,
+        left: &mut u64,
+        depth: usize,
+        node: Option<usize>,
+        value: &Value<'_>,
+        parts: &[Part<'v, 'de>],
+    ) -> Result<Vec<Part<'v, 'de>>, CheckError>
+        ensures { IfOk result (λ rest. refused
+            (λ p. optional (λ k. covers (judged self.now depth) p (k, whole (view value.now))) (Some false) node)
+            (map part_of parts.now) ≡ Some (map part_of rest.items)) }
+    {
+        match node {
+            Some(node) => {
+                self.uncovered_by(alloc, left, depth, (node, Part::Whole(value)), parts)
+            }
+            None => Ok(Vec::from_slice(alloc, parts)?),
+        }
+    }
+
+    /// Returns those of `parts` that are entries, or elements that are not valid against the subschema at index `node`.
+    /// Fails like `is_valid`.
+    #[cycle(valid)]
+    fn unmatched<'v, 'de>(
+        &self,
+        alloc: Global,
+        left: &mut u64,
+        depth: usize,
+        node: usize,
+        parts: &[Part<'v, 'de>],
+    ) -> Result<Vec<Part<'v, 'de>>, CheckError>
+        ensures { IfOk result (λ rest. refused (is_evaluated_element (judged self.now depth) node)
+            (map part_of parts.now) ≡ Some (map part_of rest.items)) }
+    {
+        let mut rest = Vec::new(alloc);
+        for part in parts {
+            if !self.element_is_valid(alloc, left, depth, node, *part)? {
+                rest.push(*part)?;
+            }
+        }
+        Ok(rest)
+    }
+
+    /// Returns whether `part` is an element, and is valid against the subschema at index `node`. Fails like `is_valid`.
     #[cycle(valid)]
     fn element_is_valid(
         &self,
@@ -496,98 +469,46 @@ impl Schema {
     {
         match part {
             Part::Element(_, element) => self.is_valid(alloc, left, depth, node, element),
-            Part::Member(_, _) => Ok(false),
+            Part::Member(_, _) | Part::Whole(_) => Ok(false),
         }
     }
+}
 
-    /// Returns whether `value` is valid against the subschema at index `node`, and this subschema evaluates `part`, an
-    /// entry or element of `value`. Fails like `is_valid`.
-    #[cycle(valid)]
-    fn covers(
-        &self,
-        alloc: Global,
-        left: &mut u64,
-        depth: usize,
-        node: usize,
-        value: &Value<'_>,
-        part: Part<'_, '_>,
-    ) -> Result<bool, CheckError>
-        ensures { IfOk result (λ r.
-            covers (judged self.now depth) node (view value.now) (part_of part.entry) ≡ Some r) }
-    {
-        if !self.is_valid(alloc, left, depth, node, value)? {
-            return Ok(false);
+/// Returns whether a keyword that needs no verdicts evaluates `part`, an entry or element.
+#[tactic(auto, unfolding(crate::specs::Valid::reaches_simply))]
+fn reaches_simply(
+    alloc: Global,
+    schema: &Schema,
+    keyword: &Keyword,
+    part: Part<'_, '_>,
+) -> Result<bool, AllocError>
+    ensures { IfOk result (λ r. reaches_simply schema.now keyword.now (part_of part.entry) ≡ r) }
+{
+    match keyword {
+        Keyword::Items(_, _) | Keyword::Properties(_, _, _) => {
+            Ok(!schemas_for(alloc, schema, keyword, part)?.is_empty())
         }
-        self.evaluates(alloc, left, depth, node, value, part)
+        Keyword::UnevaluatedItems(_, _) => Ok(!part.is_entry()),
+        Keyword::UnevaluatedProperties(_, _) => Ok(part.is_entry()),
+        _ => Ok(false),
     }
+}
 
-    /// Returns whether the subschema at index `node` covers `part` (see `covers`), or false if `node` is `None`. Fails
-    /// like `is_valid`.
-    #[cycle(valid)]
-    fn maybe_covers(
-        &self,
-        alloc: Global,
-        left: &mut u64,
-        depth: usize,
-        node: Option<usize>,
-        value: &Value<'_>,
-        part: Part<'_, '_>,
-    ) -> Result<bool, CheckError>
-        ensures { IfOk result (λ r.
-            optional (λ k. covers (judged self.now depth) k (view value.now) (part_of part.entry)) (Some false) node
-            ≡ Some r) }
-    {
-        match node {
-            Some(node) => self.covers(alloc, left, depth, node, value, part),
-            None => Ok(false),
+/// Returns those of `parts` that a keyword does not evaluate. The keyword must be one that needs no verdicts.
+fn simply_unreached<'v, 'de>(
+    alloc: Global,
+    schema: &Schema,
+    keyword: &Keyword,
+    parts: &[Part<'v, 'de>],
+) -> Result<Vec<Part<'v, 'de>>, AllocError>
+    ensures { IfOk result (λ rest. refused (λ p. Some (reaches_simply schema.now keyword.now p))
+        (map part_of parts.now) ≡ Some (map part_of rest.items)) }
+{
+    let mut rest = Vec::new(alloc);
+    for part in parts {
+        if !reaches_simply(alloc, schema, keyword, *part)? {
+            rest.push(*part)?;
         }
     }
-
-    /// Returns whether one of the subschemas at the indices `nodes` covers `part` (see `covers`). Fails like
-    /// `is_valid`.
-    #[cycle(valid)]
-    fn any_covers(
-        &self,
-        alloc: Global,
-        left: &mut u64,
-        depth: usize,
-        nodes: &[usize],
-        value: &Value<'_>,
-        part: Part<'_, '_>,
-    ) -> Result<bool, CheckError>
-        ensures { IfOk result (λ r.
-            any (λ k. covers (judged self.now depth) k (view value.now) (part_of part.entry)) nodes.now ≡ Some r) }
-    {
-        for node in nodes {
-            if self.covers(alloc, left, depth, *node, value, part)? {
-                return Ok(true);
-            }
-        }
-        Ok(false)
-    }
-
-    /// Returns whether the subschema of a pair in `entries` covers `part` (see `covers`). Only pairs whose keys are in
-    /// `value` count. Fails like `is_valid`.
-    #[cycle(valid)]
-    fn dependents_cover(
-        &self,
-        alloc: Global,
-        left: &mut u64,
-        depth: usize,
-        entries: &[(String, usize)],
-        value: &Value<'_>,
-        part: Part<'_, '_>,
-    ) -> Result<bool, CheckError>
-        ensures { IfOk result (λ r.
-            dependents_cover (judged self.now depth) entries.now (view value.now) (part_of part.entry) ≡ Some r) }
-    {
-        for entry in entries {
-            if has_key(value, entry.0.as_str()) {
-                if self.covers(alloc, left, depth, entry.1, value, part)? {
-                    return Ok(true);
-                }
-            }
-        }
-        Ok(false)
-    }
+    Ok(rest)
 }

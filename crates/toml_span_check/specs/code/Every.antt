@@ -6,24 +6,35 @@ use Rattle.toml_span_tree.specs.declared.value.Value.{Value}
 use Rattle.toml_span_read.specs.Data.{depth_limit}
 use Rattle.toml_span.specs.Parsing.{IsTree, IsRefusal}
 use Rattle.toml_span_report.specs.Report.{report_content}
-use Rattle.toml_span_check.specs.Every.{Progress, ReportsFixable}
+use Rattle.toml_span_safety.specs.declared.drafts.Reading.{Reading}
+use Rattle.toml_span_check.specs.Every.{Progress, ReportsFixable, Source, extent}
 use Rattle.toml_span_check.specs.declared.every.ErrorAt.{ErrorAt}
 use Rattle.toml_span_check.specs.declared.every.Found.{Found}
+
+abbrev pub source_of : List ℕ → Reading → Source
+source_of text reading = record {
+  text = text;
+  pieces = reading.pieces.items;
+  statements = reading.statements.items;
+}
 
 abbrev pub progress : Found → Progress
 progress f = record {
   places = f.places.items;
   reports = map report_content f.reports.items;
+  next = f.next;
   blanked = string_bytes f.blanked;
 }
 
--- `made` has the report of this error, and the start of the error's span.
-abbrev pub IsErrorOf : List ℕ → Error → ErrorAt → Type 0
-IsErrorOf text error made =
-    ReportsFixable text error (report_content made.report)
-    × (made.place ≡ error.span.start)
+-- `made` has the report of this error of a copy of the source, the start of the error's span, and the statements that it
+-- concerns.
+pub record IsErrorOf (source : Source) (copy : List ℕ) (from : ℕ) (error : Error) (made : ErrorAt) : Type 0 where
+  pub report : ReportsFixable source from copy error (report_content made.report)
+  pub place : made.place ≡ error.span.start
+  pub extent : made.extent ≡ extent source from error
 
--- the error that `parse` returns for a text, or `None` if the text is a document
-abbrev pub IsNextError : List ℕ → Option ErrorAt → Type 0
-IsNextError text None = (root : Value) × IsTree text depth_limit root
-IsNextError text (Some made) = (error : Error) × IsRefusal text depth_limit (Fault error) × IsErrorOf text error made
+-- the error that `parse` returns for a copy, or `None` if the copy is a document
+abbrev pub IsNextError : Source → List ℕ → ℕ → Option ErrorAt → Type 0
+IsNextError source copy from None = (root : Value) × IsTree copy depth_limit root
+IsNextError source copy from (Some made) =
+    (error : Error) × IsRefusal copy depth_limit (Fault error) × IsErrorOf source copy from error made

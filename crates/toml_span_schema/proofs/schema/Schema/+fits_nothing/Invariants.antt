@@ -1,0 +1,4 @@
+use Rattle.toml_span_schema.proofs.schema.Schema.+fits_nothing.Given as goal
+
+abbrev pub decreases-fits_nothing : goal.decreases-fits_nothing
+decreases-fits_nothing l = l.depth

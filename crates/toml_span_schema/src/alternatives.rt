@@ -1,0 +1,255 @@
+//! Finds out which alternative of `anyOf` or `oneOf` was meant.
+
+use crate::error::CheckError;
+use crate::keyword::{Keyword, Placed, Types};
+use crate::listed::Part;
+use crate::schema::Schema;
+use crate::walk::{Cause, Violation, Walk};
+use std::alloc::{AllocError, Global};
+use std::mem::replace;
+
+/// The number of schemas that may be nested in an alternative to say which types and constants it names.
+const MOST_NESTED: usize = 65;
+
+/// What is known of the alternatives that have been tried so far, of which the value matches none or, for `oneOf`, too
+/// many.
+#[derive(Drop)]
+struct Tried<'s, 'v, 'de> {
+    /// The positions of the alternatives that the value is valid against.
+    valid: Vec<usize>,
+    /// The number of alternatives that a value of TOML can match, but this value does not.
+    count: usize,
+    /// Whether the value has a wrong type, or is not among the constants, in all of these.
+    is_unlisted: bool,
+    /// The violations of the alternative with the least distance, and this distance.
+    best: Vec<Violation<'s, 'v, 'de>>,
+    least: usize,
+}
+
+impl Schema {
+    /// Finds what the keyword `anyOf` or `oneOf` at `at` does not allow in `part`. `nodes` are the alternatives. Fails
+    /// like `is_valid`.
+    #[cycle(explore)]
+    pub(crate) fn explore_alternatives<'s, 'v, 'de>(
+        &'s self,
+        walk: &mut Walk<'s, 'v, 'de>,
+        depth: usize,
+        at: (usize, &'s Placed),
+        nodes: &'s [usize],
+        part: Part<'v, 'de>,
+    ) -> Result<(), CheckError> {
+        let alloc = walk.alloc;
+        if self.allows(alloc, &mut walk.left, depth, &at.1.keyword, part.value())? {
+            return self.explore_valid(walk, depth, nodes, part);
+        }
+        let mut tried = Tried {
+            valid: Vec::new(alloc),
+            count: 0,
+            is_unlisted: true,
+            best: Vec::new(alloc),
+            least: usize::MAX,
+        };
+        let warned = walk.deprecated.len();
+        for (position, next) in nodes.iter().enumerate() {
+            let outer = replace(&mut walk.violations, Vec::new(alloc));
+            self.explore(walk, depth, *next, part)?;
+            let found = replace(&mut walk.violations, outer);
+            if found.is_empty() {
+                tried.valid.push(position)?;
+            } else if !self.fits_nothing(MOST_NESTED, *next) {
+                self.compare(walk, &mut tried, *next, found, part)?;
+            }
+        }
+        walk.deprecated.truncate(warned);
+        Ok(conclude(walk, tried, at, nodes, part)?)
+    }
+
+    /// Finds the deprecated values in `part`, which is valid against one of the alternatives `nodes`. Fails like
+    /// `is_valid`.
+    #[cycle(explore)]
+    fn explore_valid<'s, 'v, 'de>(
+        &'s self,
+        walk: &mut Walk<'s, 'v, 'de>,
+        depth: usize,
+        nodes: &'s [usize],
+        part: Part<'v, 'de>,
+    ) -> Result<(), CheckError> {
+        for next in nodes {
+            if self.is_valid(walk.alloc, &mut walk.left, depth, *next, part.value())? {
+                self.explore(walk, depth, *next, part)?;
+            }
+        }
+        Ok(())
+    }
+
+    /// Notes that `part` is not valid against the alternative at index `node`, because of the violations `found`.
+    fn compare<'s, 'v, 'de>(
+        &'s self,
+        walk: &Walk<'s, 'v, 'de>,
+        tried: &mut Tried<'s, 'v, 'de>,
+        node: usize,
+        found: Vec<Violation<'s, 'v, 'de>>,
+        part: Part<'v, 'de>,
+    ) -> Result<(), AllocError> {
+        let level = walk.path.len();
+        let is_unlisted = found
+            .iter()
+            .any(|one| one.is_unlisted() && one.level == level);
+        let distance = self.distance(walk.alloc, found.as_slice(), level, node, part)?;
+        tried.is_unlisted = tried.is_unlisted && is_unlisted;
+        tried.count = tried.count.saturating_add(1);
+        if distance < tried.least {
+            tried.least = distance;
+            tried.best = found;
+        }
+        Ok(())
+    }
+
+    /// Returns whether no TOML value is valid against the schema at index `node`, such as `false` or `type: null`, or
+    /// false if the schema has to be looked at more closely. `depth` is the number of schemas that may be nested.
+    #[cycle(fits_nothing)]
+    fn fits_nothing(&self, depth: usize, node: usize) -> bool {
+        if depth == 0 {
+            return false;
+        }
+        for placed in self.keywords(node) {
+            let nothing = match &placed.keyword {
+                Keyword::Never => true,
+                Keyword::Type(types) => types.is_empty(),
+                Keyword::Enum(values, _) => values.is_empty(),
+                Keyword::AllOf(nodes) => {
+                    let mut any = false;
+                    for other in nodes.as_slice() {
+                        any = any || self.fits_nothing(depth - 1, *other);
+                    }
+                    any
+                }
+                _ => false,
+            };
+            if nothing {
+                return true;
+            }
+        }
+        false
+    }
+
+    /// Returns how badly the alternative at index `node` fits `part`, whose level is `level`, from the violations
+    /// `found`. A wrong type of the value itself counts most, then a constant that is not the nearest to a string, then
+    /// other keywords about the value itself, then wrong constants in its entries, then tables without a key that the
+    /// alternative knows, and then missing and unknown keys.
+    fn distance<'s>(
+        &'s self,
+        alloc: Global,
+        found: &[Violation<'s, '_, '_>],
+        level: usize,
+        node: usize,
+        part: Part<'_, '_>,
+    ) -> Result<usize, AllocError> {
+        let mut sum = if self.shares_key(alloc, node, part)? {
+            0usize
+        } else {
+            50
+        };
+        for one in found {
+            let is_meant = self.meant(alloc, one)?.is_some();
+            let weight = match (
+                &one.placed.keyword,
+                one.cause,
+                one.level.saturating_sub(level),
+            ) {
+                _ if is_meant => 5,
+                (_, Cause::Missing(_) | Cause::Never, 0) => 100,
+                (Keyword::Type(_), _, 0) | (_, Cause::Unlisted(_), 0) => 1_000_000,
+                (Keyword::Enum(_, _), _, 0) => 50_000,
+                (_, _, 0) => 20_000,
+                (Keyword::Enum(_, _), _, 1) => 10_000,
+                _ => 10,
+            };
+            sum = sum.saturating_add(weight);
+        }
+        Ok(sum)
+    }
+
+    /// Returns whether a value is not a table, or has a key of `properties` in the schema at index `node`.
+    fn shares_key(
+        &self,
+        alloc: Global,
+        node: usize,
+        part: Part<'_, '_>,
+    ) -> Result<bool, AllocError> {
+        let Some(table) = part.value().as_table() else {
+            return Ok(true);
+        };
+        for known in self.known_keys(alloc, &[node])? {
+            for (key, _value) in table.iter() {
+                if key.name.as_ref() == known {
+                    return Ok(true);
+                }
+            }
+        }
+        Ok(false)
+    }
+
+    /// Adds the types and constants that the schemas at the indices `nodes` name to `types` and `constants`. `depth` is
+    /// the number of schemas that may be nested.
+    #[cycle(push_listed)]
+    pub(crate) fn push_listed<'s>(
+        &'s self,
+        depth: usize,
+        nodes: &[usize],
+        types: &mut Types,
+        constants: &mut Vec<&'s str>,
+    ) -> Result<(), AllocError> {
+        if depth == 0 {
+            return Ok(());
+        }
+        for node in nodes {
+            for placed in self.keywords(*node) {
+                match &placed.keyword {
+                    Keyword::Enum(_, shown) => {
+                        for constant in shown.as_slice() {
+                            constants.push(constant.as_str())?;
+                        }
+                    }
+                    Keyword::Type(more) if !self.is_listed(*node) => types.add(*more),
+                    Keyword::AllOf(inner) | Keyword::AnyOf(inner) | Keyword::OneOf(inner) => {
+                        self.push_listed(depth - 1, inner.as_slice(), types, constants)?;
+                    }
+                    _ => {}
+                }
+            }
+        }
+        Ok(())
+    }
+
+    /// Returns whether the schema at index `node` lists constants.
+    fn is_listed(&self, node: usize) -> bool {
+        for placed in self.keywords(node) {
+            if let Keyword::Enum(_, _) = &placed.keyword {
+                return true;
+            }
+        }
+        false
+    }
+}
+
+/// Adds to the violations what the alternatives `nodes` of the keyword `at` do not allow in `part`: the violations of
+/// the best alternative, or one violation if the value matches two alternatives or has a wrong type for all of them.
+fn conclude<'s, 'v, 'de>(
+    walk: &mut Walk<'s, 'v, 'de>,
+    tried: Tried<'s, 'v, 'de>,
+    at: (usize, &'s Placed),
+    nodes: &'s [usize],
+    part: Part<'v, 'de>,
+) -> Result<(), AllocError> {
+    if let [first, second, ..] = tried.valid.as_slice() {
+        return walk.push(at.0, at.1, Cause::Both(*first, *second), part);
+    }
+    if tried.count != 1 && tried.is_unlisted {
+        return walk.push(at.0, at.1, Cause::Unlisted(nodes), part);
+    }
+    for violation in tried.best {
+        walk.violations.push(violation)?;
+    }
+    Ok(())
+}
