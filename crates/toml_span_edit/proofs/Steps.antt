@@ -1,7 +1,9 @@
 -- Edits that are made one after the other, and paths without their last segment.
-use Rattle.toml_span_lex.proofs.Common.{arith, ◌≡◌, ◌<◌, ◌≤◌, ℕ, ◌+◌, ◌-◌, List, [], ◌∷◌, ◌++◌, length, take, drop, take_more, get_or, map, map-append, refl, sym, ap, subst, ◌∙◌, Bor, Result, Ok, Err, IfOk, OnOk}
+use Rattle.toml_span_lex.proofs.Common.{arith, ◌≡◌, ◌<◌, ◌≤◌, ℕ, ◌+◌, ◌-◌, List, [], ◌∷◌, ◌++◌, length, take, drop, take_more, get_or, map, map-append, refl, sym, ap, subst, ◌∙◌, Bor, Result, Ok, Err, IfOk, OnOk, ◌⊎◌, inl, inr}
 use Rattle.std.proofs.lemmas.List.{take_all}
+use Rattle.toml_span_tree.specs.Node.{Node}
 use Rattle.toml_span_edit.specs.Edited.{EditMade, EditsMade}
+use Rattle.toml_span_edit.specs.Kept.{IsInserted, IsRemoved, IsMovedText, HasOtherHeaders, AreKeysReplaced}
 use Rattle.toml_span_edit.specs.declared.edits.Change.TheVariants as changes
 use Rattle.toml_span_edit.specs.declared.edits.Edit.{Edit}
 
@@ -65,3 +67,10 @@ if_ok P Q f (Err e) h = h
 pub on_ok : {A E : Type 0} (P Q : Type 0) → (P → Q) → (r : Result A E) → OnOk r P → OnOk r Q
 on_ok P Q f (Ok x) h = f h
 on_ok P Q f (Err e) h = h
+
+-- a value that is removed, and then inserted elsewhere
+pub moved_of : (path : List (List ℕ)) (n : Node) (text without mid new : List ℕ) → mid ≡ without →
+    IsRemoved path n text without → IsInserted mid new ⊎ (HasOtherHeaders text new ⊎ AreKeysReplaced path text new) →
+    IsMovedText path n text new
+moved_of path n text without mid new e r (inl i) = inl (without, r, subst (λ (m : List ℕ). IsInserted m new) e i)
+moved_of path n text without mid new e r (inr h) = inr h

@@ -3,7 +3,7 @@ ghost use Rattle.std.specs.Prelude.{IfOk, Ok, map};
 ghost use Rattle.toml_span_read.specs.Data.{depth_limit, parsed_section};
 ghost use Rattle.toml_span_read.specs.Read.{document};
 
-use crate::lines::part;
+use crate::lines::{comments_above, line_start, part};
 use crate::mentions::{PathMention, mentions_of, part_at};
 use crate::reason::Reason;
 use std::alloc::{AllocError, Global};
@@ -97,5 +97,29 @@ impl<'s, 'de> Document<'s, 'de> {
     /// Returns the byte offset after the line of a section's last assignment or, without assignments, of its header.
     pub(crate) fn body_end(&self, section: &Section<'_>) -> usize {
         section_lines(self.text, section).end
+    }
+    /// Returns the end of the last header, or assignment on lines, that begins before the byte offset `at`, the start
+    /// of a line. Returns 0 if there is none.
+    fn floor(&self, at: usize) -> usize {
+        let mut floor: usize = 0;
+        for section in self.sections {
+            if section.extent.start >= at {
+                return floor;
+            }
+            floor = section.header_span.end;
+            for assignment in &section.assignments {
+                if assignment.extent.start < at {
+                    floor = assignment.extent.end;
+                }
+            }
+        }
+        floor
+    }
+
+    /// Returns the start of the comment lines directly above the line of the byte offset `offset`, where a header or an
+    /// assignment begins. Without such lines, returns the start of that line.
+    pub(crate) fn above(&self, offset: usize) -> usize {
+        let start = line_start(self.text, offset);
+        comments_above(self.text, self.floor(start), start)
     }
 }

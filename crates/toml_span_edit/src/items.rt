@@ -166,26 +166,34 @@ pub(crate) fn cut_items(
     cut_last(text, before, items, end, plan)
 }
 
-/// Adds to `plan` the insertion of `item` into the brackets or braces of `list`, which must have no items.
+/// Adds to `plan` the insertion of `item` into the brackets or braces of `list`, which must have no items. The item
+/// gets its own line, with its comments, if only blanks and line ends are between the brackets, and at least one line
+/// end.
 fn put_first(
     alloc: Global,
     text: &str,
     list: &Val<'_>,
-    item: &str,
+    item: Item<'_>,
     plan: &mut Plan,
 ) -> Result<(), AllocError> {
     let start = list.span.start.saturating_add(1);
     let inner = part(text, start, close_of(list));
-    let end = if inner.trim().is_empty() {
-        close_of(list)
-    } else {
-        start
-    };
-    let new = match &list.kind {
-        ValKind::Array(_) if end == close_of(list) => String::from_str(alloc, item)?,
-        _ => format!(in alloc; " {item} ")?,
-    };
-    plan.put(Span { start, end }, new)
+    let Item {
+        above,
+        text: item,
+        note,
+    } = item;
+    if !inner.trim().is_empty() || inner.is_empty() && matches!(&list.kind, ValKind::Inline(_)) {
+        return plan.put(point(start), format!(in alloc; " {item} ")?);
+    }
+    if inner.contains('\n') {
+        let (front, end) = (indent(text, list.span.start), line_end(text));
+        let lines = format!(in alloc; "{above}{front}    {item},{note}{end}")?;
+        return plan.put(point(next_line(text, start)), lines);
+    }
+    let blank = if inner.len() == 1 { " " } else { "" };
+    let at = start.saturating_add(inner.len().min(1));
+    plan.put(point(at), format!(in alloc; "{item}{blank}")?)
 }
 
 /// An item to insert. `above` has the comment lines above the item, and `note` the comment after the item and its
@@ -301,7 +309,7 @@ fn put_before(
 }
 
 /// Adds to `plan` the insertion of `item` into `list` before the item at `index` or, if `index` is too large, after the
-/// last item. If `list` has no items, the comments of `item` are left out.
+/// last item.
 pub(crate) fn put_item(
     alloc: Global,
     text: &str,
@@ -316,7 +324,7 @@ pub(crate) fn put_item(
     }
     match item_span(text, list, count.saturating_sub(1)) {
         Some(last) => put_last(alloc, text, list, last, item, plan),
-        None => put_first(alloc, text, list, item.text, plan),
+        None => put_first(alloc, text, list, item, plan),
     }
 }
 
@@ -344,13 +352,37 @@ fn note_after(text: &str, end: usize) -> &str {
     }
 }
 
-/// Returns the comment lines above the item in the span `item`, and the comment that `note_after` returns for the item.
-/// Both are empty if the item does not begin a line.
-pub(crate) fn comments_of(text: &str, item: Span) -> (&str, &str) {
+/// Returns the span of the comment lines directly above the item of `list` at `index`. Returns an empty span if there
+/// are none, or if the item does not begin a line.
+pub(crate) fn span_above(text: &str, list: &Val<'_>, index: usize) -> Span {
+    let Some(item) = item_span(text, list, index) else {
+        return point(0);
+    };
     if !begins_line(text, item.start) {
-        return ("", "");
+        return point(item.start);
     }
-    let start = line_start(text, item.start);
-    let above = part(text, comments_above(text, start), start);
-    (above, note_after(text, item.end))
+    let floor = match index.checked_sub(1) {
+        Some(before) => item_span(text, list, before).map_or(0, |span| span.end),
+        None => list.span.start.saturating_add(1),
+    };
+    let end = line_start(text, item.start);
+    Span {
+        start: comments_above(text, floor, end),
+        end,
+    }
+}
+
+/// Returns the comment lines above the item of `list` at `index`, and the comment that `note_after` returns for the
+/// item. Both are empty if the item does not begin a line.
+pub(crate) fn comments_of<'t>(text: &'t str, list: &Val<'_>, index: usize) -> (&'t str, &'t str) {
+    match item_span(text, list, index) {
+        Some(item) if begins_line(text, item.start) => {
+            let above = span_above(text, list, index);
+            (
+                part(text, above.start, above.end),
+                note_after(text, item.end),
+            )
+        }
+        _ => ("", ""),
+    }
 }

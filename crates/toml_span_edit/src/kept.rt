@@ -10,27 +10,8 @@ use toml_span_lex::bytes::is_blank;
 use toml_span_places::Replacement;
 use toml_span_read::gaps::byte_at;
 
-/// Returns whether a byte is a space, a tab, a line feed or a carriage return.
-fn is_space(byte: u8) -> bool
-    ensures { result ≡ spec.is_space byte }
-{
-    is_blank(byte) || byte == b'\n' || byte == b'\r'
-}
-
-/// Returns whether all of `bytes` are spaces, tabs, line feeds or carriage returns.
-fn is_all_space(bytes: &[u8]) -> bool
-    ensures { result ≡ list_all spec.is_space bytes.now }
-{
-    for byte in bytes {
-        if !is_space(*byte) {
-            return false;
-        }
-    }
-    true
-}
-
 /// Returns the bytes of `text` whose offsets are in `start..end`. Offsets after the end of `text` are ignored.
-fn bytes_of(text: &str, start: usize, end: usize) -> &[u8]
+pub(crate) fn bytes_of(text: &str, start: usize, end: usize) -> &[u8]
     ensures { result.now ≡ slice_range text.now start end }
 {
     let bytes = text.as_bytes();
@@ -38,20 +19,19 @@ fn bytes_of(text: &str, start: usize, end: usize) -> &[u8]
     if start < end { &bytes[start..end] } else { &[] }
 }
 
-/// Returns whether the span of a replacement is empty, or contains only spaces, tabs, line feeds and carriage returns.
-fn replaces_space(text: &str, replacement: Replacement<'_>) -> bool
-    ensures { result ≡ spec.replaces_space text.now (edit_of replacement.entry) }
+/// Returns whether a replacement only inserts text: whether its span is empty.
+fn is_insertion(replacement: Replacement<'_>) -> bool
+    ensures { result ≡ spec.is_insertion (edit_of replacement.entry) }
 {
-    is_all_space(bytes_of(text, replacement.span.start, replacement.span.end))
+    replacement.span.start == replacement.span.end
 }
 
-/// Returns whether the span of each replacement in `list` is empty, or contains only spaces, tabs, line feeds and
-/// carriage returns.
-pub(crate) fn replace_space(text: &str, list: &[Replacement<'_>]) -> bool
-    ensures { result ≡ list_all (spec.replaces_space text.now) (map edit_of list.now) }
+/// Returns whether all replacements in `list` only insert text.
+pub(crate) fn are_insertions(list: &[Replacement<'_>]) -> bool
+    ensures { result ≡ list_all spec.is_insertion (map edit_of list.now) }
 {
     for replacement in list {
-        if !replaces_space(text, *replacement) {
+        if !is_insertion(*replacement) {
             return false;
         }
     }

@@ -29,26 +29,29 @@ pub(crate) enum Written {
     Nowhere,
 }
 
-/// Returns how the value at `path` is written. Fails with `WouldDiffer` if `text` can't be split into sections.
+/// Returns how the value at `path` is written. `old` is the tree of `text`. Scalars are always written as literals.
+/// Fails with `WouldDiffer` if `text` can't be split into sections.
 pub(crate) fn how_written(
     alloc: Global,
     text: &str,
     path: &[&str],
+    old: &Value<'_>,
 ) -> Result<Written, Stop<Reason>> {
+    let Some(there) = value_at(path, old) else {
+        return Ok(Written::Nowhere);
+    };
+    if there.as_table().is_none() && there.as_array().is_none() {
+        return Ok(Written::Literal);
+    }
     let sections = sections_of(alloc, text)?;
     let document = Document {
         alloc,
         text,
         sections: sections.as_slice(),
     };
-    let mentions = document.mentions(path)?;
-    if written(mentions.as_slice()).is_some() {
-        return Ok(Written::Literal);
-    }
-    Ok(if mentions.is_empty() {
-        Written::Nowhere
-    } else {
-        Written::Otherwise
+    Ok(match written(document.mentions(path)?.as_slice()) {
+        Some(_) => Written::Literal,
+        None => Written::Otherwise,
     })
 }
 
@@ -99,7 +102,7 @@ pub(crate) fn set_text(
         (string_bytes new)) }
 {
     check_value(alloc, value)?;
-    match how_written(alloc, text, path)? {
+    match how_written(alloc, text, path, old)? {
         Written::Literal => write_over(alloc, text, path, value, old),
         _ if path.is_empty() => Err(Stop::Fault(Reason::Root)),
         Written::Nowhere => Err(Stop::Fault(Reason::Nothing)),
