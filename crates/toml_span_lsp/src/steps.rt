@@ -3,14 +3,14 @@ use crate::capabilities::{store_client, write_capabilities};
 use crate::configuration::{initialized, settings_came, settings_changed};
 use crate::incoming::{Call, Id, Message, message_of};
 use crate::methods::method_named;
-use crate::outgoing::{error_response, finished, response, show_message};
+use crate::outgoing::{Json, Outbox, error_response, response, show_message};
 use crate::refusal::{
     INVALID_REQUEST, METHOD_NOT_FOUND, NOT_INITIALIZED, PARSE_ERROR, Refusal, refusal_with, refused,
 };
 use crate::requests::write_result;
 use crate::state::{Phase, State};
 use crate::sync::{change, close, open, save};
-use json::{Error, Scratch, Value, Writer};
+use json::{Error, Scratch, Value};
 use std::alloc::{AllocError, Global};
 use std::mem;
 use toml_span_lex::stop::Stop;
@@ -22,14 +22,15 @@ fn write_request(
     alloc: Global,
     state: &mut State,
     call: Call<'_, '_>,
-    out: &mut Writer,
+    out: &mut Json,
 ) -> Result<(), Stop<Refusal>> {
     if call.method == "shutdown" {
         state.phase = Phase::Shut;
-        return Ok(out.null()?);
+        out.null();
+        return Ok(());
     }
     match method_named(call.method) {
-        Some(method) => write_result(alloc, state, method, out, call.params),
+        Some(method) => write_result(alloc, state, method, call.params, out),
         None => Err(refused(alloc, METHOD_NOT_FOUND, "the method is not known")),
     }
 }
@@ -39,12 +40,12 @@ fn write_phased(
     alloc: Global,
     state: &mut State,
     call: Call<'_, '_>,
-    out: &mut Writer,
+    out: &mut Json,
 ) -> Result<(), Stop<Refusal>> {
     match (state.phase, call.method) {
         (Phase::New, "initialize") => {
             store_client(alloc, state, call.params)?;
-            write_capabilities(out, state.encoding)?;
+            write_capabilities(out, state.encoding);
             state.phase = Phase::Running;
             Ok(())
         }
@@ -66,9 +67,9 @@ fn answered(
     id: Id<'_>,
     call: Call<'_, '_>,
 ) -> Result<Vec<u8>, AllocError> {
-    let mut out = response(alloc, id)?;
+    let mut out = response(alloc, id);
     match write_phased(alloc, state, call, &mut out) {
-        Ok(()) => finished(out),
+        Ok(()) => out.finish(),
         Err(stop) => {
             let refusal = stop.fault()?;
             error_response(alloc, id, &refusal)
@@ -83,7 +84,7 @@ fn note<D: Disk>(
     state: &mut State,
     disk: &mut D,
     call: Call<'_, '_>,
-    out: &mut Vec<Vec<u8>>,
+    out: &mut Outbox,
 ) -> Result<(), AllocError> {
     match (state.phase, call.method) {
         (Phase::Shut, "exit") => {
@@ -98,14 +99,20 @@ fn note<D: Disk>(
             };
             Ok(())
         }
-        (Phase::Running, "initialized") => initialized(alloc, state, out),
+        (Phase::Running, "initialized") => {
+            initialized(alloc, state, out);
+            Ok(())
+        }
         (Phase::Running, "workspace/didChangeConfiguration") => {
             settings_changed(alloc, state, disk, call.params, out)
         }
         (Phase::Running, "textDocument/didOpen") => open(alloc, state, disk, call.params, out),
         (Phase::Running, "textDocument/didChange") => change(alloc, state, call.params, out),
         (Phase::Running, "textDocument/didSave") => save(alloc, state, disk, call.params, out),
-        (Phase::Running, "textDocument/didClose") => close(alloc, state, call.params, out),
+        (Phase::Running, "textDocument/didClose") => {
+            close(alloc, state, call.params, out);
+            Ok(())
+        }
         _ => Ok(()),
     }
 }
@@ -116,7 +123,7 @@ fn take<D: Disk>(
     state: &mut State,
     disk: &mut D,
     message: Message<'_, '_>,
-    out: &mut Vec<Vec<u8>>,
+    out: &mut Outbox,
 ) -> Result<(), AllocError> {
     match message {
         Message::Response(id, result) => {
@@ -127,12 +134,12 @@ fn take<D: Disk>(
         }
         Message::Invalid(id) => {
             let refusal = refusal_with(alloc, INVALID_REQUEST, "not a message of JSON-RPC 2.0")?;
-            out.push(error_response(alloc, id, &refusal)?)?;
+            out.add(error_response(alloc, id, &refusal));
             Ok(())
         }
         Message::Call(call) => match call.id {
             Some(id) => {
-                out.push(answered(alloc, state, id, call)?)?;
+                out.add(answered(alloc, state, id, call));
                 Ok(())
             }
             None => note(alloc, state, disk, call, out),
@@ -142,22 +149,14 @@ fn take<D: Disk>(
 
 /// Moves the lines of `state.notices` to `out`, each as a notification that shows the line to the user. The prefix
 /// `error: ` is left out.
-fn push_notices(
-    alloc: Global,
-    state: &mut State,
-    out: &mut Vec<Vec<u8>>,
-) -> Result<(), AllocError> {
-    if state.notices.is_empty() {
-        return Ok(());
-    }
+fn push_notices(alloc: Global, state: &mut State, out: &mut Outbox) {
     let notices = mem::replace(&mut state.notices, String::new(alloc));
     for line in notices.as_str().split('\n') {
         if !line.is_empty() {
             let message = line.strip_prefix("error: ").unwrap_or(line);
-            out.push(show_message(alloc, message)?)?;
+            out.add(show_message(alloc, message));
         }
     }
-    Ok(())
 }
 
 /// Carries out the message in `content`, the content of a frame. Returns the contents of the frames to send, in order.
@@ -169,16 +168,16 @@ pub fn step<D: Disk>(
     disk: &mut D,
     content: &[u8],
 ) -> Result<Vec<Vec<u8>>, AllocError> {
-    let mut out = Vec::new(alloc);
+    let mut out = Outbox::new(alloc);
     let mut scratch = Scratch::new(alloc);
     match Value::from_slice(alloc, content, &mut scratch) {
         Ok(value) => take(alloc, state, disk, message_of(&value), &mut out)?,
         Err(Error::OutOfMemory) => return Err(AllocError),
         Err(_) => {
             let refusal = refusal_with(alloc, PARSE_ERROR, "the content is not JSON")?;
-            out.push(error_response(alloc, Id::Null, &refusal)?)?;
+            out.add(error_response(alloc, Id::Null, &refusal));
         }
     }
-    push_notices(alloc, state, &mut out)?;
-    Ok(out)
+    push_notices(alloc, state, &mut out);
+    out.finish()
 }
