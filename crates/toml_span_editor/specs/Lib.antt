@@ -1,6 +1,7 @@
 pub mod Changes
 pub mod Conversions
 pub mod Diagnostics
+pub mod Documents
 pub mod Edits
 pub mod Formatting
 pub mod Laws

@@ -23,14 +23,14 @@ use toml_span_report::{Report, Severity};
 use toml_span_tree::Label;
 
 /// A range of the text with a message that explains a diagnostic.
-#[derive(Debug, Drop)]
+#[derive(Drop)]
 pub struct Related {
     pub range: Range,
     pub message: String,
 }
 
 /// A report as an editor shows it.
-#[derive(Debug, Drop)]
+#[derive(Drop)]
 pub struct Diagnostic {
     /// The range of the first primary label or, without such a label, the start of the text.
     pub range: Range,
@@ -44,7 +44,7 @@ pub struct Diagnostic {
 }
 
 /// A repair of an error.
-#[derive(Debug, Drop)]
+#[derive(Drop)]
 pub struct Repair {
     /// What the repair does: the first help of the report or, without help, the report's message. "did you mean `a`?"
     /// becomes "write `a`". For a duplicate key, the title is "remove this duplicate key".
@@ -184,7 +184,7 @@ fn diagnostics_of(
 }
 
 /// The diagnostics of a text, and any reason why the text can't be checked against its schema.
-#[derive(Debug, Drop)]
+#[derive(Drop)]
 pub struct Diagnosed {
     pub diagnostics: Vec<Diagnostic>,
     /// Error lines that say why the text can't be checked against its schema. Empty if it can, if it has no schema, or

@@ -4,7 +4,6 @@
 
 mod aligned;
 pub mod changes;
-mod comments;
 pub mod completion;
 mod context;
 pub mod conversions;
@@ -23,8 +22,10 @@ pub mod positions;
 pub mod renaming;
 mod schemas;
 pub mod selection;
+mod siblings;
 mod snippets;
 mod spans;
-pub mod suggestions;
+mod suggestions;
 pub mod table;
 pub mod tokens;
+mod walk;

@@ -1,7 +1,24 @@
 //! Compares and joins spans.
-ghost use Rattle.std.specs.Prelude.{◌≡◌, min, max};
+ghost use Rattle.std.specs.Prelude.{◌≡◌, ◌&&◌, min, max, nat_le};
 
 use toml_span_lex::span::Span;
+use toml_span_syntax::pieces::Piece;
+use toml_span_syntax::statements::Statement;
+
+/// Returns the span of a statement, including its line end.
+pub(crate) fn span_of(pieces: &[Piece], statement: Statement) -> Span {
+    match pieces.get(statement.first..statement.end) {
+        Some([one]) => Span {
+            start: one.start,
+            end: one.end,
+        },
+        Some([first, .., last]) => Span {
+            start: first.start,
+            end: last.end,
+        },
+        _ => Span { start: 0, end: 0 },
+    }
+}
 
 /// Returns the shortest span that contains both spans.
 pub(crate) fn cover(one: Span, other: Span) -> Span
@@ -14,7 +31,9 @@ pub(crate) fn cover(one: Span, other: Span) -> Span
 }
 
 /// Returns whether the offset `at` is in a span or at its end.
-pub(crate) fn touches(span: Span, at: usize) -> bool {
+pub(crate) fn touches(span: Span, at: usize) -> bool
+    ensures { result ≡ (nat_le span.start at && nat_le at span.end) }
+{
     span.start <= at && at <= span.end
 }
 

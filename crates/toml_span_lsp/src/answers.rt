@@ -1,13 +1,12 @@
 //! Writes answers about a position in a document: definitions, hovers and completion items.
-use crate::outgoing::{flag, number, range, text, write_location};
-use crate::suggested::write_suggestions;
+use crate::outgoing::{range, text, write_location};
+use crate::suggested::write_items;
 use json::Writer;
 use std::alloc::{AllocError, Global};
-use toml_span_editor::completion::{Proposal, proposals};
+use toml_span_editor::completion::completion_at;
 use toml_span_editor::document::Document;
 use toml_span_editor::hover::hover_at;
 use toml_span_editor::keys::definition;
-use toml_span_editor::suggestions::suggestions;
 use toml_span_editor::table::PositionTable;
 use toml_span_schema::Guide;
 
@@ -49,17 +48,7 @@ pub(crate) fn write_hover(
     out.end_object()
 }
 
-/// Writes a proposal as a completion item.
-fn write_proposal(out: &mut Writer, proposal: &Proposal) -> Result<(), AllocError> {
-    out.begin_object()?;
-    text(out, "label", proposal.text.as_str())?;
-    number(out, "kind", if proposal.is_key { 10 } else { 14 })?;
-    text(out, "detail", proposal.kind)?;
-    out.end_object()
-}
-
-/// Writes the completion items for the offset `at`: the `suggestions` of the schema `guide`. If `guide` is `None` or
-/// `suggestions` returns `None`, writes the items of `write_proposals`.
+/// Writes the completion items for the offset `at`. `has_snippets` says whether the client supports snippets.
 pub(crate) fn write_completion(
     alloc: Global,
     out: &mut Writer,
@@ -69,29 +58,6 @@ pub(crate) fn write_completion(
     has_snippets: bool,
     at: usize,
 ) -> Result<(), AllocError> {
-    if let Some(known) = guide {
-        if let Some(found) = suggestions(alloc, known, table.text, document, at)? {
-            return write_suggestions(alloc, out, table, found.as_slice(), has_snippets);
-        }
-    }
-    write_proposals(alloc, out, table, document, at)
-}
-
-/// Writes the completion items for the offset `at` that `proposals` returns, without a schema.
-fn write_proposals(
-    alloc: Global,
-    out: &mut Writer,
-    table: &PositionTable<'_>,
-    document: &Document<'_>,
-    at: usize,
-) -> Result<(), AllocError> {
-    out.begin_object()?;
-    flag(out, "isIncomplete", false)?;
-    out.key("items")?;
-    out.begin_array()?;
-    for proposal in &proposals(alloc, table.text, document, at)? {
-        write_proposal(out, proposal)?;
-    }
-    out.end_array()?;
-    out.end_object()
+    let made = completion_at(alloc, guide, table.text, document, at)?;
+    write_items(alloc, out, table, &made, has_snippets)
 }

@@ -52,9 +52,13 @@ pub(crate) fn write_renamable(
     let Some(key) = renamable_at(alloc, &document, at)? else {
         return out.null();
     };
+    let name = match key.path.last() {
+        Some(name) => name.as_ref(),
+        None => "",
+    };
     out.begin_object()?;
     range(out, "range", table.range(key.span))?;
-    text(out, "placeholder", key.name.as_str())?;
+    text(out, "placeholder", name)?;
     out.end_object()
 }
 

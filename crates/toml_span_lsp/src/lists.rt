@@ -62,15 +62,14 @@ pub(crate) fn write_symbols(
     out.end_array()
 }
 
-/// Writes the first and last lines of the parts of a document that can be folded. Leaves out parts on one line.
+/// Writes the first and last lines of the parts of a text that can be folded. Leaves out parts on one line.
 pub(crate) fn write_folds(
     alloc: Global,
     out: &mut Writer,
     table: &PositionTable<'_>,
-    document: &Document<'_>,
 ) -> Result<(), AllocError> {
     out.begin_array()?;
-    for fold in &folds(alloc, document)? {
+    for fold in &folds(alloc, table.text)? {
         let place = table.range(fold.span);
         let is_before = place.end.character == 0 && place.start.line < place.end.line;
         let end = place.end.line.saturating_sub(if is_before { 1 } else { 0 });
@@ -160,20 +159,19 @@ fn token_type(meaning: Meaning) -> usize {
     }
 }
 
-/// Writes the tokens of a document, each as five numbers (LSP 3.17, SemanticTokens). The numbers are the line relative
+/// Writes the tokens of a text, each as five numbers (LSP 3.17, SemanticTokens). The numbers are the line relative
 /// to the previous token, the start (relative to the previous token if that is on the same line), the length, the type,
 /// and 0 for no modifiers.
 pub(crate) fn write_tokens(
     alloc: Global,
     out: &mut Writer,
     table: &PositionTable<'_>,
-    document: &Document<'_>,
 ) -> Result<(), AllocError> {
     let mut last = FIRST;
     out.begin_object()?;
     out.key("data")?;
     out.begin_array()?;
-    for token in &tokens(alloc, document)? {
+    for token in &tokens(alloc, table.text)? {
         let place = table.range(token.span);
         let front = if place.start.line == last.line {
             last.character

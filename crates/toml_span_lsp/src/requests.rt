@@ -127,8 +127,6 @@ fn write_of(
 ) -> Result<(), Stop<Refusal>> {
     match method {
         Method::Symbols => write_symbols(alloc, out, table, document)?,
-        Method::Folds => write_folds(alloc, out, table, document)?,
-        Method::Tokens => write_tokens(alloc, out, table, document)?,
         Method::Selections => return write_selections(alloc, out, table, document, params),
         _ => return write_at(
             alloc, method, out, uri, table, document, guide, options, params,
@@ -138,7 +136,7 @@ fn write_of(
 }
 
 /// Writes the answer to a request about a document. If the document has errors, answers about the text that `readable`
-/// returns, or writes null if `readable` returns `None`. Fails with a `Refusal` if the request is refused.
+/// returns. Fails with a `Refusal` if the request is refused.
 fn write_readable(
     alloc: Global,
     method: Method,
@@ -154,10 +152,8 @@ fn write_readable(
             alloc, method, out, uri, table, &document, guide, options, params,
         );
     }
-    let Some(kept) = readable(alloc, table.text)? else {
-        return Ok(out.null()?);
-    };
-    match read(alloc, kept.as_ref())? {
+    let kept = readable(alloc, table.text)?;
+    match read(alloc, kept.as_str())? {
         Some(document) => write_of(
             alloc, method, out, uri, table, &document, guide, options, params,
         ),
@@ -204,6 +200,8 @@ fn write_answer(
         Method::Format | Method::FormatRange => {
             Ok(write_formatting(alloc, out, table, options.width, params)?)
         }
+        Method::Folds => Ok(write_folds(alloc, out, table)?),
+        Method::Tokens => Ok(write_tokens(alloc, out, table)?),
         Method::Rename => {
             let at = offset_of(alloc, table, params)?;
             write_rename(alloc, out, uri, table, at, params)

@@ -1,8 +1,8 @@
-//! Writes the suggestions of a schema for completion.
+//! Writes completion items.
 use crate::outgoing::{flag, number, range, text};
 use json::Writer;
 use std::alloc::{AllocError, Global};
-use toml_span_editor::suggestions::{Suggestion, SuggestionKind};
+use toml_span_editor::completion::{Completion, Suggestion, SuggestionKind};
 use toml_span_editor::table::PositionTable;
 
 /// Returns the number for the kind of a suggestion (LSP 3.17, CompletionItemKind).
@@ -85,20 +85,19 @@ fn write_suggestion(
     out.end_object()
 }
 
-/// Writes suggestions as a complete list: the client need not request them again while the user types. `has_snippets`
-/// says whether the client supports snippets.
-pub(crate) fn write_suggestions(
+/// Writes a list of completion items. `has_snippets` says whether the client supports snippets.
+pub(crate) fn write_items(
     alloc: Global,
     out: &mut Writer,
     table: &PositionTable<'_>,
-    suggestions: &[Suggestion],
+    made: &Completion,
     has_snippets: bool,
 ) -> Result<(), AllocError> {
     out.begin_object()?;
-    flag(out, "isIncomplete", false)?;
+    flag(out, "isIncomplete", made.is_incomplete)?;
     out.key("items")?;
     out.begin_array()?;
-    for (position, suggestion) in suggestions.iter().enumerate() {
+    for (position, suggestion) in made.suggestions.iter().enumerate() {
         write_suggestion(alloc, out, table, suggestion, position, has_snippets)?;
     }
     out.end_array()?;
