@@ -4,6 +4,8 @@ pub mod Endings
 pub mod Errors
 pub mod Fixings
 pub mod Judged
+mod Marks
+mod PatternLemmas
 pub mod Pieces
 pub mod Statuses
 pub mod Collecting

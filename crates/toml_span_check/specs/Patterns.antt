@@ -1,48 +1,121 @@
 -- Which names and paths a pattern matches.
-use Rattle.std.specs.Prelude.{ℕ, Bool, true, false, ◌==◌, ◌&&◌, ◌||◌, List, [], ◌∷◌, codes, if◌then◌else◌}
+use Rattle.std.specs.Prelude.{ℕ, Bool, true, false, not, ◌==◌, ◌&&◌, ◌||◌, List, [], ◌∷◌, ◌++◌, codes, drop, map}
+use Rattle.std.specs.Prelude.{Option, None, Some, length, string_bytes, take, ◌-◌, if◌then◌else◌}
+use Rattle.std.specs.List.{list_any, slice_split}
 use Rattle.std.specs.Str.{bytes_eq}
+use Rattle.toml_span_check.specs.declared.patterns.Pattern.{Pattern}
 
--- ---- names
-
-abbrev pub is_nothing : List ℕ → Bool
+abbrev pub is_nothing : {A : Type 0} → List A → Bool
 is_nothing [] = true
 is_nothing (x ∷ xs) = false
 
--- whether `rest` is true for a suffix of a name; the suffix can be the whole name, or empty
-abbrev pub some_end : (List ℕ → Bool) → List ℕ → Bool
+-- whether `rest` is true for a suffix of a list; the suffix can be the whole list, or empty
+abbrev pub some_end : {A : Type 0} → (List A → Bool) → List A → Bool
 some_end rest [] = rest []
 some_end rest (x ∷ xs) = rest (x ∷ xs) || some_end rest xs
 
--- whether `code`, a byte of the pattern, matches the first byte of a name, and `rest` is true for the other bytes
-abbrev pub one_more : ℕ → (List ℕ → Bool) → List ℕ → Bool
-one_more code rest [] = false
-one_more code rest (x ∷ xs) = (code == 63 || code == x) && rest xs
+-- whether the first element fits, and `rest` is true for the others
+abbrev pub one_more : {A : Type 0} → (A → Bool) → (List A → Bool) → List A → Bool
+one_more fits rest [] = false
+one_more fits rest (x ∷ xs) = fits x && rest xs
 
--- whether a pattern matches a name: `*` matches any number of bytes, `?` one byte, any other byte itself
+-- whether a byte of a pattern matches a byte of a name: `?` matches any byte, any other byte itself
+abbrev pub fits : ℕ → ℕ → Bool
+fits code byte = code == 63 || code == byte
+
+-- Whether a pattern matches a name: `*` matches any number of bytes.
 abbrev pub name_matches : List ℕ → List ℕ → Bool
 name_matches [] name = is_nothing name
 name_matches (code ∷ codes) name =
-    if code == 42 then some_end (name_matches codes) name else one_more code (name_matches codes) name
+    if code == 42 then some_end (name_matches codes) name else one_more (fits code) (name_matches codes) name
 
--- ---- paths
-
-abbrev pub is_root : List (List ℕ) → Bool
-is_root [] = true
-is_root (part ∷ parts) = false
-
--- whether `rest` is true for the last parts of a path: all of them, none, or any number in between
-abbrev pub some_below : (List (List ℕ) → Bool) → List (List ℕ) → Bool
-some_below rest [] = rest []
-some_below rest (part ∷ parts) = rest (part ∷ parts) || some_below rest parts
-
--- whether this part of the pattern matches the first part of the path, and `rest` is true for the other parts
-abbrev pub one_part : List ℕ → (List (List ℕ) → Bool) → List (List ℕ) → Bool
-one_part pattern rest [] = false
-one_part pattern rest (part ∷ parts) = name_matches pattern part && rest parts
-
--- whether a pattern matches a path: `**` matches any number of parts, any other part of the pattern one part of the
--- path
+-- Whether a pattern matches a path: `**` matches any number of parts, any other part of the pattern one part of the
+-- path.
 abbrev pub path_matches : List (List ℕ) → List (List ℕ) → Bool
-path_matches [] path = is_root path
+path_matches [] path = is_nothing path
 path_matches (first ∷ rest) path =
-    if bytes_eq first (codes "**") then some_below (path_matches rest) path else one_part first (path_matches rest) path
+    if bytes_eq first (codes "**") then some_end (path_matches rest) path
+    else one_more (name_matches first) (path_matches rest) path
+
+-- the parts of a path between slashes
+abbrev pub parts : List ℕ → List (List ℕ)
+parts path = slice_split (λ b. b == 47) path
+
+-- ---- patterns
+
+-- The parts of a pattern, whether it deselects what it matches, and whether it matches only directories.
+abbrev pub PatternContent : Type 0
+PatternContent = List (List ℕ) × Bool × Bool
+
+abbrev pub pattern : Pattern → PatternContent
+pattern p = (map string_bytes p.parts.items, p.is_negated, p.is_directory)
+
+abbrev pub begins : ℕ → List ℕ → Bool
+begins code [] = false
+begins code (x ∷ xs) = x == code
+
+-- whether there is a `!` at the start of a text, and the rest
+abbrev pub without_mark : List ℕ → Bool × List ℕ
+without_mark text = if begins 33 text then (true, drop 1 text) else (false, text)
+
+abbrev pub ends : ℕ → List ℕ → Bool
+ends code [] = false
+ends code (x ∷ []) = x == code
+ends code (x ∷ y ∷ ys) = ends code (y ∷ ys)
+
+-- whether there is a slash at the end of a text, and the rest
+abbrev pub without_slash : List ℕ → Bool × List ℕ
+without_slash text = if ends 47 text then (true, take (length text - 1) text) else (false, text)
+
+abbrev pub contains : ℕ → List ℕ → Bool
+contains code text = list_any (λ b. b == code) text
+
+-- a text without a slash at its start
+abbrev pub without_root : List ℕ → List ℕ
+without_root text = if begins 47 text then drop 1 text else text
+
+-- The parts of a pattern: `**` comes first if it has no slash, and so matches names at any depth.
+abbrev pub pattern_parts : List ℕ → List (List ℕ)
+pattern_parts text =
+    (if contains 47 text then [] else codes "**" ∷ []) ++ parts (without_root text)
+
+-- The pattern that a text is; there is none without a part, or with `[` or a backslash.
+abbrev pub supported : Bool → Bool → List ℕ → Option PatternContent
+supported negated directory text =
+    if length text == 0 || contains 91 text || contains 92 text then None
+    else Some (pattern_parts text, negated, directory)
+
+abbrev pub pattern_of : List ℕ → Option PatternContent
+pattern_of text =
+    supported (without_mark text).0 (without_slash (without_mark text).1).0 (without_slash (without_mark text).1).1
+
+-- whether a pattern matches a path, if it is a directory or not
+abbrev pub matches : PatternContent → List (List ℕ) → Bool → Bool
+matches p path is_directory = (is_directory || not p.2) && path_matches p.0 path
+
+-- Whether the patterns select a path: what the last pattern that matches says. `found` is what the patterns before say.
+abbrev pub selected : List PatternContent → List (List ℕ) → Bool → Option Bool → Option Bool
+selected [] path is_directory found = found
+selected (p ∷ ps) path is_directory found =
+    selected ps path is_directory (if matches p path is_directory then Some (not p.1) else found)
+
+-- ---- marks of the suffixes of a list
+
+-- the suffixes of marked suffixes; `marked` says whether a longer one is marked
+abbrev pub spread : Bool → List Bool → List Bool
+spread marked [] = []
+spread marked (m ∷ ms) = (marked || m) ∷ spread (marked || m) ms
+
+-- what follows the first element of each marked suffix, if the element fits
+abbrev pub after : {A : Type 0} → (A → Bool) → List Bool → List A → List Bool
+after fits marks [] = []
+after fits [] (x ∷ xs) = false ∷ after fits [] xs
+after fits (m ∷ ms) (x ∷ xs) = (m && fits x) ∷ after fits ms xs
+
+-- what one more byte, or one more part, of a pattern does with the marks
+abbrev pub name_step : ℕ → List Bool → List ℕ → List Bool
+name_step code marks name = if code == 42 then spread false marks else false ∷ after (fits code) marks name
+
+abbrev pub path_step : List ℕ → List Bool → List (List ℕ) → List Bool
+path_step part marks path =
+    if bytes_eq part (codes "**") then spread false marks else false ∷ after (name_matches part) marks path

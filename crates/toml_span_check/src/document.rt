@@ -8,6 +8,7 @@ ghost use Rattle.toml_span_check.specs.Answer.{formed, found};
 use crate::answer::{Form, nothing_there};
 use crate::fixable::Count;
 use crate::formats::Format;
+use crate::request::Request;
 use crate::shown::{raw, to_json};
 use std::alloc::{AllocError, Global};
 use toml_span::{Stop, Value};
@@ -63,14 +64,12 @@ pub(crate) fn place_of<'v, 'de>(
     }
 }
 
-/// Prints `place`, the value at the path `pointer`, as `write_value` does. If `place` is `None`, writes nothing, and
-/// appends to `held` the report that `pointer` names no value. Returns the numbers of errors. Fails if a write
-/// fails.
+/// Prints `place`, the value at the path in `request`, as `write_value` does. If `place` is `None`, writes nothing, and
+/// appends to `held` the report that the path names no value. Returns the numbers of errors. Fails if a write fails.
 pub(crate) fn show<W: Sink>(
     alloc: Global,
-    format: Format,
+    request: &Request<'_>,
     form: Form,
-    pointer: &str,
     name: &str,
     place: Option<&Value<'_>>,
     held: &mut Vec<u8>,
@@ -78,9 +77,11 @@ pub(crate) fn show<W: Sink>(
 ) -> Result<Count, Unwritten>
     requires { W.failed writer.old ≡ false }
     ensures count { IfOk result (λ s. s
-        ≡ (found format form pointer.now name.now (option_map (λ v. view v.now) place.entry)).0) }
+        ≡ (found request.now.format form request.now.pointer.now name.now
+        (option_map (λ v. view v.now) place.entry)).0) }
     ensures out { Streams result (W.contents writer.old) (W.contents writer.new) (W.failed writer.new)
-        (held.old.items ++ (found format form pointer.now name.now (option_map (λ v. view v.now) place.entry)).1)
+        (held.old.items ++ (found request.now.format form request.now.pointer.now name.now
+        (option_map (λ v. view v.now) place.entry)).1)
         held.new.items }
 {
     match place {
@@ -89,7 +90,7 @@ pub(crate) fn show<W: Sink>(
             Ok(Count::none())
         }
         None => {
-            let mut text = nothing_there(alloc, format, pointer, name)?;
+            let mut text = nothing_there(alloc, request.format, request.pointer, name)?;
             held.append(&mut text)?;
             Ok(Count::one())
         }

@@ -15,6 +15,7 @@ pub mod input;
 pub mod lints;
 pub mod newer;
 pub mod patterns;
+pub mod request;
 pub mod run;
 mod sarif;
 pub mod schemas;

@@ -1,67 +1,142 @@
 //! Patterns of paths, as in `.gitignore` files.
-ghost use Rattle.std.specs.Prelude.{◌≡◌, ◌≤◌, IfSome, map, string_bytes};
+ghost use Rattle.std.specs.Prelude.{◌≡◌, ◌++◌, ◌∷◌, IfOk, OnOk, None, false, map, option_map};
+ghost use Rattle.std.specs.Prelude.{get_or, replicate, string_bytes, true};
 ghost use Rattle.toml_span_check.specs.Patterns as spec;
 
 use std::alloc::{AllocError, Global};
 
-/// The maximum number of steps to match a path. A pattern that needs more does not match.
-const STEPS: usize = 100_000;
+// ---- matching
+//
+// Marks say which suffixes of a list are left to match: the first mark is for the whole list, the last for the empty
+// suffix.
+
+/// Returns marks for a list of `length` elements. Only the whole list is marked.
+fn first_marks(alloc: Global, length: usize) -> Result<Vec<bool>, AllocError>
+    ensures { IfOk result (λ marks. marks.items ≡ true ∷ replicate length false) }
+{
+    let mut marks = Vec::new(alloc);
+    marks.push(true)?;
+    for _ in 0..length {
+        marks.push(false)?;
+    }
+    Ok(marks)
+}
+
+/// Marks the suffixes of marked suffixes too.
+fn spread(alloc: Global, marks: &[bool]) -> Result<Vec<bool>, AllocError>
+    ensures { IfOk result (λ next. next.items ≡ spec.spread false marks.now) }
+{
+    let mut next = Vec::new(alloc);
+    let mut is_marked = false;
+    for mark in marks {
+        is_marked = is_marked | *mark;
+        next.push(is_marked)?;
+    }
+    Ok(next)
+}
+
+/// Returns whether the suffix at `index` is marked.
+fn is_marked(marks: &[bool], index: usize) -> bool
+    ensures { result ≡ get_or marks.now index false }
+{
+    match marks.get(index) {
+        Some(mark) => *mark,
+        None => false,
+    }
+}
+
+/// Returns whether a byte of a pattern matches a byte of a name.
+fn fits(code: u8, byte: u8) -> bool
+    ensures { result ≡ spec.fits code byte }
+{
+    code == b'?' || code == byte
+}
+
+/// Marks what follows the first byte of each marked suffix, if `code` matches that byte.
+fn after_byte(alloc: Global, marks: &[bool], code: u8, name: &[u8]) -> Result<Vec<bool>, AllocError>
+    ensures { IfOk result (λ next. next.items ≡ false ∷ spec.after (spec.fits code) marks.now name.now) }
+{
+    let mut next = Vec::new(alloc);
+    next.push(false)?;
+    for (index, byte) in name.iter().enumerate() {
+        next.push(is_marked(marks, index) & fits(code, *byte))?;
+    }
+    Ok(next)
+}
+
+/// Returns the marks after one more byte of a pattern.
+fn name_step(alloc: Global, marks: &[bool], code: u8, name: &[u8]) -> Result<Vec<bool>, AllocError>
+    ensures { IfOk result (λ next. next.items ≡ spec.name_step code marks.now name.now) }
+{
+    if code == b'*' {
+        spread(alloc, marks)
+    } else {
+        after_byte(alloc, marks, code, name)
+    }
+}
 
 /// Returns whether a pattern without slashes matches a name. `*` matches any number of bytes, `?` one byte, and any
-/// other byte itself. Counts `steps` down, and returns `None` if no steps are left.
-fn name_matches(steps: &mut usize, pattern: &[u8], name: &[u8]) -> Option<bool>
-    ensures value { IfSome result (λ found. found ≡ spec.name_matches pattern.now name.now) }
-    ensures steps { steps.new ≤ steps.old }
+/// other byte itself. Fails if an allocation fails.
+fn name_matches(alloc: Global, pattern: &[u8], name: &[u8]) -> Result<bool, AllocError>
+    ensures { IfOk result (λ found. found ≡ spec.name_matches pattern.now name.now) }
 {
-    let [code, rest @ ..] = pattern else {
-        return Some(name.is_empty());
-    };
-    *steps = steps.checked_sub(1)?;
-    match name {
-        [] if *code == b'*' => name_matches(steps, rest, name),
-        [] => Some(false),
-        [_, more @ ..] if *code == b'*' => {
-            if name_matches(steps, rest, name)? {
-                Some(true)
-            } else {
-                name_matches(steps, pattern, more)
-            }
-        }
-        [byte, more @ ..] if *code == b'?' || *code == *byte => name_matches(steps, rest, more),
-        [_, ..] => Some(false),
+    let mut marks = first_marks(alloc, name.len())?;
+    for code in pattern {
+        marks = name_step(alloc, marks.as_slice(), *code, name)?;
+    }
+    Ok(is_marked(marks.as_slice(), name.len()))
+}
+
+/// Marks what follows the first part of each marked suffix of a path, if `pattern` matches that part.
+fn after_part(
+    alloc: Global,
+    marks: &[bool],
+    pattern: &str,
+    path: &[&str],
+) -> Result<Vec<bool>, AllocError>
+    ensures { IfOk result (λ next. next.items
+        ≡ false ∷ spec.after (spec.name_matches pattern.now) marks.now (map (λ part. part.now) path.now)) }
+{
+    let mut next = Vec::new(alloc);
+    next.push(false)?;
+    for (index, part) in path.iter().enumerate() {
+        let is_match = name_matches(alloc, pattern.as_bytes(), part.as_bytes())?;
+        next.push(is_marked(marks, index) & is_match)?;
+    }
+    Ok(next)
+}
+
+/// Returns the marks after one more part of a pattern.
+fn path_step(
+    alloc: Global,
+    marks: &[bool],
+    part: &str,
+    path: &[&str],
+) -> Result<Vec<bool>, AllocError>
+    ensures { IfOk result (λ next. next.items
+        ≡ spec.path_step part.now marks.now (map (λ part. part.now) path.now)) }
+{
+    if part == "**" {
+        spread(alloc, marks)
+    } else {
+        after_part(alloc, marks, part, path)
     }
 }
 
 /// Returns whether a pattern matches a path, both given as their parts between slashes. `**` matches any number of
-/// parts, and any other part matches one part. Counts `steps` down, and returns `None` if no steps are left.
-fn path_matches(steps: &mut usize, pattern: &[String], path: &[&str]) -> Option<bool>
-    ensures value { IfSome result (λ found. found
+/// parts, and any other part matches one part. Fails if an allocation fails.
+fn path_matches(alloc: Global, pattern: &[String], path: &[&str]) -> Result<bool, AllocError>
+    ensures { IfOk result (λ found. found
         ≡ spec.path_matches (map string_bytes pattern.now) (map (λ part. part.now) path.now)) }
-    ensures steps { steps.new ≤ steps.old }
 {
-    let [first, rest @ ..] = pattern else {
-        return Some(path.is_empty());
-    };
-    *steps = steps.checked_sub(1)?;
-    match path {
-        [] if first.as_str() == "**" => path_matches(steps, rest, path),
-        [] => Some(false),
-        [_, more @ ..] if first.as_str() == "**" => {
-            if path_matches(steps, rest, path)? {
-                Some(true)
-            } else {
-                path_matches(steps, pattern, more)
-            }
-        }
-        [name, more @ ..] => {
-            if name_matches(steps, first.as_bytes(), name.as_bytes())? {
-                path_matches(steps, rest, more)
-            } else {
-                Some(false)
-            }
-        }
+    let mut marks = first_marks(alloc, path.len())?;
+    for part in pattern {
+        marks = path_step(alloc, marks.as_slice(), part.as_str(), path)?;
     }
+    Ok(is_marked(marks.as_slice(), path.len()))
 }
+
+// ---- patterns
 
 /// A pattern of paths, such as a line of a `.gitignore` file.
 #[derive(Drop)]
@@ -75,37 +150,60 @@ pub struct Pattern {
 }
 
 /// Splits a path at its slashes.
-fn parts_of<'t>(alloc: Global, path: &'t str) -> Result<Vec<&'t str>, AllocError> {
+fn parts_of<'t>(alloc: Global, path: &'t str) -> Result<Vec<&'t str>, AllocError>
+    ensures { IfOk result (λ parts. map (λ part. part.now) parts.items ≡ spec.parts path.now) }
+{
     let mut parts = Vec::new(alloc);
-    let mut rest = path;
-    for _ in 0..path.len() {
-        match rest.split_once('/') {
-            Some((part, more)) => {
-                parts.push(part)?;
-                rest = more;
-            }
-            None => break,
-        }
+    for part in path.split('/') {
+        parts.push(part)?;
     }
-    parts.push(rest)?;
     Ok(parts)
+}
+
+/// Returns whether a text contains an ASCII character.
+fn contains(text: &str, byte: u8) -> bool
+    ensures { result ≡ spec.contains byte text.now }
+{
+    text.as_bytes().contains(&byte)
+}
+
+/// Removes a slash at the start of a text.
+fn without_root<'t>(text: &'t str) -> &'t str
+    ensures { result.now ≡ spec.without_root text.now }
+{
+    match text.strip_prefix('/') {
+        Some(rest) => rest,
+        None => text,
+    }
+}
+
+/// Appends copies of the parts of a path.
+fn push_parts(alloc: Global, parts: &mut Vec<String>, path: &str) -> Result<(), AllocError>
+    ensures { OnOk result (map string_bytes parts.new.items ≡ map string_bytes parts.old.items ++ spec.parts path.now) }
+{
+    for part in path.split('/') {
+        parts.push(String::from_str(alloc, part)?)?;
+    }
+    Ok(())
 }
 
 /// Removes a slash at the start of a pattern, and splits the rest at its slashes. Puts `**` first if the pattern has no
 /// slash.
-fn pattern_parts(alloc: Global, text: &str) -> Result<Vec<String>, AllocError> {
+fn pattern_parts(alloc: Global, text: &str) -> Result<Vec<String>, AllocError>
+    ensures { IfOk result (λ parts. map string_bytes parts.items ≡ spec.pattern_parts text.now) }
+{
     let mut parts = Vec::new(alloc);
-    if !text.contains('/') {
+    if !contains(text, b'/') {
         parts.push(String::from_str(alloc, "**")?)?;
     }
-    for part in parts_of(alloc, text.strip_prefix('/').unwrap_or(text))? {
-        parts.push(String::from_str(alloc, part)?)?;
-    }
+    push_parts(alloc, &mut parts, without_root(text))?;
     Ok(parts)
 }
 
 /// Removes a `!` at the start of a text. Returns whether there was a `!`, and the rest.
-fn without_mark<'t>(text: &'t str) -> (bool, &'t str) {
+fn without_mark<'t>(text: &'t str) -> (bool, &'t str)
+    ensures { (result.0, result.1.now) ≡ spec.without_mark text.now }
+{
     match text.strip_prefix('!') {
         Some(rest) => (true, rest),
         None => (false, text),
@@ -113,7 +211,9 @@ fn without_mark<'t>(text: &'t str) -> (bool, &'t str) {
 }
 
 /// Removes a slash at the end of a text. Returns whether there was a slash, and the rest.
-fn without_slash<'t>(text: &'t str) -> (bool, &'t str) {
+fn without_slash<'t>(text: &'t str) -> (bool, &'t str)
+    ensures { (result.0, result.1.now) ≡ spec.without_slash text.now }
+{
     match text.strip_suffix('/') {
         Some(front) => (true, front),
         None => (false, text),
@@ -125,10 +225,12 @@ fn without_slash<'t>(text: &'t str) -> (bool, &'t str) {
 ///
 /// Returns `None` if nothing is left without the `!` and the slash at the end. Returns `None` also for a pattern with
 /// `[` or a backslash, which are not supported. Fails if an allocation fails.
-pub fn pattern_of(alloc: Global, text: &str) -> Result<Option<Pattern>, AllocError> {
+pub fn pattern_of(alloc: Global, text: &str) -> Result<Option<Pattern>, AllocError>
+    ensures { IfOk result (λ pattern. option_map spec.pattern pattern ≡ spec.pattern_of text.now) }
+{
     let (is_negated, text) = without_mark(text);
     let (is_directory, text) = without_slash(text);
-    if text.is_empty() || text.contains('[') || text.contains('\\') {
+    if text.is_empty() || contains(text, b'[') || contains(text, b'\\') {
         return Ok(None);
     }
     Ok(Some(Pattern {
@@ -155,13 +257,20 @@ pub(crate) fn ignore_patterns(alloc: Global, text: &str) -> Result<Vec<Pattern>,
 }
 
 /// Returns whether a pattern matches a path, given as its parts between slashes. `is_directory` says whether the path
-/// names a directory. Returns `false` if more than `STEPS` steps are needed.
-fn is_match(pattern: &Pattern, path: &[&str], is_directory: bool) -> bool {
+/// names a directory. Fails if an allocation fails.
+fn is_match(
+    alloc: Global,
+    pattern: &Pattern,
+    path: &[&str],
+    is_directory: bool,
+) -> Result<bool, AllocError>
+    ensures { IfOk result (λ found. found
+        ≡ spec.matches (spec.pattern pattern.now) (map (λ part. part.now) path.now) is_directory) }
+{
     if pattern.is_directory && !is_directory {
-        return false;
+        return Ok(false);
     }
-    let mut steps = STEPS;
-    path_matches(&mut steps, pattern.parts.as_slice(), path).unwrap_or(false)
+    path_matches(alloc, pattern.parts.as_slice(), path)
 }
 
 /// Returns whether the patterns select `path`: `false` if the last pattern that matches it begins with `!`, otherwise
@@ -174,11 +283,14 @@ pub fn last_match(
     patterns: &[Pattern],
     path: &str,
     is_directory: bool,
-) -> Result<Option<bool>, AllocError> {
+) -> Result<Option<bool>, AllocError>
+    ensures { IfOk result (λ found. found
+        ≡ spec.selected (map spec.pattern patterns.now) (spec.parts path.now) is_directory None) }
+{
     let parts = parts_of(alloc, path)?;
     let mut found = None;
     for pattern in patterns {
-        if is_match(pattern, parts.as_slice(), is_directory) {
+        if is_match(alloc, pattern, parts.as_slice(), is_directory)? {
             found = Some(!pattern.is_negated);
         }
     }

@@ -10,6 +10,7 @@ use crate::document::{place_of, show};
 use crate::fixable::Count;
 use crate::formats::Format;
 use crate::input::Inputs;
+use crate::request::Request;
 use crate::sarif::document;
 use crate::schemas::Schemas;
 use crate::sums::sum_of;
@@ -79,14 +80,12 @@ pub fn push_complaint(out: &mut String, name: &str, reason: &str) -> Result<(), 
     Ok(())
 }
 
-/// Checks the file `name`, whose content is `bytes`, or prints its value at `pointer`. Returns the verdict. Reports are
-/// appended to `held`. To print a value, `held` and the value are written to `out`, except for the last bytes, which
-/// may stay in `held`. Fails if a write fails.
+/// Checks the file `name`, whose content is `bytes`, or prints its value at the path in `request`. Returns the verdict.
+/// Reports are appended to `held`. To print a value, `held` and the value are written to `out`, except for the last
+/// bytes, which may stay in `held`. Fails if a write fails.
 fn collect_bytes<S: Schemas, O: Sink>(
     alloc: Global,
-    format: Format,
-    task: Task,
-    pointer: &str,
+    request: &Request<'_>,
     name: &str,
     bytes: &[u8],
     held: &mut Vec<u8>,
@@ -94,30 +93,28 @@ fn collect_bytes<S: Schemas, O: Sink>(
     out: &mut O,
 ) -> Result<Verdict, Unwritten>
     requires { O.failed out.old ≡ false }
-    ensures { CollectsBytes S.says format task pointer.now name.now bytes.now result
+    ensures { CollectsBytes S.says request.now.format request.now.task request.now.pointer.now name.now bytes.now result
         (O.contents out.old) (O.contents out.new) (O.failed out.new) held.old.items held.new.items }
 {
-    match judge(alloc, format, task, name, bytes, schemas)? {
+    match judge(alloc, request.format, request.task, name, bytes, schemas)? {
         Judged::Text(verdict, mut text) => {
             held.append(&mut text)?;
             Ok(verdict)
         }
         Judged::Document(form, root) => {
-            let place = place_of(alloc, pointer, &root)?;
-            let count = show(alloc, format, form, pointer, name, place, held, out)?;
+            let place = place_of(alloc, request.pointer, &root)?;
+            let count = show(alloc, request, form, name, place, held, out)?;
             Ok(Verdict::plain(alloc, count))
         }
     }
 }
 
-/// Checks one file, or prints its value at `pointer`, and updates the messages, status and counts in `collected`. The
-/// output goes through the buffer `collected.held` to `out`; its end may stay in the buffer. `reading` has the bytes of
-/// the file, or the reason why it can't be read. Fails if a write fails.
+/// Checks one file, or prints its value at the path in `request`, and updates the messages, status and counts in
+/// `collected`. The output goes through the buffer `collected.held` to `out`; its end may stay in the buffer. `reading`
+/// has the bytes of the file, or the reason why it can't be read. Fails if a write fails.
 fn collect_one<S: Schemas, O: Sink>(
     alloc: Global,
-    format: Format,
-    task: Task,
-    pointer: &str,
+    request: &Request<'_>,
     name: &str,
     reading: Result<Vec<u8>, String>,
     collected: &mut Collected,
@@ -125,7 +122,8 @@ fn collect_one<S: Schemas, O: Sink>(
     out: &mut O,
 ) -> Result<(), Unwritten>
     requires { O.failed out.old ≡ false }
-    ensures { CollectsOne S.says format task pointer.now name.now (spec.read_of reading) result
+    ensures { CollectsOne S.says request.now.format request.now.task request.now.pointer.now name.now
+        (spec.read_of reading) result
         (O.contents out.old) (O.contents out.new) (O.failed out.new)
         (collected.old.held.items, string_bytes collected.old.errors, collected.old.status, collected.old.wrong)
         (collected.new.held.items, string_bytes collected.new.errors, collected.new.status, collected.new.wrong) }
@@ -133,17 +131,7 @@ fn collect_one<S: Schemas, O: Sink>(
     match reading {
         Ok(bytes) => {
             let held = &mut collected.held;
-            let found = collect_bytes(
-                alloc,
-                format,
-                task,
-                pointer,
-                name,
-                bytes.as_slice(),
-                held,
-                schemas,
-                out,
-            )?;
+            let found = collect_bytes(alloc, request, name, bytes.as_slice(), held, schemas, out)?;
             let complaint = found.complaint.as_str();
             collected.errors.push_str(complaint)?;
             collected.status = collected
@@ -185,16 +173,15 @@ fn find_all<I: Inputs>(
 /// yet. Fails if a write fails.
 fn collect<I: Inputs, S: Schemas, O: Sink>(
     alloc: Global,
-    format: Format,
-    task: Task,
-    pointer: &str,
+    request: &Request<'_>,
     names: &[String],
     inputs: &mut I,
     schemas: &mut S,
     out: &mut O,
 ) -> Result<Collected, Unwritten>
     requires { O.failed out.old ≡ false }
-    ensures { CollectsFiles S.says format task pointer.now (map (λ name. string_bytes name) names.now) result
+    ensures { CollectsFiles S.says request.now.format request.now.task request.now.pointer.now
+        (map (λ name. string_bytes name) names.now) result
         (I.log inputs.old) (I.log inputs.new) (O.contents out.old) (O.contents out.new) (O.failed out.new) }
 {
     let mut collected = Collected {
@@ -209,17 +196,7 @@ fn collect<I: Inputs, S: Schemas, O: Sink>(
     for name in names {
         let name = name.as_str();
         let reading = inputs.read(alloc, name)?;
-        collect_one(
-            alloc,
-            format,
-            task,
-            pointer,
-            name,
-            reading,
-            &mut collected,
-            schemas,
-            out,
-        )?;
+        collect_one(alloc, request, name, reading, &mut collected, schemas, out)?;
     }
     Ok(collected)
 }
@@ -278,24 +255,21 @@ fn push_checked(out: &mut String, files: usize) -> Result<(), AllocError>
 }
 
 /// Appends the last line of a check with `Format::Text`, or nothing for another task or format. The line counts the
-/// errors. Without errors, the line counts the files, and is only appended if standard error is a terminal
-/// (`is_watched`).
+/// errors. Without errors, the line counts the files, and is only appended if standard error is a terminal.
 fn push_summary(
     out: &mut String,
-    format: Format,
-    task: Task,
-    is_watched: bool,
+    request: &Request<'_>,
     files: usize,
     wrong: Tally,
 ) -> Result<(), AllocError>
     ensures { OnOk result (string_bytes out.new ≡ string_bytes out.old
-        ++ spec.summary format task is_watched files wrong) }
+        ++ spec.summary request.now.format request.now.task request.now.is_watched files wrong) }
 {
-    match (format, task) {
+    match (request.format, request.task) {
         (Format::Text(_), Task::Check(_, _)) if wrong.count.errors > 0 => push_errors(
             out, files, wrong,
         ),
-        (Format::Text(_), Task::Check(_, _)) if is_watched => push_checked(out, files),
+        (Format::Text(_), Task::Check(_, _)) if request.is_watched => push_checked(out, files),
         _ => Ok(()),
     }
 }
@@ -311,50 +285,36 @@ fn whole(alloc: Global, format: Format, task: Task, stdout: Vec<u8>) -> Result<V
     }
 }
 
-/// Reads the files that the arguments `names` select, checks or prints each, and adds a summary. Returns the results,
-/// with the output that has not been written yet. Fails if a write fails.
+/// Reads the files that `request` names, checks or prints each, and adds a summary. Returns the results, with the
+/// output that has not been written yet. Fails if a write fails.
 fn collect_all<I: Inputs, S: Schemas, O: Sink>(
     alloc: Global,
-    format: Format,
-    task: Task,
-    pointer: &str,
-    excludes: &[&str],
-    names: &[&str],
-    is_watched: bool,
+    request: &Request<'_>,
     inputs: &mut I,
     schemas: &mut S,
     out: &mut O,
 ) -> Result<Collected, Unwritten>
     requires { O.failed out.old ≡ false }
-    ensures { CollectsAll S.says format task pointer.now (map (λ pattern. pattern.now) excludes.now)
-        (map (λ name. name.now) names.now) is_watched result
+    ensures { CollectsAll S.says request.now.format request.now.task request.now.pointer.now
+        (map (λ pattern. pattern.now) request.now.excludes.items) (map (λ name. name.now) request.now.names.items)
+        request.now.is_watched result
         (I.log inputs.old) (I.log inputs.new) (O.contents out.old) (O.contents out.new) (O.failed out.new) }
 {
+    let excludes = request.excludes.as_slice();
+    let names = request.names.as_slice();
     let found = find_all(alloc, excludes, names, inputs)?;
     let files = found.as_slice();
-    let mut collected = collect(alloc, format, task, pointer, files, inputs, schemas, out)?;
-    collected.held = whole(alloc, format, task, collected.held)?;
-    push_summary(
-        &mut collected.errors,
-        format,
-        task,
-        is_watched,
-        files.len(),
-        collected.wrong,
-    )?;
+    let mut collected = collect(alloc, request, files, inputs, schemas, out)?;
+    collected.held = whole(alloc, request.format, request.task, collected.held)?;
+    push_summary(&mut collected.errors, request, files.len(), collected.wrong)?;
     Ok(collected)
 }
 
-/// Reads the files that the arguments `names` select, checks or prints each, and writes the output. Returns the exit
-/// status that `run` describes.
+/// Reads the files that `request` names, checks or prints each, and writes the output. Returns the exit status that
+/// `run` describes.
 fn run_aloud<I: Inputs, S: Schemas, O: Sink, E: Sink>(
     alloc: Global,
-    format: Format,
-    task: Task,
-    pointer: &str,
-    excludes: &[&str],
-    names: &[&str],
-    is_watched: bool,
+    request: &Request<'_>,
     inputs: &mut I,
     schemas: &mut S,
     out: &mut O,
@@ -362,15 +322,14 @@ fn run_aloud<I: Inputs, S: Schemas, O: Sink, E: Sink>(
 ) -> u8
     requires out { O.failed out.old ≡ false }
     requires errors { E.failed errors.old ≡ false }
-    ensures { Runs S.says format task pointer.now (map (λ pattern. pattern.now) excludes.now)
-        (map (λ name. name.now) names.now) is_watched false
+    ensures { Runs S.says request.now.format request.now.task request.now.pointer.now
+        (map (λ pattern. pattern.now) request.now.excludes.items) (map (λ name. name.now) request.now.names.items)
+        request.now.is_watched false
         (I.log inputs.old) (I.log inputs.new)
         (O.contents out.old) (O.contents out.new) (O.failed out.new)
         (E.contents errors.old) (E.contents errors.new) (E.failed errors.new) result }
 {
-    let collected = match collect_all(
-        alloc, format, task, pointer, excludes, names, is_watched, inputs, schemas, out,
-    ) {
+    let collected = match collect_all(alloc, request, inputs, schemas, out) {
         Ok(collected) => collected,
         Err(Unwritten::Memory) => return 4,
         Err(Unwritten::Failed) => return 3,
@@ -384,59 +343,34 @@ fn run_aloud<I: Inputs, S: Schemas, O: Sink, E: Sink>(
     }
 }
 
-/// Reads the files that the arguments `names` select, and checks or prints each, but writes nothing. Returns the exit
-/// status that `run` describes, which is never 3.
+/// Reads the files that `request` names, and checks or prints each, but writes nothing. Returns the exit status that
+/// `run` describes, which is never 3.
 fn run_quiet<I: Inputs, S: Schemas>(
     alloc: Global,
-    format: Format,
-    task: Task,
-    pointer: &str,
-    excludes: &[&str],
-    names: &[&str],
-    is_watched: bool,
+    request: &Request<'_>,
     inputs: &mut I,
     schemas: &mut S,
 ) -> u8
-    ensures { EndsQuiet S.says format task pointer.now (map (λ pattern. pattern.now) excludes.now)
-        (map (λ name. name.now) names.now) is_watched
+    ensures { EndsQuiet S.says request.now.format request.now.task request.now.pointer.now
+        (map (λ pattern. pattern.now) request.now.excludes.items) (map (λ name. name.now) request.now.names.items)
+        request.now.is_watched
         (I.log inputs.old) (I.log inputs.new) result }
 {
     let mut nowhere = Tracked::new(sink());
-    match collect_all(
-        alloc,
-        format,
-        task,
-        pointer,
-        excludes,
-        names,
-        is_watched,
-        inputs,
-        schemas,
-        &mut nowhere,
-    ) {
+    match collect_all(alloc, request, inputs, schemas, &mut nowhere) {
         Ok(collected) => collected.status,
         Err(_) => 4,
     }
 }
 
-/// Reads the files that the arguments `names` select, and checks or prints each of them.
-///
-/// `excludes` are patterns of paths to leave out when directories are searched, and `pointer` is the path of the value
-/// to print. `is_watched` says whether standard error is a terminal, on which a check with `Format::Text` and without
-/// errors prints the number of files. `is_quiet` suppresses all output. `schemas` checks documents against their
+/// Reads the files that `request` names, and checks or prints each of them. `schemas` checks documents against their
 /// schemas.
 ///
 /// Returns the exit status, the highest that applies: 0 without errors; 1 if a file has errors; 2 if a file can't be
 /// read, or if there is a complaint about its schema; 3 if a write failed; 4 if an allocation failed.
 pub fn run<I: Inputs, S: Schemas, O: Sink, E: Sink>(
     alloc: Global,
-    format: Format,
-    task: Task,
-    pointer: &str,
-    excludes: &[&str],
-    names: &[&str],
-    is_watched: bool,
-    is_quiet: bool,
+    request: &Request<'_>,
     inputs: &mut I,
     schemas: &mut S,
     out: &mut O,
@@ -444,19 +378,16 @@ pub fn run<I: Inputs, S: Schemas, O: Sink, E: Sink>(
 ) -> u8
     requires out { O.failed out.old ≡ false }
     requires errors { E.failed errors.old ≡ false }
-    ensures { Runs S.says format task pointer.now (map (λ pattern. pattern.now) excludes.now)
-        (map (λ name. name.now) names.now) is_watched is_quiet
+    ensures { Runs S.says request.now.format request.now.task request.now.pointer.now
+        (map (λ pattern. pattern.now) request.now.excludes.items) (map (λ name. name.now) request.now.names.items)
+        request.now.is_watched request.now.is_quiet
         (I.log inputs.old) (I.log inputs.new)
         (O.contents out.old) (O.contents out.new) (O.failed out.new)
         (E.contents errors.old) (E.contents errors.new) (E.failed errors.new) result }
 {
-    if is_quiet {
-        run_quiet(
-            alloc, format, task, pointer, excludes, names, is_watched, inputs, schemas,
-        )
+    if request.is_quiet {
+        run_quiet(alloc, request, inputs, schemas)
     } else {
-        run_aloud(
-            alloc, format, task, pointer, excludes, names, is_watched, inputs, schemas, out, errors,
-        )
+        run_aloud(alloc, request, inputs, schemas, out, errors)
     }
 }

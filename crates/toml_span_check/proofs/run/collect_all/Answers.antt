@@ -4,7 +4,7 @@ use Rattle.toml_span_check.proofs.Collecting.{stops-finding, stops-counting, who
 use Rattle.toml_span_check.proofs.run.collect_all.Goals as goal
 
 pub returns-in_err-found : goal.returns-in_err-found
-returns-in_err-found g c = stops-finding g.S.Schemas.says c.args.format c.args.task c.args.pointer.now _ _ _ _ _ _ _ _ c.from_residual.result refl c.requires c.from_residual.ensures.1
+returns-in_err-found g c = stops-finding g.S.Schemas.says c.args.request.now.format c.args.request.now.task c.args.request.now.pointer.now _ _ _ _ _ _ _ _ c.from_residual.result refl c.requires c.from_residual.ensures.1
 
 pub returns-in_err-collected : goal.returns-in_err-collected
 returns-in_err-collected g c = grind (arith, nat_tests, common_steps)
@@ -12,30 +12,33 @@ returns-in_err-collected g c = grind (arith, nat_tests, common_steps)
 pub returns-in_err-push_summary : goal.returns-in_err-push_summary
 returns-in_err-push_summary g c =
     let stdout = c.in_ok-collected.ensures in
-    stops-counting g.S.Schemas.says c.args.format c.args.task c.args.pointer.now _ _ (map (λ file. string_bytes file) c.in_ok-found.found.items) _ _ (g.I.Inputs.log c.find_all.new.inputs) _ _ _ _
-    c.in_ok-collected.collected c.from_residual-in_err-push_summary.result c.in_ok-found.ensures (rw c.as_slice-files.ensures.value at stdout) c.from_residual-in_err-push_summary.ensures.1
+    let finds = c.in_ok-found.ensures in
+    stops-counting g.S.Schemas.says c.args.request.now.format c.args.request.now.task c.args.request.now.pointer.now _ _ (map (λ file. string_bytes file) c.in_ok-found.found.items) _ _ (g.I.Inputs.log c.find_all.new.inputs) _ _ _ _
+    c.in_ok-collected.collected c.from_residual-in_err-push_summary.result (rw (c.as_slice-excludes.ensures.value, c.as_slice-names.ensures.value) at finds) (rw c.as_slice-files.ensures.value at stdout) c.from_residual-in_err-push_summary.ensures.1
 
 pub returns-in_err-collected-2 : goal.returns-in_err-collected-2
 returns-in_err-collected-2 g c =
     let stdout = c.in_ok-collected.ensures in
-    stops-counting g.S.Schemas.says c.args.format c.args.task c.args.pointer.now _ _ (map (λ file. string_bytes file) c.in_ok-found.found.items) _ _ (g.I.Inputs.log c.find_all.new.inputs) _ _ _ _
-    c.in_ok-collected.collected c.from_residual-in_err-collected-2.result c.in_ok-found.ensures (rw c.as_slice-files.ensures.value at stdout) c.from_residual-in_err-collected-2.ensures.1
+    let finds = c.in_ok-found.ensures in
+    stops-counting g.S.Schemas.says c.args.request.now.format c.args.request.now.task c.args.request.now.pointer.now _ _ (map (λ file. string_bytes file) c.in_ok-found.found.items) _ _ (g.I.Inputs.log c.find_all.new.inputs) _ _ _ _
+    c.in_ok-collected.collected c.from_residual-in_err-collected-2.result (rw (c.as_slice-excludes.ensures.value, c.as_slice-names.ensures.value) at finds) (rw c.as_slice-files.ensures.value at stdout) c.from_residual-in_err-collected-2.ensures.1
 
 pub returns : goal.returns
 returns g c =
     let t = c.in_ok-collected.collected in
     let files = c.in_ok-found.found.items in
     let stdout = c.in_ok-collected.ensures in
-    let counted = ap (λ n. string_bytes t.errors ++ summary c.args.format c.args.task c.args.is_watched n t.wrong) (ap length c.as_slice-files.ensures.value ∙ sym (length-map files (λ file. string_bytes file))) in
+    let finds = c.in_ok-found.ensures in
+    let counted = ap (λ n. string_bytes t.errors ++ summary c.args.request.now.format c.args.request.now.task c.args.request.now.is_watched n t.wrong) (ap length c.as_slice-files.ensures.value ∙ sym (length-map files (λ file. string_bytes file))) in
     let prints = stdout.2.1 in (
       stdout.0,
       stdout.1,
       (
-        whole c.args.format c.args.task stdout.2.0,
+        whole c.args.request.now.format c.args.request.now.task stdout.2.0,
         record {
           files = map (λ file. string_bytes file) files;
           mid = g.I.Inputs.log c.find_all.new.inputs;
-          found = c.in_ok-found.ensures;
+          found = rw (c.as_slice-excludes.ensures.value, c.as_slice-names.ensures.value) at finds;
           all = stdout.2.0;
           complaints = string_bytes t.errors;
           wrong = t.wrong;
@@ -43,6 +46,6 @@ returns g c =
           shown = refl;
           stderr = c.in_ok-push_summary.ensures ∙ counted;
         },
-        whole-held c.args.format c.args.task _ _ stdout.2.0 t.held.items _ stdout.2.2 c.in_ok-collected-2.ensures,
+        whole-held c.args.request.now.format c.args.request.now.task _ _ stdout.2.0 t.held.items _ stdout.2.2 c.in_ok-collected-2.ensures,
       ),
     )

@@ -16,7 +16,7 @@ returns-then-write_bytes-2 g c =
     let out_failed = c.write_bytes.ensures.reported ∙ ap not c.if-write_bytes.true in
     let stderr = c.write_bytes-then-write_bytes.ensures.whole c.if-write_bytes-2.true in
     let written = c.write_bytes.ensures.whole c.if-write_bytes.true in
-    ends-stdout g.S.Schemas.says c.args.format c.args.task c.args.pointer.now _ _ _ _ _ _ _ _ _ _ _ _ t.2.0 _ _ _ t.2.1 t.2.2 (rw c.as_slice.ensures.value at written) out_failed (rw c.as_bytes.ensures.value at stderr) err_failed
+    ends-stdout g.S.Schemas.says c.args.request.now.format c.args.request.now.task c.args.request.now.pointer.now _ _ _ _ _ _ _ _ _ _ _ _ t.2.0 _ _ _ t.2.1 t.2.2 (rw c.as_slice.ensures.value at written) out_failed (rw c.as_bytes.ensures.value at stderr) err_failed
 
 pub returns : goal.returns
 returns g c =
@@ -27,10 +27,10 @@ returns g c =
           let failed = w.write_bytes-then-write_bytes.ensures.reported ∙ ap not w.if-write_bytes-2.false in
           let written = c.write_bytes.ensures.whole w.if-write_bytes.true in
           let fine = c.write_bytes.ensures.reported ∙ ap not w.if-write_bytes.true in
-          rw w.errors-is (ends-err_failed g.S.Schemas.says c.args.format c.args.task c.args.pointer.now _ _ _ _ _ _ _ _ _ _ _ _ t.2.0 _ _ _ t.2.1 t.2.2 (rw c.as_slice.ensures.value at written) fine (rw w.as_bytes.ensures.value at stderr) failed)
+          rw w.errors-is (ends-err_failed g.S.Schemas.says c.args.request.now.format c.args.request.now.task c.args.request.now.pointer.now _ _ _ _ _ _ _ _ _ _ _ _ t.2.0 _ _ _ t.2.1 t.2.2 (rw c.as_slice.ensures.value at written) fine (rw w.as_bytes.ensures.value at stderr) failed)
       | else-write_bytes-via-else-write_bytes w ↦
           let written = c.write_bytes.ensures.written in
           let failed = c.write_bytes.ensures.reported ∙ ap not w.if-write_bytes.false in
-          rw w.errors-is (ends-cut g.S.Schemas.says c.args.format c.args.task c.args.pointer.now _ _ _ _ _ _ _ _ _ _ failed
-          (begins-all g.S.Schemas.says c.args.format c.args.task c.args.pointer.now _ _ _ _ _ _ _ _ t.2.0 _ _ _ t.2.1 t.2.2 (rw c.as_slice.ensures.value at written)) c.requires.errors)
+          rw w.errors-is (ends-cut g.S.Schemas.says c.args.request.now.format c.args.request.now.task c.args.request.now.pointer.now _ _ _ _ _ _ _ _ _ _ failed
+          (begins-all g.S.Schemas.says c.args.request.now.format c.args.request.now.task c.args.request.now.pointer.now _ _ _ _ _ _ _ _ t.2.0 _ _ _ t.2.1 t.2.2 (rw c.as_slice.ensures.value at written)) c.requires.errors)
     ]
