@@ -3,7 +3,8 @@ use Rattle.toml_span_lex.proofs.Common.{arith, nat_tests, common_steps, ◌≡�
 use Rattle.toml_span_tree.specs.declared.value.Value.{Value}
 use Rattle.toml_span_tree.specs.Value.{items_view}
 use Rattle.toml_span_tree.specs.code.Pointer.{PositionIs}
-use Rattle.toml_span_edit.specs.Made.{at_position, items_but, item_gone}
+use Rattle.toml_span_tree.specs.Node.{Node}
+use Rattle.toml_span_edit.specs.Made.{at_position, items_but, item_gone, only_item}
 use Rattle.toml_span_edit.specs.Same.{same_items}
 
 and_assoc : (a b c : Bool) → ((a && b) && c) ≡ (a && (b && c))
@@ -78,3 +79,13 @@ both_parts r s a b all e t h g = g ∙ sym (e ∙ ap (λ x. x && b) (sym h ∙ t
 
 pub first_part : (r a b all : Bool) → all ≡ (a && b) → r ≡ false → r ≡ a → r ≡ all
 first_part r a b all e f h = f ∙ sym (e ∙ ap (λ x. x && b) (sym h ∙ f))
+
+-- no element, and more than one
+pub only_none : (ns : List Value) → length ns < 1 → only_item (items_view ns) ≡ None
+only_none [] h = refl
+only_none (n ∷ ns) h = absurd (omega arith)
+
+pub only_many : (ns : List Value) → 2 ≤ length ns → only_item (items_view ns) ≡ None
+only_many [] h = refl
+only_many (n ∷ []) h = absurd (omega arith)
+only_many (n ∷ m ∷ ns) h = refl

@@ -1,4 +1,4 @@
 pub mod Around
+pub mod CommentLemmas
 pub mod Elements
 pub mod Steps
-pub mod TaskLemmas

@@ -44,7 +44,7 @@ abbrev pub IsPlaced : (Node → Node → Node → Bool) → List ℕ → Path �
 IsPlaced related text path n k = (w : Node) × Spells text w × (at path (related w) n k ≡ true)
 
 -- The tree `k` is the tree `n` with the value that the text spells added at the path, where `n` has no value, and with
--- the tables that were missing on the way.
+-- the tables and arrays that were missing on the way.
 abbrev pub IsNew : List ℕ → Path → Node → Node → Type 0
 IsNew text path n k = (w : Node) × Spells text w × (added path w n k ≡ true)
 
@@ -65,7 +65,7 @@ IsUnder text path n k =
     (front : Path) × (name : List ℕ) × Splits path front name × IsPlaced (put name) text front n k
 
 -- The tree `k` is the tree `n` with the value `w` added at the path: inserted as an element, or added as an entry, with
--- the tables that were missing on the way.
+-- the tables and arrays that were missing on the way.
 abbrev pub IsPut : Path → Node → Node → Node → Type 0
 IsPut path w n k =
     ((front : Path) × (name : List ℕ) × Splits path front name × (at front (put name w) n k ≡ true))

@@ -3,7 +3,7 @@ use Rattle.std.specs.Prelude.{◌≡◌, ⊤, ℕ, zero, suc, ◌≤◌, ◌+◌
 use Rattle.std.specs.Prelude.{nat_le, nat_lt}
 use Rattle.std.specs.Prelude.{List, [], ◌∷◌, ◌++◌, take, drop, map, slice_index, slice_range, if◌then◌else◌, Option}
 use Rattle.std.specs.Prelude.{Some}
-use Rattle.std.specs.Prelude.{None, Ok, unwrap_or, option_map}
+use Rattle.std.specs.Prelude.{None, Ok, string_bytes, unwrap_or, option_map}
 use Rattle.std.specs.List.{list_all, list_any}
 use Rattle.toml_span_lex.specs.Bytes.{is_blank, hash, line_feed, left_brace, left_bracket}
 use Rattle.toml_span_lex.specs.declared.span.Span.{Span}
@@ -17,8 +17,10 @@ use Rattle.toml_span_places.specs.Lines.{after_line}
 use Rattle.toml_span_places.specs.Literals.{literal_span}
 use Rattle.toml_span_places.specs.Replace.{SpanEdit as Replacement, replaced}
 use Rattle.toml_span_places.specs.Sections.{SectionMention, document_sections}
+use Rattle.toml_span_edit.specs.Comments.{AddsNoComment}
 use Rattle.toml_span_edit.specs.Made.{child}
 use Rattle.toml_span_edit.specs.Paths.{Path, Splits, found, names_first, names_steps}
+use Rattle.toml_span_edit.specs.declared.plan.Plan.{Plan}
 use Rattle.toml_span_edit.specs.declared.edits.Change.{Change}
 use Rattle.toml_span_edit.specs.declared.edits.Change.TheVariants as changes
 
@@ -45,17 +47,30 @@ AreKeysReplaced path text new =
 
 -- ---- what is inserted
 
--- whether a byte is a space, a tab, a line feed or a carriage return
-abbrev pub is_space : ℕ → Bool
-is_space c = is_blank c || (c == line_feed || c == 13)
+-- whether a replacement only inserts text
+abbrev pub is_insertion : Replacement → Bool
+is_insertion e = e.0.start == e.0.end
 
-abbrev pub replaces_space : List ℕ → Replacement → Bool
-replaces_space text e = list_all is_space (slice_range text e.0.start e.0.end)
+-- the replacements of a plan
+abbrev pub planned : Plan → List Replacement
+planned plan = map (λ p. (p.span, string_bytes p.text)) plan.pieces.items
 
--- Texts are inserted, or replace only spaces, tabs and line ends. All other bytes are still there, in order.
+abbrev pub is_line_end : ℕ → Bool
+is_line_end c = c == line_feed || c == 13
+
+-- The plan has one more insertion: of these lines at this offset, after at most a line end.
+abbrev pub InsertsLines : ℕ → List ℕ → Plan → Plan → Type 0
+InsertsLines at lines old new =
+    (gap : List ℕ) × (list_all is_line_end gap ≡ true)
+    × (planned new ≡ planned old ++ (record { start = at; end = at }, gap ++ lines) ∷ [])
+
+-- Texts are inserted. All bytes are still there, in order.
 abbrev pub IsInserted : List ℕ → List ℕ → Type 0
-IsInserted text new =
-    (es : List Replacement) × (list_all (replaces_space text) es ≡ true) × (replaced text es ≡ Some new)
+IsInserted text new = (es : List Replacement) × (list_all is_insertion es ≡ true) × (replaced text es ≡ Some new)
+
+-- Texts are inserted, and each comment that is new is one of the value.
+abbrev pub IsAdded : List ℕ → List ℕ → List ℕ → Type 0
+IsAdded value text new = IsInserted text new × AddsNoComment value text new
 
 -- ---- what is removed
 
@@ -181,22 +196,33 @@ IsCutWithComments path n text new =
 abbrev pub IsCutThenInserted : Path → Node → List ℕ → List ℕ → Type 0
 IsCutThenInserted path n text new = (mid : List ℕ) × IsCut path n text mid × IsInserted mid new
 
--- Only bytes in the span around the value at the path have changed. Or first only bytes in the span around the array or
--- table that holds the value change, and then text is inserted: if the value is the only element of an array of tables,
--- an empty array replaces that array.
-abbrev pub IsRemoved : Path → Node → List ℕ → List ℕ → Type 0
-IsRemoved path n text new =
-    IsCut path n text new
+-- Only bytes in the span around the value at the path change, or around the array that holds the value, and then text
+-- is inserted.
+abbrev pub IsRewritten : Path → Node → List ℕ → List ℕ → Type 0
+IsRewritten path n text new =
+    IsCutThenInserted path n text new
     ⊎ ((front : Path) × (name : List ℕ) × Splits path front name × IsCutThenInserted front n text new)
+
+-- Only bytes in the span around the array that holds the value at the path, and in the comments directly above it,
+-- change, and then text is inserted: an empty array.
+abbrev pub IsEmptied : Path → Node → List ℕ → List ℕ → Type 0
+IsEmptied path n text new =
+    (front : Path) × (name : List ℕ) × (mid : List ℕ) × Splits path front name × IsCutWithComments front n text mid
+    × IsInserted mid new
+
+-- Only bytes in the span around the value at the path, and in the comments directly above it, change. Or the value is
+-- the only element of an array of tables, and an empty array replaces that array.
+abbrev pub IsRemoved : Path → Node → List ℕ → List ℕ → Type 0
+IsRemoved path n text new = IsCutWithComments path n text new ⊎ IsEmptied path n text new
 
 -- ---- tables that are moved
 
--- whether a byte is a space, a tab or an opening bracket
+-- whether a byte is a space, a tab, an opening bracket or in a byte order mark
 abbrev pub is_opening : ℕ → Bool
-is_opening c = is_blank c || c == left_bracket
+is_opening c = is_blank c || (c == left_bracket || (c == 239 || (c == 187 || c == 191)))
 
--- Whether the span of the replacement has no line end, and only blanks and at least one opening bracket are before it
--- on its line.
+-- Whether the span of the replacement has no line end, and only blanks, a byte order mark and at least one opening
+-- bracket are before it on its line.
 abbrev pub is_header_part : List ℕ → Replacement → Bool
 is_header_part text e =
     let before = slice_range text (line_start text e.0.start) e.0.start in
@@ -208,11 +234,16 @@ abbrev pub AreHeadersReplaced : List ℕ → List ℕ → Type 0
 AreHeadersReplaced text new =
     (es : List Replacement) × (list_all (is_header_part text) es ≡ true) × (replaced text es ≡ Some new)
 
--- First, only bytes in the span around the value at the path, and in the comments directly above it, change, and then
--- text is inserted. Or only parts of headers are replaced.
+-- Text is inserted, and then parts of headers are replaced.
+abbrev pub HasOtherHeaders : List ℕ → List ℕ → Type 0
+HasOtherHeaders text new = (mid : List ℕ) × IsInserted text mid × AreHeadersReplaced mid new
+
+-- The value at the path is removed, and then text is inserted. Or text is inserted, and parts of headers are replaced.
+-- Or only the key of the value is replaced, wherever it is written.
 abbrev pub IsMovedText : Path → Node → List ℕ → List ℕ → Type 0
 IsMovedText path n text new =
-    ((mid : List ℕ) × IsCutWithComments path n text mid × IsInserted mid new) ⊎ AreHeadersReplaced text new
+    ((mid : List ℕ) × IsRemoved path n text mid × IsInserted mid new)
+    ⊎ (HasOtherHeaders text new ⊎ AreKeysReplaced path text new)
 
 -- ---- changes
 
@@ -221,12 +252,12 @@ IsMovedText path n text new =
 abbrev pub Keeps : Change → Path → Node → List ℕ → List ℕ → Type 0
 Keeps (changes.Set v) path n text new = IsWrittenOver v.now path n text new
 Keeps (changes.Replace v) path n text new =
-    IsWrittenOver v.now path n text new ⊎ IsCutThenInserted path n text new
-Keeps (changes.SetOrAdd v) path n text new = IsWrittenOver v.now path n text new ⊎ IsInserted text new
+    IsWrittenOver v.now path n text new ⊎ (IsRewritten path n text new × AddsNoComment v.now text new)
+Keeps (changes.SetOrAdd v) path n text new = IsWrittenOver v.now path n text new ⊎ IsAdded v.now text new
 Keeps (changes.Rename name) path n text new = AreKeysReplaced path text new
-Keeps changes.Remove path n text new = IsRemoved path n text new
-Keeps (changes.Add v) path n text new = IsInserted text new
-Keeps changes.AddTable path n text new = IsInserted text new
-Keeps (changes.Append v) path n text new = IsInserted text new
-Keeps (changes.Insert v) path n text new = IsInserted text new
-Keeps (changes.MoveTo target) path n text new = IsMovedText path n text new
+Keeps changes.Remove path n text new = IsRemoved path n text new × AddsNoComment [] text new
+Keeps (changes.Add v) path n text new = IsAdded v.now text new
+Keeps changes.AddTable path n text new = IsAdded [] text new
+Keeps (changes.Append v) path n text new = IsAdded v.now text new
+Keeps (changes.Insert v) path n text new = IsAdded v.now text new
+Keeps (changes.MoveTo target) path n text new = IsMovedText path n text new × AddsNoComment [] text new

@@ -1,7 +1,7 @@
 pub mod Same
 pub mod Made
 pub mod Paths
+pub mod Comments
 pub mod Kept
 pub mod Edited
 pub mod Listed
-pub mod Tasks

@@ -1,11 +1,10 @@
 -- Whether a tree is another one with a change made. Spans are ignored.
 use Rattle.std.specs.Prelude.{◌≡◌, ℕ, zero, suc, List, [], ◌∷◌, Bool, true, false, ◌&&◌, ◌||◌, if◌then◌else◌}
-use Rattle.std.specs.Prelude.{Option, Some, None, is_some, option_and_then}
+use Rattle.std.specs.Prelude.{Option, Some, None, codes, is_some, option_and_then}
 use Rattle.std.specs.Borrow.{Bor}
 use Rattle.std.specs.Cow.{cow_str_bytes}
 use Rattle.std.specs.Str.{bytes_eq}
 use Rattle.toml_span_lex.specs.declared.key.Key.{Key}
-use Rattle.toml_span_lex.specs.declared.span.Span.{Span}
 use Rattle.toml_span_tree.specs.Node.{Node, node, Inner, taken, scalar, array, table, Items, no_items, item, Members}
 use Rattle.toml_span_tree.specs.Node.{no_members, member, get_member, get_item}
 use Rattle.toml_span_tree.specs.Pointer.{position_of}
@@ -113,27 +112,43 @@ at (segment ∷ path) related n k =
     same_but segment (inner_of n) (inner_of k)
     && both (at path related) (child segment (inner_of n)) (child segment (inner_of k))
 
--- the span 0..0
-abbrev pub nowhere : Span
-nowhere = record { start = 0; end = 0 }
+abbrev pub only_item : Items → Option Node
+only_item (item n no_items) = Some n
+only_item _ = None
 
--- the value `w` inside nested tables: for each name, a table whose only entry has this name
-abbrev pub nested : List (List ℕ) → Node → Node
-nested [] w = w
-nested (name ∷ names) w =
-    node (table (member name nowhere (nested names w) no_members)) nowhere
+-- the only element of an array
+abbrev pub only_element : Inner → Option Node
+only_element (array ns) = only_item ns
+only_element _ = None
 
-abbrev pub added_at : (Node → Node → Bool) → List ℕ → Node → Node → Node → Option Node → Option Node → Bool
-added_at below segment w n k (Some m) (Some l) = same_but segment (inner_of n) (inner_of k) && below m l
-added_at below segment w n k None (Some l) = put segment w n k
-added_at below segment w n k _ None = false
+-- the value of the only entry of a table, if the entry has this name
+abbrev pub only_entry : List ℕ → Inner → Option Node
+only_entry name (table (member other span n no_members)) = if bytes_eq name other then Some n else None
+only_entry name _ = None
 
--- The second tree is the first with the value `w` at the path, where the first has no value, and with the tables that
--- were missing on the way.
+abbrev pub within : (Node → Bool) → Option Node → Bool
+within holds None = false
+within holds (Some n) = holds n
+
+-- Whether the second value is the first inside nested tables and arrays: for each name, a table whose only entry has
+-- this name or, for `0`, an array with one element.
+abbrev pub is_nested : List (List ℕ) → Node → Node → Bool
+is_nested [] w k = same w k
+is_nested (name ∷ names) w k =
+    within (is_nested names w)
+    (if bytes_eq name (codes "0") then only_element (inner_of k) else only_entry name (inner_of k))
+
+abbrev pub added_at : (Node → Node → Bool) → (Node → Bool) → List ℕ → Node → Node → Option Node → Option Node → Bool
+added_at below new segment n k (Some m) (Some l) = same_but segment (inner_of n) (inner_of k) && below m l
+added_at below new segment n k None (Some l) = lacks segment k n && new l
+added_at below new segment n k _ None = false
+
+-- The second tree is the first with the value `w` at the path, where the first has no value, and with the tables and
+-- arrays that were missing on the way.
 abbrev pub added : List (List ℕ) → Node → Node → Node → Bool
 added [] w n k = false
 added (segment ∷ path) w n k =
-    added_at (added path w) segment (nested path w) n k (child segment (inner_of n)) (child segment (inner_of k))
+    added_at (added path w) (is_nested path w) segment n k (child segment (inner_of n)) (child segment (inner_of k))
 
 -- ---- for the code
 

@@ -3,13 +3,13 @@ ghost use Rattle.std.specs.Prelude.{IfOk, Ok, map};
 ghost use Rattle.toml_span_read.specs.Data.{depth_limit, parsed_section};
 ghost use Rattle.toml_span_read.specs.Read.{document};
 
-use crate::lines::part;
+use crate::lines::{comments_above, line_start, part};
 use crate::mentions::{PathMention, mentions_of, part_at};
 use crate::reason::Reason;
 use std::alloc::{AllocError, Global};
 use toml_span::value::Key;
 use toml_span::{Span, Stop};
-use toml_span_places::{section_lines, with_quotes};
+use toml_span_places::with_quotes;
 use toml_span_read::{Assignment, Section, Val, ValKind, read_sections};
 
 /// A document: its text and its sections.
@@ -58,11 +58,6 @@ fn element_of<'s, 'de>(list: &'s Val<'de>, index: usize) -> Option<&'s Val<'de>>
     }
 }
 
-/// Returns the part at `index` of a section's header, or `None` if the header has no such part.
-fn header_key<'s, 'de>(section: &'s Section<'de>, index: usize) -> Option<&'s Key<'de>> {
-    section.header.as_slice().get(index)
-}
-
 impl<'s, 'de> Document<'s, 'de> {
     /// Returns the places that name the value at `path`, in the order of the text. Returns an empty list if nothing
     /// names the value.
@@ -75,15 +70,23 @@ impl<'s, 'de> Document<'s, 'de> {
         with_quotes(self.text, key.span)
     }
 
-    /// Returns the text of a section's header from the first part to the part at `index`, without the brackets. Returns
-    /// an empty string if the header has no such part.
-    pub(crate) fn header_text(&self, section: &Section<'_>, index: usize) -> &'s str {
-        match (header_key(section, 0), header_key(section, index)) {
-            (Some(first), Some(last)) => {
-                part(self.text, self.whole(first).start, self.whole(last).end)
-            }
-            _ => "",
+    /// Returns the span of a section's header from the first part to the part at `index`, quotes included. Returns the
+    /// span of the header's line if the header has no such part.
+    pub(crate) fn header_span(&self, section: &Section<'_>, index: usize) -> Span {
+        let keys = section.header.as_slice();
+        match (keys.first(), keys.get(index)) {
+            (Some(first), Some(last)) => Span {
+                start: self.whole(first).start,
+                end: self.whole(last).end,
+            },
+            _ => section.header_span,
         }
+    }
+
+    /// Returns the text of the span that `header_span` returns: without the brackets of the header.
+    pub(crate) fn header_text(&self, section: &Section<'_>, index: usize) -> &'s str {
+        let span = self.header_span(section, index);
+        part(self.text, span.start, span.end)
     }
 
     /// Returns the text of an assignment's key from the first part to the part at `index`, or the whole key if it has
@@ -94,8 +97,28 @@ impl<'s, 'de> Document<'s, 'de> {
         part(self.text, first.start, last.end)
     }
 
-    /// Returns the byte offset after the line of a section's last assignment or, without assignments, of its header.
-    pub(crate) fn body_end(&self, section: &Section<'_>) -> usize {
-        section_lines(self.text, section).end
+    /// Returns the end of the last header, or assignment on lines, that begins before the byte offset `at`, the start
+    /// of a line. Returns 0 if there is none.
+    fn floor(&self, at: usize) -> usize {
+        let mut floor: usize = 0;
+        for section in self.sections {
+            if section.extent.start >= at {
+                return floor;
+            }
+            floor = section.header_span.end;
+            for assignment in &section.assignments {
+                if assignment.extent.start < at {
+                    floor = assignment.extent.end;
+                }
+            }
+        }
+        floor
+    }
+
+    /// Returns the start of the comment lines directly above the line of the byte offset `offset`, where a header or an
+    /// assignment begins. Without such lines, returns the start of that line.
+    pub(crate) fn above(&self, offset: usize) -> usize {
+        let start = line_start(self.text, offset);
+        comments_above(self.text, self.floor(start), start)
     }
 }

@@ -1,13 +1,34 @@
 //! Inserts and removes items in brackets or braces: elements of arrays, and pairs of inline tables.
 use crate::lines::{
-    begins_line, blanks_before, comments_above, indent, line_end, line_start, line_stop, next_line,
-    part, point,
+    begins_line, blanks_before, comments_above, indent, line_end, line_start, line_stop, part,
+    point,
 };
 use crate::plan::Plan;
+use crate::reach::after_line;
 use std::alloc::{AllocError, Global};
 use toml_span::Span;
 use toml_span_places::val_literal_span;
 use toml_span_read::{Val, ValKind};
+use toml_span_syntax::pieces::{Kind, piece_at};
+
+/// A value to write, with its comments. In braces, its key comes first.
+#[derive(Clone, Copy)]
+pub(crate) struct Item<'i> {
+    /// The comment lines directly above the value, line ends included.
+    pub above: &'i str,
+    pub value: &'i str,
+    /// The spaces, tabs and comment that follow the value on its line, without a comma.
+    pub note: &'i str,
+}
+
+/// Returns a value without comments.
+pub(crate) fn bare(value: &str) -> Item<'_> {
+    Item {
+        above: "",
+        value,
+        note: "",
+    }
+}
 
 /// Returns the number of items in an array or inline table, and 0 for any other value.
 pub(crate) fn count_of(list: &Val<'_>) -> usize {
@@ -45,14 +66,14 @@ fn space_end(text: &str, list: &Val<'_>, index: usize) -> usize {
 /// Returns the byte offset of the first comma between the offsets `start` and `end` that is not in a comment, or
 /// `None`. Between these offsets, there must be nothing but commas, blanks, line ends and comments.
 fn comma_between(text: &str, start: usize, end: usize) -> Option<usize> {
-    let mut is_comment = false;
-    for (index, byte) in part(text, start, end).bytes().enumerate() {
-        match byte {
-            b'\n' => is_comment = false,
-            b'#' => is_comment = true,
-            b',' if !is_comment => return Some(start.saturating_add(index)),
-            _ => {}
+    let space = part(text, start, end);
+    let mut at = 0;
+    'pieces: while at < space.len() {
+        let piece = piece_at(space, at);
+        if matches!(piece.kind, Kind::Mark(b',')) {
+            return Some(start.saturating_add(at));
         }
+        at = piece.end;
     }
     None
 }
@@ -65,7 +86,7 @@ fn cut_comma(text: &str, comma: usize, plan: &mut Plan) -> Result<(), AllocError
         let start = blanks_before(text, comma);
         return plan.cut(Span {
             start,
-            end: next_line(text, comma),
+            end: after_line(text, comma),
         });
     }
     plan.cut(Span {
@@ -88,7 +109,7 @@ fn cut_to_line_end(
     if begins_line(text, items.start) {
         plan.cut(Span {
             start,
-            end: next_line(text, items.end),
+            end: after_line(text, items.end),
         })?;
     } else {
         plan.cut(Span { start, end: stop })?;
@@ -166,35 +187,30 @@ pub(crate) fn cut_items(
     cut_last(text, before, items, end, plan)
 }
 
-/// Adds to `plan` the insertion of `item` into the brackets or braces of `list`, which must have no items.
+/// Adds to `plan` the insertion of `item` into the brackets or braces of `list`, which must have no items. The item
+/// gets its own line, with its comments, if only blanks and line ends are between the brackets, and at least one line
+/// end.
 fn put_first(
     alloc: Global,
     text: &str,
     list: &Val<'_>,
-    item: &str,
+    item: Item<'_>,
     plan: &mut Plan,
 ) -> Result<(), AllocError> {
     let start = list.span.start.saturating_add(1);
     let inner = part(text, start, close_of(list));
-    let end = if inner.trim().is_empty() {
-        close_of(list)
-    } else {
-        start
-    };
-    let new = match &list.kind {
-        ValKind::Array(_) if end == close_of(list) => String::from_str(alloc, item)?,
-        _ => format!(in alloc; " {item} ")?,
-    };
-    plan.put(Span { start, end }, new)
-}
-
-/// An item to insert. `above` has the comment lines above the item, and `note` the comment after the item and its
-/// comma, with the blanks before the comment.
-#[derive(Clone, Copy)]
-pub(crate) struct Item<'i> {
-    pub above: &'i str,
-    pub text: &'i str,
-    pub note: &'i str,
+    let Item { above, value, note } = item;
+    if !inner.trim().is_empty() || inner.is_empty() && matches!(&list.kind, ValKind::Inline(_)) {
+        return plan.put(point(start), format!(in alloc; " {value} ")?);
+    }
+    if inner.contains('\n') {
+        let (front, end) = (indent(text, list.span.start), line_end(text));
+        let lines = format!(in alloc; "{above}{front}    {value},{note}{end}")?;
+        return plan.put(point(after_line(text, start)), lines);
+    }
+    let blank = if inner.len() == 1 { " " } else { "" };
+    let at = start.saturating_add(inner.len().min(1));
+    plan.put(point(at), format!(in alloc; "{value}{blank}")?)
 }
 
 /// Adds to `plan` the insertion of `item` after the last item of `list`, whose span is `last`.
@@ -216,40 +232,36 @@ fn put_last(
     item: Item<'_>,
     plan: &mut Plan,
 ) -> Result<(), AllocError> {
-    let Item {
-        above,
-        text: item,
-        note,
-    } = item;
+    let Item { above, value, note } = item;
     let close = close_of(list);
     let (front, end) = (front_of(alloc, text, list, last)?, line_end(text));
     let comma = comma_between(text, last.end, close);
     if !part(text, last.end, close).contains('\n') {
         let new = if begins_line(text, last.start) {
-            format!(in alloc; ",{end}{front}{item}")?
+            format!(in alloc; ",{end}{front}{value}")?
         } else {
-            format!(in alloc; ", {item}")?
+            format!(in alloc; ", {value}")?
         };
         return plan.put(point(last.end), new);
     }
     let stop = line_stop(text, comma.unwrap_or(last.end));
     if !begins_line(text, last.start) && !part(text, last.end, stop).contains('#') {
-        return plan.put(point(last.end), format!(in alloc; ", {item}")?);
+        return plan.put(point(last.end), format!(in alloc; ", {value}")?);
     }
     match comma {
         Some(comma) if part(text, comma, close).contains('\n') => plan.put(
-            point(next_line(text, comma)),
-            format!(in alloc; "{above}{front}{item},{note}{end}")?,
+            point(after_line(text, comma)),
+            format!(in alloc; "{above}{front}{value},{note}{end}")?,
         ),
         Some(comma) => plan.put(
             point(comma.saturating_add(1)),
-            format!(in alloc; " {item}")?,
+            format!(in alloc; " {value}")?,
         ),
         None => {
             plan.put(point(last.end), String::from_str(alloc, ",")?)?;
             plan.put(
                 point(stop),
-                format!(in alloc; "{end}{above}{front}{item}{note}")?,
+                format!(in alloc; "{end}{above}{front}{value}{note}")?,
             )
         }
     }
@@ -277,11 +289,7 @@ fn put_before(
     item: Item<'_>,
     plan: &mut Plan,
 ) -> Result<(), AllocError> {
-    let Item {
-        above,
-        text: item,
-        note,
-    } = item;
+    let Item { above, value, note } = item;
     let before = match index {
         0 => list.span.start.saturating_add(1),
         _ => match item_span(text, list, index.saturating_sub(1)) {
@@ -289,19 +297,19 @@ fn put_before(
             None => next.start,
         },
     };
-    let line = next_line(text, before);
+    let line = after_line(text, before);
     if begins_line(text, next.start) && line <= next.start {
         let (front, end) = (indent(text, next.start), line_end(text));
         return plan.put(
             point(line),
-            format!(in alloc; "{above}{front}{item},{note}{end}")?,
+            format!(in alloc; "{above}{front}{value},{note}{end}")?,
         );
     }
-    plan.put(point(next.start), format!(in alloc; "{item}, ")?)
+    plan.put(point(next.start), format!(in alloc; "{value}, ")?)
 }
 
 /// Adds to `plan` the insertion of `item` into `list` before the item at `index` or, if `index` is too large, after the
-/// last item. If `list` has no items, the comments of `item` are left out.
+/// last item.
 pub(crate) fn put_item(
     alloc: Global,
     text: &str,
@@ -316,27 +324,20 @@ pub(crate) fn put_item(
     }
     match item_span(text, list, count.saturating_sub(1)) {
         Some(last) => put_last(alloc, text, list, last, item, plan),
-        None => put_first(alloc, text, list, item.text, plan),
+        None => put_first(alloc, text, list, item, plan),
     }
 }
 
-/// Returns an item with the text `text` and without comments.
-pub(crate) fn bare(text: &str) -> Item<'_> {
-    Item {
-        above: "",
-        text,
-        note: "",
-    }
-}
-
-/// Returns the comment that follows an item on its line, with the blanks before the comment. `end` is the byte offset
-/// after the item. Skips a comma before the comment. Returns an empty string if anything else or nothing follows.
-fn note_after(text: &str, end: usize) -> &str {
-    let rest = part(text, end, line_stop(text, end));
-    let note = match rest.trim_start().strip_prefix(',') {
-        Some(note) => note,
-        None => rest,
+/// Returns the comment that follows the item of `list` at `index` on its line, with the blanks before the comment.
+/// `end` is the byte offset after the item. Skips a comma before the comment. Returns an empty string if anything else
+/// or nothing follows.
+fn note_after<'t>(text: &'t str, list: &Val<'_>, index: usize, end: usize) -> &'t str {
+    let stop = line_stop(text, end);
+    let start = match comma_between(text, end, stop.min(space_end(text, list, index))) {
+        Some(comma) => comma.saturating_add(1),
+        None => end,
     };
+    let note = part(text, start, stop);
     if note.trim_start().starts_with('#') {
         note
     } else {
@@ -344,13 +345,33 @@ fn note_after(text: &str, end: usize) -> &str {
     }
 }
 
-/// Returns the comment lines above the item in the span `item`, and the comment that `note_after` returns for the item.
-/// Both are empty if the item does not begin a line.
-pub(crate) fn comments_of(text: &str, item: Span) -> (&str, &str) {
+/// Returns the span of the comment lines directly above the item of `list` at `index`. Returns an empty span if there
+/// are none, or if the item does not begin a line.
+pub(crate) fn span_above(text: &str, list: &Val<'_>, index: usize) -> Span {
+    let Some(item) = item_span(text, list, index) else {
+        return point(0);
+    };
     if !begins_line(text, item.start) {
-        return ("", "");
+        return point(item.start);
     }
-    let start = line_start(text, item.start);
-    let above = part(text, comments_above(text, start), start);
-    (above, note_after(text, item.end))
+    let floor = match index.checked_sub(1) {
+        Some(before) => item_span(text, list, before).map_or(0, |span| span.end),
+        None => list.span.start.saturating_add(1),
+    };
+    let end = line_start(text, item.start);
+    Span {
+        start: comments_above(text, floor, end),
+        end,
+    }
+}
+
+/// Returns the comment lines that `span_above` finds for the item of `list` at `index`, and the comment that
+/// `note_after` returns for it.
+pub(crate) fn comments_of<'t>(text: &'t str, list: &Val<'_>, index: usize) -> (&'t str, &'t str) {
+    let Some(item) = item_span(text, list, index) else {
+        return ("", "");
+    };
+    let above = span_above(text, list, index);
+    let note = note_after(text, list, index, item.end);
+    (part(text, above.start, above.end), note)
 }

@@ -10,27 +10,8 @@ use toml_span_lex::bytes::is_blank;
 use toml_span_places::Replacement;
 use toml_span_read::gaps::byte_at;
 
-/// Returns whether a byte is a space, a tab, a line feed or a carriage return.
-fn is_space(byte: u8) -> bool
-    ensures { result ≡ spec.is_space byte }
-{
-    is_blank(byte) || byte == b'\n' || byte == b'\r'
-}
-
-/// Returns whether all of `bytes` are spaces, tabs, line feeds or carriage returns.
-fn is_all_space(bytes: &[u8]) -> bool
-    ensures { result ≡ list_all spec.is_space bytes.now }
-{
-    for byte in bytes {
-        if !is_space(*byte) {
-            return false;
-        }
-    }
-    true
-}
-
 /// Returns the bytes of `text` whose offsets are in `start..end`. Offsets after the end of `text` are ignored.
-fn bytes_of(text: &str, start: usize, end: usize) -> &[u8]
+pub(crate) fn bytes_of(text: &str, start: usize, end: usize) -> &[u8]
     ensures { result.now ≡ slice_range text.now start end }
 {
     let bytes = text.as_bytes();
@@ -38,20 +19,19 @@ fn bytes_of(text: &str, start: usize, end: usize) -> &[u8]
     if start < end { &bytes[start..end] } else { &[] }
 }
 
-/// Returns whether the span of a replacement is empty, or contains only spaces, tabs, line feeds and carriage returns.
-fn replaces_space(text: &str, replacement: Replacement<'_>) -> bool
-    ensures { result ≡ spec.replaces_space text.now (edit_of replacement.entry) }
+/// Returns whether a replacement only inserts text: whether its span is empty.
+fn is_insertion(replacement: Replacement<'_>) -> bool
+    ensures { result ≡ spec.is_insertion (edit_of replacement.entry) }
 {
-    is_all_space(bytes_of(text, replacement.span.start, replacement.span.end))
+    replacement.span.start == replacement.span.end
 }
 
-/// Returns whether the span of each replacement in `list` is empty, or contains only spaces, tabs, line feeds and
-/// carriage returns.
-pub(crate) fn replace_space(text: &str, list: &[Replacement<'_>]) -> bool
-    ensures { result ≡ list_all (spec.replaces_space text.now) (map edit_of list.now) }
+/// Returns whether all replacements in `list` only insert text.
+pub(crate) fn are_insertions(list: &[Replacement<'_>]) -> bool
+    ensures { result ≡ list_all spec.is_insertion (map edit_of list.now) }
 {
     for replacement in list {
-        if !replaces_space(text, *replacement) {
+        if !is_insertion(*replacement) {
             return false;
         }
     }
@@ -106,12 +86,13 @@ pub(crate) fn only_comments(text: &str, start: usize, end: usize) -> bool
     true
 }
 
-/// Returns whether all of `bytes` are spaces, tabs or opening brackets, as at the start of a header.
+/// Returns whether all of `bytes` are spaces, tabs, opening brackets, or bytes of a byte order mark, as before the keys
+/// of a header.
 fn is_opening(bytes: &[u8]) -> bool
     ensures { result ≡ list_all spec.is_opening bytes.now }
 {
     for byte in bytes {
-        if !is_blank(*byte) && *byte != b'[' {
+        if !is_blank(*byte) && !matches!(*byte, b'[' | 0xEF | 0xBB | 0xBF) {
             return false;
         }
     }
@@ -130,8 +111,8 @@ fn has_byte(bytes: &[u8], wanted: u8) -> bool
     false
 }
 
-/// Returns whether the span of a replacement is inside one line, and only spaces, tabs and one or more opening brackets
-/// are before the span on that line.
+/// Returns whether the span of a replacement is inside one line, and only spaces, tabs, a byte order mark, and one or
+/// more opening brackets are before the span on that line.
 fn is_header_part(text: &str, replacement: Replacement<'_>) -> bool
     ensures { result ≡ spec.is_header_part text.now (edit_of replacement.entry) }
 {
@@ -140,8 +121,7 @@ fn is_header_part(text: &str, replacement: Replacement<'_>) -> bool
     is_opening(before) && has_byte(before, b'[') && !has_byte(bytes_of(text, start, end), b'\n')
 }
 
-/// Returns whether the span of each replacement is inside one line, and only spaces, tabs and one or more opening
-/// brackets are before the span on that line.
+/// Returns whether `is_header_part` returns true for each replacement in `list`.
 pub(crate) fn are_header_parts(text: &str, list: &[Replacement<'_>]) -> bool
     ensures { result ≡ list_all (spec.is_header_part text.now) (map edit_of list.now) }
 {

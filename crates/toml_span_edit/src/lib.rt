@@ -2,15 +2,18 @@
 #![tactic(auto)]
 
 mod adding;
+mod comments;
 mod document;
 mod edits;
 mod given;
 mod growing;
+mod headed;
 mod items;
 mod kept;
 mod lines;
 mod made;
 mod mentions;
+mod missing;
 mod moving;
 mod paths;
 mod plan;
@@ -20,7 +23,6 @@ mod removing;
 mod same;
 mod setting;
 mod step;
-mod tasks;
 mod texts;
 mod unchanged;
 
@@ -29,6 +31,5 @@ pub use given::string_text;
 pub use paths::path_error_text;
 pub use reason::Reason;
 pub use same::same_tree;
-pub use tasks::{Task, edited};
 pub use toml_span_places::{PathError, PathFault, path_segments, segment_names};
 pub use unchanged::validated;

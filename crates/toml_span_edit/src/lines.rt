@@ -1,5 +1,11 @@
 //! Finds parts of a text: lines, their starts, ends and indents, and the comments above them.
+ghost use Rattle.std.specs.Prelude.{◌≡◌, true};
+ghost use Rattle.std.specs.List.{list_all};
+ghost use Rattle.toml_span_edit.specs.Kept.{is_line_end};
+
+use crate::reach::after_line;
 use toml_span::Span;
+use toml_span_lex::tokenizer::first_place;
 
 /// Returns `text[start..end]`. Returns an empty string if these byte offsets are out of bounds, out of order, or inside
 /// a character.
@@ -8,20 +14,25 @@ pub(crate) fn part(text: &str, start: usize, end: usize) -> &str {
 }
 
 /// Returns the empty span at the byte offset `at`.
-pub(crate) fn point(at: usize) -> Span {
+pub(crate) fn point(at: usize) -> Span
+    ensures { result ≡ record { start = at; end = at } }
+{
     Span { start: at, end: at }
 }
 
 /// Returns the line end for new lines of `text`: CRLF if `text` contains one, otherwise a line feed.
-pub(crate) fn line_end(text: &str) -> &'static str {
+pub(crate) fn line_end(text: &str) -> &'static str
+    ensures { list_all is_line_end result.now ≡ true }
+{
     if text.contains("\r\n") { "\r\n" } else { "\n" }
 }
 
-/// Returns the start of the line that contains the byte offset `offset`, which must be at a character boundary.
+/// Returns the start of the line that contains the byte offset `offset`, which must be at a character boundary. The
+/// first line starts after a byte order mark.
 pub(crate) fn line_start(text: &str, offset: usize) -> usize {
     match part(text, 0, offset).rfind('\n') {
         Some(at) => at.saturating_add(1),
-        None => 0,
+        None => first_place(text),
     }
 }
 
@@ -42,27 +53,16 @@ pub(crate) fn line_stop(text: &str, offset: usize) -> usize {
     }
 }
 
-/// Returns the byte offset after the first line feed at or after `offset`. Without such a line feed, returns the length
-/// of `text`. `offset` must be at a character boundary.
-pub(crate) fn next_line(text: &str, offset: usize) -> usize {
-    let rest = part(text, offset, text.len());
-    match rest.find('\n') {
-        Some(at) => offset.saturating_add(at).saturating_add(1),
-        None => text.len(),
-    }
-}
-
 /// Returns the start of the run of spaces and tabs that ends at the byte offset `offset`, or `offset` if the run is
 /// empty. `offset` must be at a character boundary.
 pub(crate) fn blanks_before(text: &str, offset: usize) -> usize {
     part(text, 0, offset).trim_end_matches([' ', '\t']).len()
 }
 
-/// Returns whether only spaces and tabs are before the byte offset `offset` on its line. `offset` must be at a
-/// character boundary.
+/// Returns whether only spaces and tabs are before the byte offset `offset` on its line, apart from a byte order mark.
+/// `offset` must be at a character boundary.
 pub(crate) fn begins_line(text: &str, offset: usize) -> bool {
-    let start = blanks_before(text, offset);
-    start == 0 || part(text, 0, start).ends_with('\n')
+    !is_open(text, blanks_before(text, offset))
 }
 
 /// Returns the spaces and tabs at the start of the line that contains the byte offset `offset`, which must be at a
@@ -75,21 +75,32 @@ pub(crate) fn indent(text: &str, offset: usize) -> &str {
 }
 
 /// Returns the start of the comment lines directly above the byte offset `offset`, the start of a line. Without such
-/// lines, returns `offset`. Every line that begins with `#` after white space counts, even one that ends a multi-line
-/// string. A comment on the same line as a byte order mark does not count.
-pub(crate) fn comments_above(text: &str, offset: usize) -> usize {
-    let mut start: usize = 0;
-    let mut at: usize = 0;
-    for line in part(text, 0, offset).split_inclusive('\n') {
+/// lines, returns `offset`. `floor` is an offset after which there are only blanks, line ends and comments up to
+/// `offset`; lines that begin before `floor` do not count.
+pub(crate) fn comments_above(text: &str, floor: usize, offset: usize) -> usize {
+    let mut at = if is_open(text, floor) {
+        after_line(text, floor)
+    } else {
+        floor.max(first_place(text))
+    };
+    let mut start = at;
+    for line in part(text, at, offset).split_inclusive('\n') {
         at = at.saturating_add(line.len());
         if !line.trim_start().starts_with('#') {
             start = at;
         }
     }
-    start
+    start.min(offset)
 }
 
-/// Returns whether the byte offset `offset` is neither 0 nor directly after a line feed.
+/// Returns whether the byte offset `offset` is neither at the start of `text`, before or after a byte order mark, nor
+/// directly after a line feed.
 pub(crate) fn is_open(text: &str, offset: usize) -> bool {
-    offset > 0 && !part(text, 0, offset).ends_with('\n')
+    offset > first_place(text) && !part(text, 0, offset).ends_with('\n')
+}
+
+/// Returns whether a blank line, or nothing, is above the byte offset `offset`, the start of a line.
+pub(crate) fn is_apart(text: &str, offset: usize) -> bool {
+    let above = part(text, first_place(text), offset);
+    above.trim().is_empty() || above.ends_with("\n\n") || above.ends_with("\n\r\n")
 }

@@ -306,28 +306,68 @@ pub(crate) fn changed(
     }
 }
 
-/// Returns whether `value` is `new` inside nested tables with one entry each. `names` are the names of these entries,
-/// from the outermost table inward.
+/// Returns the only element of `items`, or `None` if there are none or several.
+#[tactic(auto, using(crate::proofs::Elements::only_none, crate::proofs::Elements::only_many))]
+fn only_item<'v, 'de>(items: &'v [Value<'de>]) -> Option<&'v Value<'de>>
+    ensures { option_map (λ v. view v.now) result ≡ spec.only_item (items_view items.now) }
+{
+    match items {
+        [only] => Some(only),
+        _ => None,
+    }
+}
+
+/// Returns the only element of an array, or `None` for any other value.
+fn only_element<'v, 'de>(value: &'v Value<'de>) -> Option<&'v Value<'de>>
+    ensures { option_map (λ v. view v.now) result ≡ spec.only_element (inner_of (view value.now)) }
+{
+    match value.as_array() {
+        Some(array) => only_item(array.as_slice()),
+        None => None,
+    }
+}
+
+/// Returns the value of the only entry of a table if its name is `name`, or `None` for any other value.
+fn only_entry<'v, 'de>(value: &'v Value<'de>, name: &str) -> Option<&'v Value<'de>>
+    ensures { option_map (λ v. view v.now) result ≡ spec.only_entry name.now (inner_of (view value.now)) }
+{
+    let Some(table) = value.as_table() else {
+        return None;
+    };
+    let mut entries = table.iter();
+    let Some((key, below)) = entries.next() else {
+        return None;
+    };
+    if name != key.name.as_str() {
+        return None;
+    }
+    if entries.next().is_some() {
+        return None;
+    }
+    Some(below)
+}
+
+/// Returns whether `value` is `new` inside nested tables and arrays. `names` has, from the outermost inward, the name
+/// of a table's only entry, or `0` for an array with one element.
 fn is_nested(names: &[&str], new: &Value<'_>, value: &Value<'_>) -> bool
-    ensures { result ≡ same (spec.nested (map (λ s. s.now) names.now) (view new.now)) (view value.now) }
+    ensures { result ≡ spec.is_nested (map (λ s. s.now) names.now) (view new.now) (view value.now) }
 {
     let [name, rest @ ..] = names else {
         return same_tree(new, value);
     };
-    let Some(table) = value.as_table() else {
-        return false;
+    let below = if *name == "0" {
+        only_element(value)
+    } else {
+        only_entry(value, *name)
     };
-    let mut entries = table.iter();
-    match entries.next() {
-        Some((key, below)) => {
-            *name == key.name.as_str() && (is_nested(rest, new, below) && entries.next().is_none())
-        }
+    match below {
+        Some(below) => is_nested(rest, new, below),
         None => false,
     }
 }
 
-/// Returns whether the tree `other` is the tree `value` with `new`, and the tables missing on the way, added at `path`.
-/// Returns false if `path` is empty or names something in `value`.
+/// Returns whether the tree `other` is the tree `value` with `new`, and the tables and arrays missing on the way, added
+/// at `path`. Returns false if `path` is empty or names something in `value`.
 pub(crate) fn added(path: &[&str], new: &Value<'_>, value: &Value<'_>, other: &Value<'_>) -> bool
     ensures { result ≡ spec.added (map (λ s. s.now) path.now) (view new.now) (view value.now) (view other.now) }
 {

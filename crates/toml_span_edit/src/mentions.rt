@@ -48,6 +48,11 @@ pub(crate) fn part_at<'s, 'de>(parts: &'s DottedKey<'de>, index: usize) -> &'s K
     &parts.last
 }
 
+/// Returns the index of the last part of a section's header.
+pub(crate) fn last_part(section: &Section<'_>) -> usize {
+    section.header.len().saturating_sub(1)
+}
+
 /// Returns `counts[depth]`, the number of elements opened so far in an array of tables (see `placement_of`). Returns 0
 /// if `depth` is out of range.
 fn count_at(counts: &[usize], depth: usize) -> usize {
@@ -71,7 +76,7 @@ fn count_up(counts: &mut Vec<usize>, depth: usize) -> usize {
 /// adds 1 to that number.
 fn placement_of(section: &Section<'_>, path: &[&str], counts: &mut Vec<usize>) -> Placement {
     let mut depth: usize = 0;
-    let last = section.header.len().saturating_sub(1);
+    let last = last_part(section);
     for (index, key) in section.header.as_slice().iter().enumerate() {
         if depth >= path.len() {
             return Placement::Below(index.saturating_sub(1));

@@ -1,40 +1,28 @@
 //! Moves values to other paths.
-use crate::adding::add_lines;
+use crate::adding::names_array;
 use crate::document::{Document, written};
-use crate::given::key_text;
 use crate::growing::insert;
-use crate::items::{Item, comments_of, item_span};
-use crate::lines::{begins_line, comments_above, line_start, line_stop, part};
-use crate::mentions::{Home, PathMention, opens_element};
+use crate::headed::element_place;
+use crate::items::{Item, comments_of};
+use crate::lines::{is_apart, line_end, line_start, line_stop, part};
+use crate::mentions::{Home, PathMention, last_part, part_at};
+use crate::missing::{Place, first_position, is_array, known_prefix_len, new_place, put_missing};
+use crate::paths::{front_of, rest_of};
 use crate::plan::Plan;
 use crate::reason::Reason;
+use crate::removing::is_implied;
 use std::alloc::AllocError;
 use toml_span::{Span, Stop};
-use toml_span_places::{val_literal_span, with_quotes};
-use toml_span_read::{Section, ValKind};
+use toml_span_places::{assignment_lines, section_lines, val_literal_span, with_quotes};
+use toml_span_read::{Assignment, Section};
+use toml_span_tree::pointer::position;
 
-/// A value to move: its text, with its comments.
-#[derive(Clone, Copy)]
-pub(crate) struct Moved<'s> {
-    /// The comment lines directly above the value, line ends included.
-    pub above: &'s str,
-    pub value: &'s str,
-    /// The spaces, tabs and comment that follow the value on its line, without a comma.
-    pub note: &'s str,
-}
-
-/// Returns the start of the comment lines directly above the line where `extent` begins. Without such lines, returns
-/// the start of that line.
-fn comments_start(text: &str, extent: Span) -> usize {
-    comments_above(text, line_start(text, extent.start))
-}
-
-/// Returns the value at `path` with its comments, which are empty for a pair in braces and for an element that does not
-/// begin a line. Returns `None` if `path` names nothing, or if the value is not written as a literal.
+/// Returns the value at `path` with its comments: the lines directly above it and the comment that follows it on its
+/// line. Returns `None` if `path` names nothing, or if the value is not written as a literal.
 pub(crate) fn moved_value<'s>(
     document: Document<'s, '_>,
     path: &[&str],
-) -> Result<Option<Moved<'s>>, AllocError> {
+) -> Result<Option<Item<'s>>, AllocError> {
     let text = document.text;
     let mentions = document.mentions(path)?;
     let Some(value) = written(mentions.as_slice()) else {
@@ -45,138 +33,301 @@ pub(crate) fn moved_value<'s>(
     let (above, note) = match mentions.as_slice().first() {
         Some(PathMention::Assigned(assignment, Home::Lines)) => {
             let start = line_start(text, assignment.extent.start);
-            let above = part(text, comments_start(text, assignment.extent), start);
+            let above = part(text, document.above(start), start);
             (above, part(text, literal.end, line_stop(text, literal.end)))
         }
-        Some(PathMention::Element(_, _)) => comments_of(text, literal),
+        Some(PathMention::Assigned(_, Home::Braces(list, index))) => comments_of(
+            text, list, *index,
+        ),
+        Some(PathMention::Element(list, index)) => comments_of(text, list, *index),
         _ => ("", ""),
     };
-    Ok(Some(Moved { above, value, note }))
+    Ok(Some(Item { above, value, note }))
 }
 
-/// Returns the span of the assignment on a line, or of the element of an array in brackets, that `mention` names.
-/// Returns `None` for any other mention.
-fn extent_of(text: &str, mention: &PathMention<'_, '_>) -> Option<Span> {
-    match *mention {
-        PathMention::Assigned(assignment, Home::Lines) => Some(assignment.extent),
-        PathMention::Element(list, index) => item_span(text, list, index),
-        _ => None,
-    }
-}
-
-/// Adds to `plan` the removal of the comment lines directly above the assignment or array element at `path`. Adds
-/// nothing for any other value, or for an element that does not begin a line.
-pub(crate) fn cut_comments(
-    document: Document<'_, '_>,
-    path: &[&str],
-    plan: &mut Plan,
-) -> Result<(), AllocError> {
-    let mentions = document.mentions(path)?;
-    let Some(first) = mentions.as_slice().first() else {
-        return Ok(());
-    };
-    let Some(extent) = extent_of(document.text, first) else {
-        return Ok(());
-    };
-    let start = comments_start(document.text, extent);
-    let end = line_start(document.text, extent.start);
-    if start < end && begins_line(document.text, extent.start) {
-        plan.cut(Span { start, end })?;
-    }
-    Ok(())
-}
-
-/// Returns whether the value at `path` is an array, either in brackets or an array of tables. Returns false if `path`
-/// names nothing.
-fn is_array(document: Document<'_, '_>, path: &[&str]) -> Result<bool, AllocError> {
-    let mentions = document.mentions(path)?;
-    if let Some(value) = written(mentions.as_slice()) {
-        return Ok(matches!(&value.kind, ValKind::Array(_)));
-    }
-    Ok(match mentions.as_slice().first() {
-        Some(PathMention::Below(section, index)) => opens_element(*section, *index),
-        _ => false,
-    })
-}
-
-/// Adds to `plan` the changes that put the value `moved` at `path`: as an element if `path` leads into an array,
+/// Adds to `plan` the changes that put the value `item` at `path`: as an element if `path` leads into an array,
 /// otherwise as an entry of a table. Fails with a reason if this is not possible.
 pub(crate) fn put_moved(
     document: Document<'_, '_>,
     path: &[&str],
-    moved: Moved<'_>,
+    item: Item<'_>,
     plan: &mut Plan,
 ) -> Result<(), Stop<Reason>> {
     let [front @ .., _] = path else {
         return Err(Stop::Fault(Reason::AlreadyThere));
     };
     if is_array(document, front)? {
-        let item = Item {
-            above: moved.above,
-            text: moved.value,
-            note: moved.note,
-        };
         return insert(document, path, item, plan);
     }
-    add_lines(document, path, moved, plan)
+    put_missing(document, path, item, plan)
 }
 
-/// Returns a header, without brackets, for a table at `path`. Returns `None` if `path` is empty. Also returns `None`
-/// unless the table around `path` is the root, or a header is the first place that names this table.
-fn new_header(document: Document<'_, '_>, path: &[&str]) -> Result<Option<String>, AllocError> {
-    let [front @ .., name] = path else {
+// ---- tables and arrays of tables
+
+/// Where the sections of a moved table or array of tables are written.
+#[derive(Drop)]
+pub(crate) struct Site {
+    pub place: Place,
+    /// Whether the table becomes an element of an array of tables.
+    pub is_element: bool,
+    /// Whether only headers have to change: the target is not inside an array of tables.
+    pub is_plain: bool,
+}
+
+/// Returns whether a segment of `path` but the last names an array of tables.
+fn is_in_array(document: Document<'_, '_>, path: &[&str]) -> Result<bool, AllocError> {
+    for depth in 1..path.len() {
+        if names_array(document.mentions(front_of(path, depth))?.as_slice()) {
+            return Ok(true);
+        }
+    }
+    Ok(false)
+}
+
+/// Returns where the sections of a table that is moved to `path` are written in `document`, which lacks the table.
+/// Returns `None` if the table must be written in braces there. Fails with a reason if `path` names a value that stays
+/// there, or an element that can't be added.
+pub(crate) fn section_site(
+    document: Document<'_, '_>,
+    path: &[&str],
+) -> Result<Option<Site>, Stop<Reason>> {
+    let [front @ .., segment] = path else {
+        return Err(Stop::Fault(Reason::AlreadyThere));
+    };
+    let mentions = document.mentions(front)?;
+    if let (Some(at), false, true) = (
+        position(*segment),
+        front.is_empty(),
+        names_array(mentions.as_slice()),
+    ) {
+        let place = element_place(document, front, path, at)?;
+        return Ok(Some(Site {
+            place,
+            is_element: true,
+            is_plain: false,
+        }));
+    }
+    if written(mentions.as_slice()).is_some() {
+        return Ok(None);
+    }
+    if !document.mentions(path)?.is_empty() {
+        return Err(Stop::Fault(Reason::AlreadyThere));
+    }
+    new_site(document, path)
+}
+
+/// Returns where the sections of a table that is moved to `path` are written in `document`, where `path` names nothing
+/// yet. Returns `None` if the table must be written in braces there. Fails with `PastEnd` as `first_position` does.
+fn new_site(document: Document<'_, '_>, path: &[&str]) -> Result<Option<Site>, Stop<Reason>> {
+    let depth = known_prefix_len(document, path)?;
+    let index = first_position(rest_of(path, depth))?.map(|index| index.saturating_add(depth));
+    let end = index.unwrap_or(path.len());
+    if index.is_some() && end.saturating_add(1) < path.len() {
+        return Ok(None);
+    }
+    let Some(place) = new_place(document, front_of(path, end))? else {
         return Ok(None);
     };
-    let key = key_text(document.alloc, *name)?;
-    if front.is_empty() {
-        return Ok(Some(key));
-    }
-    let mentions = document.mentions(front)?;
-    let table = match mentions.as_slice().first() {
-        Some(PathMention::Own(section)) => {
-            document.header_text(*section, section.header.len().saturating_sub(1))
-        }
-        Some(PathMention::Below(section, index)) => document.header_text(*section, *index),
-        _ => return Ok(None),
-    };
-    Ok(Some(format!(in document.alloc; "{table}.{key}")?))
+    let is_element = index.is_some();
+    Ok(Some(Site {
+        place,
+        is_element,
+        is_plain: !is_element && !is_in_array(document, path)?,
+    }))
 }
 
-/// Returns the span of a section's header from the first part to the part at `index`, quotes included. Returns the span
-/// of the header's line if the header has no such part.
-fn header_span(text: &str, section: &Section<'_>, index: usize) -> Span {
-    let keys = section.header.as_slice();
-    match (keys.first(), keys.get(index)) {
-        (Some(first), Some(last)) => Span {
-            start: with_quotes(text, first.span).start,
-            end: with_quotes(text, last.span).end,
-        },
-        _ => section.header_span,
-    }
+/// Returns whether only headers name a value, and none of them is the header of the value if that is an element.
+pub(crate) fn are_headers(mentions: &[PathMention<'_, '_>]) -> bool {
+    mentions.iter().all(|mention| match mention {
+        PathMention::Own(section) => !section.array,
+        PathMention::Below(_, _) => true,
+        _ => false,
+    })
 }
 
-/// Adds to `plan` the changes that write `target` instead of `path` in the headers of the table, or array of tables, at
-/// `path`, and of the tables inside it. Fails with `NotLiteral` if `path` leads to an array element, if anything but
-/// headers names the value at `path`, or if `new_header` returns `None` for `target`.
+/// Returns whether a value is written in the braces of an inline table, by dotted keys.
+pub(crate) fn is_in_braces(mentions: &[PathMention<'_, '_>]) -> bool {
+    mentions.iter().any(|mention| matches!(mention, PathMention::Dotted(_, _, Home::Braces(_, _))))
+}
+
+/// Adds to `plan` the insertion of a header of the table at `path`, above the header of a value in this table, if the
+/// table exists only because of this value. `mentions` are the value's.
+pub(crate) fn keep_header(
+    document: Document<'_, '_>,
+    path: &[&str],
+    mentions: &[PathMention<'_, '_>],
+    plan: &mut Plan,
+) -> Result<(), AllocError> {
+    let table = document.mentions(path)?;
+    if path.is_empty() || !is_implied(table.as_slice(), mentions.len()) {
+        return Ok(());
+    }
+    if let Some(PathMention::Below(section, index)) = table.as_slice().first() {
+        let (header, end) = (
+            document.header_text(*section, *index),
+            line_end(document.text),
+        );
+        let at = document.above(section.header_span.start);
+        let lines = format!(in document.alloc; "[{header}]{end}{end}")?;
+        plan.put(Span { start: at, end: at }, lines)?;
+    }
+    Ok(())
+}
+
+/// Adds to `plan` the changes that write `header` instead of `path` in the headers of the table, or array of tables, at
+/// `path`, and of the tables inside it.
 pub(crate) fn rename_headers(
     document: Document<'_, '_>,
     path: &[&str],
-    target: &[&str],
+    header: &str,
     plan: &mut Plan,
-) -> Result<(), Stop<Reason>> {
-    let Some(header) = new_header(document, target)? else {
-        return Err(Stop::Fault(Reason::NotLiteral));
-    };
+) -> Result<(), AllocError> {
     for mention in document.mentions(path)? {
         let span = match mention {
-            PathMention::Own(section) if !section.array => {
-                let index = section.header.len().saturating_sub(1);
-                header_span(document.text, section, index)
-            }
-            PathMention::Below(section, index) => header_span(document.text, section, index),
-            _ => return Err(Stop::Fault(Reason::NotLiteral)),
+            PathMention::Own(section) => document.header_span(section, last_part(section)),
+            PathMention::Below(section, index) => document.header_span(section, index),
+            _ => return Ok(()),
         };
-        plan.put(span, String::from_str(document.alloc, header.as_str())?)?;
+        plan.put(span, String::from_str(document.alloc, header)?)?;
     }
     Ok(())
+}
+
+/// Appends `lines`, and a line end if the last line has none.
+fn push_lines(document: Document<'_, '_>, lines: &str, out: &mut String) -> Result<(), AllocError> {
+    out.push_str(lines)?;
+    if lines.ends_with('\n') {
+        return Ok(());
+    }
+    out.push_str(line_end(document.text))
+}
+
+/// Returns the text after the brackets of a section's header, up to the byte offset `stop`.
+fn after_header<'s>(document: Document<'s, '_>, section: &Section<'_>, stop: usize) -> &'s str {
+    let end = document.header_span(section, last_part(section)).end;
+    let rest = part(document.text, end, stop).trim_start_matches([' ', '\t']);
+    let bracket = if section.array { "]]" } else { "]" };
+    rest.strip_prefix(bracket).unwrap_or(rest)
+}
+
+/// Returns the comment lines directly above the header of the table at `path`, line ends included, and the spaces, tabs
+/// and comment after the header. Both are empty if the table has no header of its own.
+pub(crate) fn header_comments<'s>(
+    document: Document<'s, '_>,
+    path: &[&str],
+) -> Result<(&'s str, &'s str), AllocError> {
+    let text = document.text;
+    for mention in document.mentions(path)? {
+        if let PathMention::Own(section) = mention {
+            let open = section.header_span.start;
+            let above = part(text, document.above(open), line_start(text, open));
+            return Ok((
+                above,
+                after_header(document, section, line_stop(text, open)),
+            ));
+        }
+    }
+    Ok(("", ""))
+}
+
+/// Appends the section of a moved table, with its comments and with `header`, in brackets.
+fn push_own(
+    document: Document<'_, '_>,
+    section: &Section<'_>,
+    header: &str,
+    out: &mut String,
+) -> Result<(), AllocError> {
+    let (text, open) = (document.text, section.header_span.start);
+    out.push_str(part(text, document.above(open), open))?;
+    out.push_str(header)?;
+    let rest = after_header(document, section, section_lines(text, section).end);
+    push_lines(document, rest, out)
+}
+
+/// Appends the section of a table inside a moved table, with its comments. `header` replaces the header up to the part
+/// at `index`. A blank line comes first if one is above the section.
+fn push_below(
+    document: Document<'_, '_>,
+    section: &Section<'_>,
+    index: usize,
+    header: &str,
+    out: &mut String,
+) -> Result<(), AllocError> {
+    let text = document.text;
+    let (start, span) = (
+        document.above(section.header_span.start),
+        document.header_span(section, index),
+    );
+    if is_apart(text, start) {
+        out.push_str(line_end(text))?;
+    }
+    out.push_str(part(text, start, span.start))?;
+    out.push_str(header)?;
+    push_lines(
+        document,
+        part(text, span.end, section_lines(text, section).end),
+        out,
+    )
+}
+
+/// Appends the lines of an assignment, with its comments, and without the first parts of its key, up to the part at
+/// `index`.
+fn push_entry(
+    document: Document<'_, '_>,
+    assignment: &Assignment<'_>,
+    index: usize,
+    out: &mut String,
+) -> Result<(), AllocError> {
+    let (text, lines) = (document.text, assignment_lines(document.text, assignment));
+    let key = with_quotes(
+        text,
+        part_at(&assignment.parts, index.saturating_add(1)).span,
+    );
+    out.push_str(part(text, document.above(lines.start), assignment.extent.start))?;
+    push_lines(document, part(text, key.start, lines.end), out)
+}
+
+/// Returns the sections of the table, or array of tables, at `path`, with `header` instead of `path` in their headers,
+/// and with their comments. If `is_element`, the table becomes an element of an array of tables. Entries that are
+/// written by dotted keys come below the table's own header.
+pub(crate) fn sections_text(
+    document: Document<'_, '_>,
+    path: &[&str],
+    header: &str,
+    is_element: bool,
+) -> Result<String, AllocError> {
+    let end = line_end(document.text);
+    let own = if is_element {
+        format!(in document.alloc; "[[{header}]]")?
+    } else {
+        format!(in document.alloc; "[{header}]")?
+    };
+    let mut out = String::new(document.alloc);
+    let mut entries = String::new(document.alloc);
+    let mut below = String::new(document.alloc);
+    for mention in document.mentions(path)? {
+        match mention {
+            PathMention::Own(section) => push_own(document, section, own.as_str(), &mut out)?,
+            PathMention::Below(section, index) => {
+                push_below(document, section, index, header, &mut below)?;
+            }
+            PathMention::Dotted(assignment, index, _) => {
+                push_entry(document, assignment, index, &mut entries)?;
+            }
+            _ => {}
+        }
+    }
+    if out.is_empty() && (is_element || !entries.is_empty()) {
+        out.push_str(own.as_str())?;
+        out.push_str(end)?;
+    }
+    let first = out.is_empty() && entries.is_empty();
+    out.push_str(entries.as_str())?;
+    let rest = below.as_str();
+    out.push_str(if first {
+        rest.strip_prefix(end).unwrap_or(rest)
+    } else {
+        rest
+    })?;
+    Ok(out)
 }

@@ -1,16 +1,11 @@
 //! Reads and compares paths: the segments from the root of a tree to a value.
-ghost use Rattle.std.specs.Cow.{cow_str_bytes};
-ghost use Rattle.std.specs.Prelude.{◌≡◌, IfOk, Ok, map};
-ghost use Rattle.toml_span_places.specs.Dotted.{IsPath};
+ghost use Rattle.std.specs.Prelude.{◌≡◌, map};
 ghost use Rattle.toml_span_tree.specs.Nodes.{step_of};
 ghost use Rattle.toml_span_edit.specs.Paths as spec;
 
-use crate::reason::Reason;
 use std::alloc::{AllocError, Global};
-use std::borrow::CowStr;
-use toml_span::Stop;
 use toml_span::value::Step;
-use toml_span_places::{PathError, path_segments};
+use toml_span_places::PathError;
 use toml_span_tree::pointer::position;
 
 /// Returns the column and the message of `error`, with which reading `path` failed, such as `column 3: expected a key`.
@@ -19,21 +14,6 @@ pub fn path_error_text(alloc: Global, path: &str, error: &PathError) -> Result<S
     let before = path.char_indices().filter(|(at, _)| *at < error.at).count();
     let column = before.saturating_add(1);
     format!(in alloc; "column {column}: {error}")
-}
-
-/// Returns the segments of `path`, a pointer such as `/a/0` or a dotted key such as `a[0]`. Fails with `WrongPath` if
-/// `path` can't be read.
-pub(crate) fn segments_of<'p>(alloc: Global, path: &'p str) -> Result<Vec<CowStr<'p>>, Stop<Reason>>
-    ensures { IfOk result (λ segments. IsPath path.now (Ok (map cow_str_bytes segments.items))) }
-{
-    match path_segments(alloc, path) {
-        Ok(segments) => Ok(segments),
-        Err(Stop::Memory(error)) => Err(Stop::Memory(error)),
-        Err(Stop::Fault(error)) => {
-            let words = path_error_text(alloc, path, &error)?;
-            Err(Stop::Fault(Reason::WrongPath(words)))
-        }
-    }
 }
 
 /// Returns the segments of `path` after the first `count`. Returns an empty slice if `path` has fewer than `count`

@@ -1,9 +1,9 @@
 //! The replacements that make an edit.
-ghost use Rattle.std.specs.Prelude.{◌≡◌, IfOk, Some, map, string_bytes};
+ghost use Rattle.std.specs.Prelude.{◌≡◌, ◌++◌, ◌∷◌, [], IfOk, OnOk, Some, map, string_bytes};
 ghost use Rattle.toml_span_places.specs.Replace.{edit_of, replaced};
 ghost use Rattle.toml_span_edit.specs.Kept as spec;
 
-use crate::kept::{are_header_parts, replace_space};
+use crate::kept::{are_header_parts, are_insertions};
 use crate::reason::Reason;
 use std::alloc::{AllocError, Global};
 use toml_span::{Span, Stop};
@@ -34,7 +34,10 @@ impl Plan {
     }
 
     /// Adds the replacement of `span` with `text`.
-    pub(crate) fn put(&mut self, span: Span, text: String) -> Result<(), AllocError> {
+    pub(crate) fn put(&mut self, span: Span, text: String) -> Result<(), AllocError>
+        ensures { OnOk result (spec.planned self.new
+            ≡ spec.planned self.old ++ (span, string_bytes text) ∷ []) }
+    {
         self.pieces.push(Piece { span, text })?;
         Ok(())
     }
@@ -64,13 +67,13 @@ impl Plan {
         with_replaced(self.alloc, text, list.as_slice())
     }
 
-    /// Returns `text` with the replacements made. Fails with `WouldDiffer` if a replacement replaces anything but
-    /// blanks and line ends, or if a span is invalid, or overlaps or precedes an earlier one.
+    /// Returns `text` with the replacements made. Fails with `WouldDiffer` if a replacement replaces anything, or if a
+    /// span is invalid or precedes an earlier one.
     pub(crate) fn inserted(&self, text: &str) -> Result<String, Stop<Reason>>
         ensures { IfOk result (λ new. spec.IsInserted text.now (string_bytes new)) }
     {
         let list = self.replacements()?;
-        if !replace_space(text, list.as_slice()) {
+        if !are_insertions(list.as_slice()) {
             return Err(Stop::Fault(Reason::WouldDiffer));
         }
         with_replaced(self.alloc, text, list.as_slice())

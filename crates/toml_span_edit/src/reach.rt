@@ -126,7 +126,7 @@ pub(crate) fn line_start(text: &str, at: usize) -> usize
 
 /// Returns the byte offset after the first line feed at or after the offset `from`. Without such a line feed, returns
 /// the length of `text` or, if larger, `from`.
-fn after_line(text: &str, from: usize) -> usize
+pub(crate) fn after_line(text: &str, from: usize) -> usize
     ensures { result ≡ after_line text.now from }
 {
     let bytes = text.as_bytes();

@@ -3,15 +3,8 @@
 /// Why an edit was refused. A reason may come with more text, which `detail` returns.
 #[derive(Debug, Drop)]
 pub enum Reason {
-    /// The document is longer than 16 MiB.
-    TooLong,
-    /// The document is not valid UTF-8.
-    NotUtf8,
     /// The document is not valid TOML. The string is its error with line and column.
     InvalidDocument(String),
-    /// The path is neither a pointer nor a dotted key. The string says at which column reading the path failed, and
-    /// why.
-    WrongPath(String),
     /// The path does not name a value.
     Nothing,
     /// The new value is not a TOML value. For a word such as `abc`, the string is `'"abc"'?`: what was probably meant,
@@ -27,9 +20,10 @@ pub enum Reason {
     AlreadyThere,
     /// The value to which an entry would be added is not a table.
     NoTable,
-    /// The value to which an element would be added is not an array, or the array can't have an element at the position
-    /// in the path.
+    /// The value to which an element would be added is not an array, or the path does not end with a position.
     NoArray,
+    /// The path leads to an element that the array, which may be missing too, does not have.
+    PastEnd,
     /// The new element of an array of tables is not written as an inline table.
     NoInlineTable,
     /// The result would not be valid TOML. The string is its error with line and column.
@@ -42,10 +36,7 @@ impl Reason {
     /// Returns the reason as text. If `detail` returns a string that is not empty, that string continues this text.
     pub fn text(&self) -> &'static str {
         match self {
-            Reason::TooLong => "the file is larger than 16 MiB",
-            Reason::NotUtf8 => "the file is not valid UTF-8",
             Reason::InvalidDocument(_) => "the file is not valid TOML: ",
-            Reason::WrongPath(_) => "invalid path: ",
             Reason::Nothing => "there is nothing at this path",
             Reason::NoValue(None) =>
                 "the new value is not a single TOML value (strings need quotes: `'\"b\"'`)",
@@ -59,8 +50,9 @@ impl Reason {
             Reason::NoKey => "the path does not name a key",
             Reason::AlreadyThere => "this path already has a value",
             Reason::NoTable => "the path does not name a table",
-            Reason::NoArray => {
-                "the path does not name an array, or a position in one (0 to the number of elements)"
+            Reason::NoArray => "the path does not name an array, or a position in one",
+            Reason::PastEnd => {
+                "the array has no element at this position; `append` adds one at its end"
             }
             Reason::NoInlineTable => {
                 "sections define the elements of this array; the value must be an inline table"
@@ -75,7 +67,6 @@ impl Reason {
     pub fn detail(&self) -> &str {
         match self {
             Reason::InvalidDocument(fault) => fault.as_str(),
-            Reason::WrongPath(fault) => fault.as_str(),
             Reason::ResultInvalid(fault) => fault.as_str(),
             Reason::NoValue(Some(string)) => string.as_str(),
             _ => "",

@@ -1,7 +1,7 @@
 //! Removes values.
 use crate::document::Document;
-use crate::items::cut_items;
-use crate::lines::{line_end, line_stop};
+use crate::items::{cut_items, span_above};
+use crate::lines::{line_end, line_stop, point};
 use crate::mentions::{Home, PathMention};
 use crate::plan::Plan;
 use crate::reason::Reason;
@@ -59,23 +59,58 @@ fn joined<'s, 'de>(run: Run<'s, 'de>, next: Run<'s, 'de>) -> Option<Run<'s, 'de>
     }
 }
 
-/// Adds to `plan` the removal of the items of a run. Does nothing for `None`.
-fn cut_run(text: &str, run: Option<Run<'_, '_>>, plan: &mut Plan) -> Result<(), AllocError> {
-    match run {
-        Some(run) => cut_items(text, run.list, run.first, run.last, plan),
-        None => Ok(()),
+/// Adds to `plan` the removal of `span`, unless it is empty.
+fn cut_span(span: Span, plan: &mut Plan) -> Result<(), AllocError> {
+    if span.start < span.end {
+        plan.cut(span)?;
+    }
+    Ok(())
+}
+
+/// Returns the span of the comment lines directly above the lines or the item of a mention.
+fn comments_above(document: Document<'_, '_>, mention: &PathMention<'_, '_>) -> Span {
+    match (lines_of(document.text, mention), run_of(mention)) {
+        (Some(lines), _) => Span {
+            start: document.above(lines.start),
+            end: lines.start,
+        },
+        (None, Some(run)) => span_above(document.text, run.list, run.first),
+        _ => point(0),
     }
 }
 
-/// Adds to `plan` the removal of the lines and items that `lines_of` and `run_of` return for `mentions`.
-fn cut_all(
+/// Adds to `plan` the removal of the items of a run and, if `cuts_comments`, of the comment lines directly above them.
+/// Does nothing for `None`.
+fn cut_run(
     text: &str,
-    mentions: &[PathMention<'_, '_>],
+    run: Option<Run<'_, '_>>,
+    cuts_comments: bool,
     plan: &mut Plan,
 ) -> Result<(), AllocError> {
+    let Some(Run { list, first, last }) = run else {
+        return Ok(());
+    };
+    if cuts_comments {
+        cut_span(span_above(text, list, first), plan)?;
+    }
+    cut_items(text, list, first, last, plan)
+}
+
+/// Adds to `plan` the removal of the lines and items that `lines_of` and `run_of` return for `mentions` and, if
+/// `cuts_comments`, of the comment lines directly above them.
+fn cut_all(
+    document: Document<'_, '_>,
+    mentions: &[PathMention<'_, '_>],
+    cuts_comments: bool,
+    plan: &mut Plan,
+) -> Result<(), AllocError> {
+    let text = document.text;
     let mut open = None;
     for mention in mentions {
         if let Some(lines) = lines_of(text, mention) {
+            if cuts_comments {
+                cut_span(comments_above(document, mention), plan)?;
+            }
             plan.cut(lines)?;
         }
         if let Some(next) = run_of(mention) {
@@ -84,12 +119,12 @@ fn cut_all(
                 None => None,
             };
             if both.is_none() {
-                cut_run(text, open, plan)?;
+                cut_run(text, open, cuts_comments, plan)?;
             }
             open = Some(both.unwrap_or(next));
         }
     }
-    cut_run(text, open, plan)
+    cut_run(text, open, cuts_comments, plan)
 }
 
 /// Returns whether a mention names a table only on the way to a value inside the table, by a longer header or a dotted
@@ -104,7 +139,7 @@ fn passes(mention: &PathMention<'_, '_>) -> bool {
 
 /// Returns whether a table exists only because of one value in it. `table` has the mentions of the table, and `values`
 /// is the number of mentions of the value.
-fn is_implied(table: &[PathMention<'_, '_>], values: usize) -> bool {
+pub(crate) fn is_implied(table: &[PathMention<'_, '_>], values: usize) -> bool {
     table.len() == values && table.iter().all(|mention| passes(mention))
 }
 
@@ -145,29 +180,33 @@ fn keep_table(
     }
 }
 
-/// Adds to `plan` the removal of the value at `path`. A table that exists only because of this value stays as an empty
-/// table, written as a header or as `{}`. Fails with `Root` for the root, and with `Nothing` if `path` names
-/// nothing.
+/// Adds to `plan` the removal of the value at `path` and, if `cuts_comments`, of the comment lines directly above it. A
+/// table that exists only because of this value stays as an empty table, written as a header or as `{}`. Fails with
+/// `Root` for the root, and with `Nothing` if `path` names nothing.
 pub(crate) fn remove(
     document: Document<'_, '_>,
     path: &[&str],
+    cuts_comments: bool,
     plan: &mut Plan,
 ) -> Result<(), Stop<Reason>> {
     let mentions = document.mentions(path)?;
     let [front @ .., _] = path else {
         return Err(Stop::Fault(Reason::Root));
     };
-    let [_, rest @ ..] = mentions.as_slice() else {
+    let [first, rest @ ..] = mentions.as_slice() else {
         return Err(Stop::Fault(Reason::Nothing));
     };
     let table = document.mentions(front)?;
-    if !front.is_empty() && is_implied(table.as_slice(), mentions.len()) {
-        if let Some(at) = table.as_slice().first() {
-            keep_table(document, at, plan)?;
-        }
-        cut_all(document.text, rest, plan)?;
+    if front.is_empty() || !is_implied(table.as_slice(), mentions.len()) {
+        cut_all(document, mentions.as_slice(), cuts_comments, plan)?;
         return Ok(());
     }
-    cut_all(document.text, mentions.as_slice(), plan)?;
+    if cuts_comments {
+        cut_span(comments_above(document, first), plan)?;
+    }
+    if let Some(at) = table.as_slice().first() {
+        keep_table(document, at, plan)?;
+    }
+    cut_all(document, rest, cuts_comments, plan)?;
     Ok(())
 }

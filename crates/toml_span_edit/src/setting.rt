@@ -29,39 +29,39 @@ pub(crate) enum Written {
     Nowhere,
 }
 
-/// Returns how the value at `path` is written. Fails with `WouldDiffer` if `text` can't be split into sections.
+/// Returns how the value at `path` is written. `old` is the tree of `text`. Scalars are always written as literals.
+/// Fails with `WouldDiffer` if `text` can't be split into sections.
 pub(crate) fn how_written(
     alloc: Global,
     text: &str,
     path: &[&str],
+    old: &Value<'_>,
 ) -> Result<Written, Stop<Reason>> {
+    let Some(there) = value_at(path, old) else {
+        return Ok(Written::Nowhere);
+    };
+    if there.as_table().is_none() && there.as_array().is_none() {
+        return Ok(Written::Literal);
+    }
     let sections = sections_of(alloc, text)?;
     let document = Document {
         alloc,
         text,
         sections: sections.as_slice(),
     };
-    let mentions = document.mentions(path)?;
-    if written(mentions.as_slice()).is_some() {
-        return Ok(Written::Literal);
-    }
-    Ok(if mentions.is_empty() {
-        Written::Nowhere
-    } else {
-        Written::Otherwise
+    Ok(match written(document.mentions(path)?.as_slice()) {
+        Some(_) => Written::Literal,
+        None => Written::Otherwise,
     })
 }
 
-/// Returns `text` with `new` in place of `span`. Fails with `WouldDiffer` if `span` is not a valid span of `text`.
-fn with_span_replaced(
-    alloc: Global,
-    text: &str,
-    span: Span,
-    new: &str,
-) -> Result<String, Stop<Reason>>
-    ensures { IfOk result (λ out. places.replaced text.now ((span, new.now) ∷ []) ≡ Some (string_bytes out)) }
+/// Returns `text` with `new` in place of each of `spans`. Fails with `WouldDiffer` if a span is not valid in `text`, or
+/// if the spans overlap or are not in the order of the text.
+fn with_spans(alloc: Global, text: &str, spans: &[Span], new: &str) -> Result<String, Stop<Reason>>
+    ensures { IfOk result (λ out. places.replaced text.now (map (λ span. (span, new.now)) spans.now)
+        ≡ Some (string_bytes out)) }
 {
-    match replaced(alloc, text, &[span], new)? {
+    match replaced(alloc, text, spans, new)? {
         Some(out) => Ok(out),
         None => Err(Stop::Fault(Reason::WouldDiffer)),
     }
@@ -80,7 +80,7 @@ pub(crate) fn write_over(
         (string_bytes new)) }
 {
     match value_at(path, old) {
-        Some(there) => with_span_replaced(alloc, text, literal_span(text, there), value),
+        Some(there) => with_spans(alloc, text, &[literal_span(text, there)], value),
         None => Err(Stop::Fault(Reason::Nothing)),
     }
 }
@@ -99,7 +99,7 @@ pub(crate) fn set_text(
         (string_bytes new)) }
 {
     check_value(alloc, value)?;
-    match how_written(alloc, text, path)? {
+    match how_written(alloc, text, path, old)? {
         Written::Literal => write_over(alloc, text, path, value, old),
         _ if path.is_empty() => Err(Stop::Fault(Reason::Root)),
         Written::Nowhere => Err(Stop::Fault(Reason::Nothing)),
@@ -130,18 +130,6 @@ fn key_spans(document: Document<'_, '_>, path: &[&str]) -> Result<Vec<Span>, All
 {
     let places = key_places(document.alloc, document.text, document.sections)?;
     keys_at(document.alloc, path, places.as_slice())
-}
-
-/// Returns `text` with `key` in place of each of `spans`. Fails with `WouldDiffer` if a span is not valid in `text`, or
-/// if the spans overlap or are not in the order of the text.
-fn with_spans(alloc: Global, text: &str, spans: &[Span], key: &str) -> Result<String, Stop<Reason>>
-    ensures { IfOk result (λ new. places.replaced text.now (map (λ span. (span, key.now)) spans.now)
-        ≡ Some (string_bytes new)) }
-{
-    match replaced(alloc, text, spans, key)? {
-        Some(new) => Ok(new),
-        None => Err(Stop::Fault(Reason::WouldDiffer)),
-    }
 }
 
 /// Returns the text of `document` with `key` in place of all keys that name the value at `path`. Fails with

@@ -1,13 +1,16 @@
 //! Makes one edit, and checks that the new tree is the old one with only this change.
-ghost use Rattle.std.specs.Prelude.{◌≡◌, ◌++◌, IfOk, OnOk, true, codes, map, string_bytes, ◌⊎◌};
+ghost use Rattle.std.specs.Prelude.{◌≡◌, ◌++◌, [], IfOk, OnOk, Some, true, codes, map, string_bytes, ◌⊎◌};
 ghost use Rattle.toml_span_read.specs.Data.{depth_limit};
 ghost use Rattle.toml_span_tree.specs.Value.{view};
 ghost use Rattle.toml_span.specs.Parsing.{IsTree};
 ghost use Rattle.toml_span_edit.specs.Edited as spec;
 ghost use Rattle.toml_span_edit.specs.Kept as kept;
 ghost use Rattle.toml_span_edit.specs.declared.step.Destination.TheVariants.{Here, End};
+ghost use Rattle.toml_span_edit.specs.Comments.{AddsNoComment};
 ghost use Rattle.toml_span_edit.specs.Made.{local};
+ghost use Rattle.toml_span_edit.specs.Paths.{found};
 
+use crate::comments::check_comments;
 use crate::edits::{Change, Edit};
 use crate::given::{no_value, probe_text};
 use crate::made::{Local, added, changed, child, value_at};
@@ -293,46 +296,71 @@ fn check_put_back(
     }
 }
 
-/// Checks that `new` is a document whose tree is `old` with the value at `path` moved to `target`, and fails with a
-/// reason if not. `without` is the old text without the value.
+/// Returns the tree of `without`, a text without the value at `path`. `old` is the tree with this value. Fails with a
+/// reason if there are other differences.
+fn rest_of<'t>(
+    alloc: Global,
+    without: &'t str,
+    path: &[&str],
+    old: &Value<'_>,
+) -> Result<Value<'t>, Stop<Reason>>
+    ensures { IfOk result (λ rest. spec.IsGone (map (λ s. s.now) path.now) (view old.now) (view rest)) }
+{
+    let rest = new_tree(alloc, without)?;
+    if is_gone(path, old, &rest) {
+        return Ok(rest);
+    }
+    Err(Stop::Fault(Reason::WouldDiffer))
+}
+
+/// Checks that `new` is a document whose tree is `old` with `value`, the value at `path`, moved to `target`. `without`
+/// is a text without this value. Fails with a reason if one of the two texts has a different tree.
 fn check_moved(
     alloc: Global,
     without: &str,
     path: &[&str],
     target: &[&str],
+    value: &Value<'_>,
     old: &Value<'_>,
     new: &str,
 ) -> Result<(), Stop<Reason>>
+    requires { found (map (λ s. s.now) path.now) (view old.now) ≡ Some (view value.now) }
     ensures { OnOk result (spec.IsMoved (map (λ s. s.now) target.now) (map (λ s. s.now) path.now)
         (view old.now) new.now) }
 {
-    let Some(value) = value_at(path, old) else {
-        return Err(Stop::Fault(Reason::Nothing));
-    };
-    let rest = new_tree(alloc, without)?;
-    if !is_gone(path, old, &rest) {
-        return Err(Stop::Fault(Reason::WouldDiffer));
-    }
+    let rest = rest_of(alloc, without, path, old)?;
     check_put_back(alloc, target, value, &rest, new)
 }
 
-/// Returns `text` with the value at `path` moved to `target`. `old` is the tree of `text`. Fails with a reason if the
-/// move is refused.
+/// Returns `text` with `value`, the value at `path`, moved to `target`. `old` is the tree of `text`. Fails with a
+/// reason if the move is refused.
 fn move_value(
     alloc: Global,
     text: &str,
     path: &[&str],
     target: &[&str],
+    value: &Value<'_>,
     old: &Value<'_>,
 ) -> Result<String, Stop<Reason>>
+    requires { found (map (λ s. s.now) path.now) (view old.now) ≡ Some (view value.now) }
     ensures moved { IfOk result (λ new. spec.IsMoved (map (λ s. s.now) target.now) (map (λ s. s.now) path.now)
         (view old.now) (string_bytes new)) }
     ensures kept { IfOk result (λ new. kept.IsMovedText (map (λ s. s.now) path.now) (view old.now) text.now
         (string_bytes new)) }
+    ensures none { IfOk result (λ new. AddsNoComment [] text.now (string_bytes new)) }
 {
     let without = text_without(alloc, text, path, old)?;
-    let new = moved_text(alloc, text, without.as_str(), path, target)?;
-    check_moved(alloc, without.as_str(), path, target, old, new.as_str())?;
+    let new = moved_text(alloc, text, without.as_str(), path, target, value, old)?;
+    check_moved(
+        alloc,
+        without.as_str(),
+        path,
+        target,
+        value,
+        old,
+        new.as_str(),
+    )?;
+    check_comments(alloc, "", text, new.as_str())?;
     Ok(new)
 }
 
@@ -361,7 +389,10 @@ pub(crate) fn step(alloc: Global, text: &str, edit: Edit<'_>) -> Result<String, 
 {
     let old = old_tree(alloc, text)?;
     match edit.change {
-        Change::MoveTo(target) => move_value(alloc, text, edit.path, target, &old),
+        Change::MoveTo(target) => match value_at(edit.path, &old) {
+            Some(value) => move_value(alloc, text, edit.path, target, value, &old),
+            None => Err(Stop::Fault(Reason::Nothing)),
+        },
         _ => edit_value(alloc, text, edit, &old),
     }
 }

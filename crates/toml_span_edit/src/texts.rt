@@ -1,17 +1,26 @@
 //! Makes the new text of an edit, and checks which bytes of the old text it keeps.
-ghost use Rattle.std.specs.Prelude.{◌≡◌, ◌≤◌, ◌⊎◌, IfOk, false, true, map, slice_range, string_bytes};
+ghost use Rattle.std.specs.Prelude.{◌≡◌, ◌≤◌, ◌⊎◌, [], IfOk, false, true, map, slice_range, string_bytes};
 ghost use Rattle.toml_span_tree.specs.Value.{view};
+ghost use Rattle.toml_span_edit.specs.Comments.{AddsNoComment};
 ghost use Rattle.toml_span_edit.specs.Kept as spec;
 
-use crate::adding::{add, add_deep, add_table, names_array};
+use crate::adding::{add, put_lines};
+use crate::comments::check_comments;
 use crate::document::{Document, sections_of};
 use crate::edits::{Change, Edit};
 use crate::given::check_value;
 use crate::growing::{append, insert};
-use crate::items::bare;
+use crate::headed::element_text;
+use crate::items::{Item, bare};
 use crate::kept::{keeps_around, only_comments};
 use crate::lines::comments_above;
-use crate::moving::{Moved, cut_comments, moved_value, put_moved, rename_headers};
+use crate::made::value_at;
+use crate::mentions::{PathMention, last_part};
+use crate::missing::{Place, add_deep, add_table, put_section};
+use crate::moving::{
+    Site, are_headers, header_comments, is_in_braces, keep_header, moved_value, put_moved,
+    rename_headers, section_site, sections_text,
+};
 use crate::plan::Plan;
 use crate::reach::around;
 use crate::reason::Reason;
@@ -20,6 +29,7 @@ use crate::setting::{Written, how_written, renamed_text, set_text, write_over};
 use std::alloc::Global;
 use toml_span::value::Value;
 use toml_span::{Span, Stop};
+use toml_span_places::{section_lines, to_toml};
 
 // ---- what is inserted
 
@@ -41,8 +51,7 @@ fn plan(
     }
 }
 
-/// Returns `text` with `change` made at `path`, only by inserting text and replacing blanks and line ends. Fails with a
-/// reason if this is not possible.
+/// Returns `text` with `change` made at `path`, only by inserting text. Fails with a reason if this is not possible.
 fn inserted_text(
     alloc: Global,
     text: &str,
@@ -62,6 +71,22 @@ fn inserted_text(
     pieces.inserted(text)
 }
 
+/// Returns `text` with `change` made at `path`, only by inserting text, and without a comment that is not in `value`.
+/// Fails with a reason if this is not possible.
+fn added_text(
+    alloc: Global,
+    text: &str,
+    path: &[&str],
+    change: Change<'_>,
+    value: &str,
+) -> Result<String, Stop<Reason>>
+    ensures { IfOk result (λ new. spec.IsAdded value.now text.now (string_bytes new)) }
+{
+    let new = inserted_text(alloc, text, path, change)?;
+    check_comments(alloc, value, text, new.as_str())?;
+    Ok(new)
+}
+
 /// Returns `text` with `value` written over the value at `path` or, if `path` names nothing, added at `path`. `old` is
 /// the tree of `text`. Fails with `Root` for the root, with `NotLiteral` if headers or dotted keys define the value at
 /// `path`, and with another reason if `value` can't be written there.
@@ -74,31 +99,28 @@ fn set_or_added_text(
 ) -> Result<String, Stop<Reason>>
     ensures { IfOk result (λ new.
         (spec.IsWrittenOver value.now (map (λ s. s.now) path.now) (view old.now) text.now (string_bytes new))
-        ⊎ spec.IsInserted text.now (string_bytes new)) }
+        ⊎ (spec.IsAdded value.now text.now (string_bytes new))) }
 {
     check_value(alloc, value)?;
-    match how_written(alloc, text, path)? {
+    match how_written(alloc, text, path, old)? {
         Written::Literal => write_over(alloc, text, path, value, old),
         _ if path.is_empty() => Err(Stop::Fault(Reason::Root)),
         Written::Otherwise => Err(Stop::Fault(Reason::NotLiteral)),
-        Written::Nowhere => inserted_text(alloc, text, path, Change::SetOrAdd(value)),
+        Written::Nowhere => added_text(alloc, text, path, Change::SetOrAdd(value), value),
     }
 }
 
 // ---- what is removed
 
-/// Returns the text of `document` without the value at `path` and, if `cuts_comments`, without the comment lines that
-/// `cut_comments` removes. Fails with a reason if the value can't be removed.
+/// Returns the text of `document` without the value at `path` and, if `cuts_comments`, without the comment lines
+/// directly above it. Fails with a reason if the value can't be removed.
 fn removed(
     document: Document<'_, '_>,
     path: &[&str],
     cuts_comments: bool,
 ) -> Result<String, Stop<Reason>> {
     let mut pieces = Plan::new(document.alloc);
-    if cuts_comments {
-        cut_comments(document, path, &mut pieces)?;
-    }
-    remove(document, path, &mut pieces)?;
+    remove(document, path, cuts_comments, &mut pieces)?;
     pieces.applied(document.text)
 }
 
@@ -140,17 +162,17 @@ fn comments_from(text: &str, at: usize) -> usize
     ensures on { result ≤ at }
     ensures comments { spec.only_comments false (slice_range text.now result at) ≡ true }
 {
-    let start = comments_above(text, at);
+    let start = comments_above(text, 0, at);
     if start < at && only_comments(text, start, at) {
         return start;
     }
     at
 }
 
-/// Returns `text` without the value at `path` and the comment lines that `cut_comments` removes. `old` is the tree of
-/// `text`. Fails with a reason if the value can't be removed, or if bytes outside the span that `around` returns, and
-/// outside the comment lines directly above this span, would change.
-pub(crate) fn text_without(
+/// Returns `text` without the value at `path` and the comment lines directly above it. `old` is the tree of `text`.
+/// Fails with a reason if the value can't be removed, or if bytes outside the span that `around` returns, and outside
+/// the comment lines directly above this span, would change.
+fn cut_with_comments(
     alloc: Global,
     text: &str,
     path: &[&str],
@@ -170,8 +192,99 @@ pub(crate) fn text_without(
     if_around(text, comments_from(text, span.start), span.end, new)
 }
 
-/// Returns `text` with the value at `path` removed, and then `value` added at `path`. `old` is the tree of `text`.
-/// Fails with a reason if one of these steps is not possible.
+/// An element of an array of tables.
+#[derive(Drop)]
+struct Element {
+    /// Where its section begins, and the header.
+    place: Place,
+    /// Whether the array has no other elements.
+    is_only: bool,
+}
+
+/// Returns the element of an array of tables to which `path` leads. Returns `None` if `path` leads to any other value,
+/// or names nothing. Fails with `WouldDiffer` if `text` can't be split into sections.
+fn element_at(alloc: Global, text: &str, path: &[&str]) -> Result<Option<Element>, Stop<Reason>> {
+    let sections = sections_of(alloc, text)?;
+    let document = Document {
+        alloc,
+        text,
+        sections: sections.as_slice(),
+    };
+    let mentions = document.mentions(path)?;
+    let ([front @ .., _], Some(PathMention::Own(section))) = (path, mentions.as_slice().first())
+    else {
+        return Ok(None);
+    };
+    if !section.array {
+        return Ok(None);
+    }
+    let header = document.header_text(*section, last_part(*section));
+    let place = Place {
+        at: section_lines(text, *section).start,
+        header: String::from_str(alloc, header)?,
+    };
+    let is_only = document.mentions(front)?.len() == mentions.len();
+    Ok(Some(Element { place, is_only }))
+}
+
+/// Returns `text` without the array of tables that holds the value at `path`, and with `[]` in its place. `old` is the
+/// tree of `text`. Fails with a reason if this is not possible.
+fn emptied_text(
+    alloc: Global,
+    text: &str,
+    path: &[&str],
+    old: &Value<'_>,
+) -> Result<String, Stop<Reason>>
+    ensures { IfOk result (λ new. spec.IsEmptied (map (λ s. s.now) path.now) (view old.now) text.now
+        (string_bytes new)) }
+{
+    let [front @ .., _] = path else {
+        return Err(Stop::Fault(Reason::Root));
+    };
+    let without = cut_with_comments(alloc, text, front, old)?;
+    inserted_text(alloc, without.as_str(), front, Change::SetOrAdd("[]"))
+}
+
+/// Returns `text` without the value at `path`, and without the comments directly above it. If the value is the only
+/// element of an array of tables, the array becomes `[]`. `old` is the tree of `text`. Fails with a reason if the value
+/// can't be removed.
+pub(crate) fn text_without(
+    alloc: Global,
+    text: &str,
+    path: &[&str],
+    old: &Value<'_>,
+) -> Result<String, Stop<Reason>>
+    ensures { IfOk result (λ new. spec.IsRemoved (map (λ s. s.now) path.now) (view old.now) text.now
+        (string_bytes new)) }
+{
+    let is_only = match element_at(alloc, text, path)? {
+        Some(element) => element.is_only,
+        None => false,
+    };
+    if is_only {
+        emptied_text(alloc, text, path, old)
+    } else {
+        cut_with_comments(alloc, text, path, old)
+    }
+}
+
+/// Returns what `text_without` returns for `text` and `path`. Fails with `WouldDiffer` if it has a comment more.
+fn removed_text(
+    alloc: Global,
+    text: &str,
+    path: &[&str],
+    old: &Value<'_>,
+) -> Result<String, Stop<Reason>>
+    ensures { IfOk result (λ new. (spec.IsRemoved (map (λ s. s.now) path.now) (view old.now) text.now
+        (string_bytes new)) × (AddsNoComment [] text.now (string_bytes new))) }
+{
+    let new = text_without(alloc, text, path, old)?;
+    check_comments(alloc, "", text, new.as_str())?;
+    Ok(new)
+}
+
+/// Returns `text` with the value at `path` removed, and then `value` added at `path` with the tables missing on the
+/// way. `old` is the tree of `text`. Fails with a reason if one of these steps is not possible.
 fn cut_then_added(
     alloc: Global,
     text: &str,
@@ -186,43 +299,101 @@ fn cut_then_added(
     inserted_text(alloc, without.as_str(), path, Change::SetOrAdd(value))
 }
 
-/// Returns whether `path` leads to the only element of an array of tables. Fails with `WouldDiffer` if `text` can't be
-/// split into sections.
-fn is_only_element(alloc: Global, text: &str, path: &[&str]) -> Result<bool, Stop<Reason>> {
-    let [front @ .., segment] = path else {
-        return Ok(false);
-    };
-    if front.is_empty() || *segment != "0" {
-        return Ok(false);
-    }
-    let sections = sections_of(alloc, text)?;
+/// Returns `text` with `value`, an inline table, as a section with the header of `place` and at its offset.
+fn with_element(
+    alloc: Global,
+    text: &str,
+    place: &Place,
+    value: &str,
+) -> Result<String, Stop<Reason>>
+    ensures { IfOk result (λ new. spec.IsInserted text.now (string_bytes new)) }
+{
     let document = Document {
         alloc,
         text,
-        sections: sections.as_slice(),
+        sections: &[],
     };
-    let (element, array) = (document.mentions(path)?, document.mentions(front)?);
-    Ok(names_array(array.as_slice()) && element.len() == array.len())
+    let lines = element_text(document, place.header.as_str(), value)?;
+    let mut pieces = Plan::new(alloc);
+    put_lines(document, place.at, lines.as_str(), &mut pieces)?;
+    pieces.inserted(text)
 }
 
-/// Returns `text` without the value at `path`. If the value is the only element of an array of tables, the array
-/// becomes `[]`. `old` is the tree of `text`. Fails with a reason if the value can't be removed.
-fn removed_text(
+/// Returns `text` with the value at `path` removed, and with `value` as a section at `place`. `old` is the tree of
+/// `text`. Fails with a reason if one of these steps is not possible.
+fn cut_then_written(
     alloc: Global,
     text: &str,
     path: &[&str],
+    place: &Place,
+    value: &str,
     old: &Value<'_>,
 ) -> Result<String, Stop<Reason>>
-    ensures { IfOk result (λ new. spec.IsRemoved (map (λ s. s.now) path.now) (view old.now) text.now
+    ensures { IfOk result (λ new. spec.IsCutThenInserted (map (λ s. s.now) path.now) (view old.now) text.now
         (string_bytes new)) }
 {
-    if !is_only_element(alloc, text, path)? {
-        return cut_text(alloc, text, path, old);
-    }
+    let without = cut_text(alloc, text, path, old)?;
+    with_element(alloc, without.as_str(), place, value)
+}
+
+/// Returns `text` with the array that holds the value at `path` removed, and with `value` as a section at `place`.
+/// `old` is the tree of `text`. Fails with a reason if one of these steps is not possible.
+fn array_rewritten(
+    alloc: Global,
+    text: &str,
+    path: &[&str],
+    place: &Place,
+    value: &str,
+    old: &Value<'_>,
+) -> Result<String, Stop<Reason>>
+    ensures { IfOk result (λ new. spec.IsRewritten (map (λ s. s.now) path.now) (view old.now) text.now
+        (string_bytes new)) }
+{
     match path {
-        [front @ .., _] => cut_then_added(alloc, text, front, "[]", old),
+        [front @ .., _] => cut_then_written(alloc, text, front, place, value, old),
         [] => Err(Stop::Fault(Reason::WouldDiffer)),
     }
+}
+
+/// Returns `text` with `value` in place of the value at `path`, which headers or dotted keys define. `old` is the tree
+/// of `text`. Fails with a reason if this is not possible.
+fn rewritten_text(
+    alloc: Global,
+    text: &str,
+    path: &[&str],
+    value: &str,
+    old: &Value<'_>,
+) -> Result<String, Stop<Reason>>
+    ensures { IfOk result (λ new. spec.IsRewritten (map (λ s. s.now) path.now) (view old.now) text.now
+        (string_bytes new)) }
+{
+    if path.is_empty() {
+        return Err(Stop::Fault(Reason::Root));
+    }
+    let Some(Element { place, is_only }) = element_at(alloc, text, path)? else {
+        return cut_then_added(alloc, text, path, value, old);
+    };
+    if is_only {
+        return array_rewritten(alloc, text, path, &place, value, old);
+    }
+    cut_then_written(alloc, text, path, &place, value, old)
+}
+
+/// Returns what `rewritten_text` returns for these arguments. Fails with `WouldDiffer` if that has a comment that is
+/// neither in `text` nor in `value`.
+fn checked_text(
+    alloc: Global,
+    text: &str,
+    path: &[&str],
+    value: &str,
+    old: &Value<'_>,
+) -> Result<String, Stop<Reason>>
+    ensures { IfOk result (λ new. (spec.IsRewritten (map (λ s. s.now) path.now) (view old.now) text.now
+        (string_bytes new)) × (AddsNoComment value.now text.now (string_bytes new))) }
+{
+    let new = rewritten_text(alloc, text, path, value, old)?;
+    check_comments(alloc, value, text, new.as_str())?;
+    Ok(new)
 }
 
 /// Returns `text` with `value` in place of the value at `path`, which headers or dotted keys may define. `old` is the
@@ -236,23 +407,24 @@ fn replaced_text(
 ) -> Result<String, Stop<Reason>>
     ensures { IfOk result (λ new.
         (spec.IsWrittenOver value.now (map (λ s. s.now) path.now) (view old.now) text.now (string_bytes new))
-        ⊎ (spec.IsCutThenInserted (map (λ s. s.now) path.now) (view old.now) text.now (string_bytes new))) }
+        ⊎ ((spec.IsRewritten (map (λ s. s.now) path.now) (view old.now) text.now (string_bytes new))
+        × (AddsNoComment value.now text.now (string_bytes new)))) }
 {
     check_value(alloc, value)?;
-    match how_written(alloc, text, path)? {
+    match how_written(alloc, text, path, old)? {
         Written::Literal => write_over(alloc, text, path, value, old),
-        _ => cut_then_added(alloc, text, path, value, old),
+        _ => checked_text(alloc, text, path, value, old),
     }
 }
 
 // ---- what is moved
 
-/// Returns `text` with the value `moved` added at `path`. Fails with a reason if this is not possible.
+/// Returns `text` with the value `item` added at `path`. Fails with a reason if this is not possible.
 fn put_text(
     alloc: Global,
     text: &str,
     path: &[&str],
-    moved: Moved<'_>,
+    item: Item<'_>,
 ) -> Result<String, Stop<Reason>>
     ensures { IfOk result (λ new. spec.IsInserted text.now (string_bytes new)) }
 {
@@ -263,35 +435,14 @@ fn put_text(
         sections: sections.as_slice(),
     };
     let mut pieces = Plan::new(alloc);
-    put_moved(document, path, moved, &mut pieces)?;
+    put_moved(document, path, item, &mut pieces)?;
     pieces.inserted(text)
 }
 
-/// Returns the text of `document` with `target` in place of `path` in the headers of the table, or array of tables, at
-/// `path`, and of the tables inside it. Fails with a reason if this is not possible.
-fn headers_text(
-    document: Document<'_, '_>,
-    path: &[&str],
-    target: &[&str],
-) -> Result<String, Stop<Reason>>
-    ensures { IfOk result (λ new. spec.AreHeadersReplaced document.entry.text.now (string_bytes new)) }
-{
-    let mut pieces = Plan::new(document.alloc);
-    rename_headers(document, path, target, &mut pieces)?;
-    pieces.in_headers(document.text)
-}
-
-/// Returns `text` with the value at `path` moved to `target`. `without` is what `text_without` returned for `text` and
-/// `path`. Fails with a reason if the value can't be moved.
-pub(crate) fn moved_text(
-    alloc: Global,
-    text: &str,
-    without: &str,
-    path: &[&str],
-    target: &[&str],
-) -> Result<String, Stop<Reason>>
-    ensures { IfOk result (λ new. (spec.IsInserted without.now (string_bytes new))
-        ⊎ (spec.AreHeadersReplaced text.now (string_bytes new))) }
+/// Returns `text` with a header of the table around the value at `path`, if that table exists only because of this
+/// value. Only headers must name the value.
+fn kept_text(alloc: Global, text: &str, path: &[&str]) -> Result<String, Stop<Reason>>
+    ensures { IfOk result (λ new. spec.IsInserted text.now (string_bytes new)) }
 {
     let sections = sections_of(alloc, text)?;
     let document = Document {
@@ -299,9 +450,161 @@ pub(crate) fn moved_text(
         text,
         sections: sections.as_slice(),
     };
+    let mut pieces = Plan::new(alloc);
+    if let [front @ .., _] = path {
+        let mentions = document.mentions(path)?;
+        keep_header(document, front, mentions.as_slice(), &mut pieces)?;
+    }
+    pieces.inserted(text)
+}
+
+/// Returns `text` with `header` in place of `path` in the headers of the table, or array of tables, at `path`, and of
+/// the tables inside it. Fails with a reason if this is not possible.
+fn headers_text(
+    alloc: Global,
+    text: &str,
+    path: &[&str],
+    header: &str,
+) -> Result<String, Stop<Reason>>
+    ensures { IfOk result (λ new. spec.AreHeadersReplaced text.now (string_bytes new)) }
+{
+    let sections = sections_of(alloc, text)?;
+    let document = Document {
+        alloc,
+        text,
+        sections: sections.as_slice(),
+    };
+    let mut pieces = Plan::new(alloc);
+    rename_headers(document, path, header, &mut pieces)?;
+    pieces.in_headers(text)
+}
+
+/// Returns `text` with the headers of the table, or array of tables, at `path` rewritten, so that they begin with
+/// `header`. A table that exists only because of it gets a header. Fails with a reason if this is not possible.
+fn renamed_headers(
+    alloc: Global,
+    text: &str,
+    path: &[&str],
+    header: &str,
+) -> Result<String, Stop<Reason>>
+    ensures { IfOk result (λ new. spec.HasOtherHeaders text.now (string_bytes new)) }
+{
+    let kept = kept_text(alloc, text, path)?;
+    headers_text(alloc, kept.as_str(), path, header)
+}
+
+/// Returns `text` with `lines` added at `site`.
+fn put_sections(alloc: Global, text: &str, site: &Site, lines: &str) -> Result<String, Stop<Reason>>
+    ensures { IfOk result (λ new. spec.IsInserted text.now (string_bytes new)) }
+{
+    let document = Document {
+        alloc,
+        text,
+        sections: &[],
+    };
+    let mut pieces = Plan::new(alloc);
+    put_section(document, site.place.at, lines, &mut pieces)?;
+    pieces.inserted(text)
+}
+
+/// Returns where the sections of the value at `path` of `document` are written when it is moved to `target`. `without`
+/// is the text without the value. Returns `None` if the value must be written in braces or brackets there. Fails with a
+/// reason if the value can't be moved there.
+fn site_of(
+    document: Document<'_, '_>,
+    without: &str,
+    path: &[&str],
+    target: &[&str],
+    is_table: bool,
+) -> Result<Option<Site>, Stop<Reason>> {
+    let sections = sections_of(document.alloc, without)?;
+    let rest = Document {
+        alloc: document.alloc,
+        text: without,
+        sections: sections.as_slice(),
+    };
+    let found = section_site(rest, target)?;
+    if is_in_braces(document.mentions(path)?.as_slice()) {
+        return Ok(None);
+    }
+    Ok(found.filter(|site| is_table || !site.is_element))
+}
+
+/// Returns `text` with the value `value` at `path`, which headers or dotted keys define, moved to `target`. `without`
+/// is `text` without it. Fails with a reason if the value can't be moved.
+fn table_text(
+    document: Document<'_, '_>,
+    without: &str,
+    path: &[&str],
+    target: &[&str],
+    value: &Value<'_>,
+) -> Result<String, Stop<Reason>>
+    ensures { IfOk result (λ new. (spec.IsInserted without.now (string_bytes new))
+        ⊎ ((spec.HasOtherHeaders document.entry.text.now (string_bytes new))
+        ⊎ (spec.AreKeysReplaced (map (λ s. s.now) path.now) document.entry.text.now (string_bytes new)))) }
+{
+    let alloc = document.alloc;
+    let Some(site) = site_of(document, without, path, target, value.as_table().is_some())? else {
+        let text = to_toml(alloc, value)?;
+        let (above, note) = header_comments(document, path)?;
+        let value = text.as_str();
+        return put_text(alloc, without, target, Item { above, value, note });
+    };
+    let header = site.place.header.as_str();
+    if site.is_plain && are_headers(document.mentions(path)?.as_slice()) {
+        return renamed_headers(alloc, document.text, path, header);
+    }
+    let lines = sections_text(document, path, header, site.is_element)?;
+    put_sections(alloc, without, &site, lines.as_str())
+}
+
+/// Returns the new name of the value at `path` if moving it to `target` only renames its key: if both paths lead into
+/// the same table of the tree `old`. Fails with `AlreadyThere` if that table has an entry with this name.
+fn new_name<'t>(
+    path: &[&str],
+    target: &[&'t str],
+    old: &Value<'_>,
+) -> Result<Option<&'t str>, Stop<Reason>> {
+    let ([front @ .., _], [new_front @ .., name]) = (path, target) else {
+        return Ok(None);
+    };
+    let table = match value_at(front, old) {
+        Some(table) if front == new_front && table.as_table().is_some() => table,
+        _ => return Ok(None),
+    };
+    if value_at(&[*name], table).is_some() {
+        return Err(Stop::Fault(Reason::AlreadyThere));
+    }
+    Ok(Some(*name))
+}
+
+/// Returns `text` with the value `value` at `path` moved to `target`. `old` is the tree of `text`, and `without` what
+/// `text_without` returned for `text` and `path`. Fails with a reason if the value can't be moved.
+pub(crate) fn moved_text(
+    alloc: Global,
+    text: &str,
+    without: &str,
+    path: &[&str],
+    target: &[&str],
+    value: &Value<'_>,
+    old: &Value<'_>,
+) -> Result<String, Stop<Reason>>
+    ensures { IfOk result (λ new. (spec.IsInserted without.now (string_bytes new))
+        ⊎ ((spec.HasOtherHeaders text.now (string_bytes new))
+        ⊎ (spec.AreKeysReplaced (map (λ s. s.now) path.now) text.now (string_bytes new)))) }
+{
+    if let Some(name) = new_name(path, target, old)? {
+        return renamed_text(alloc, text, path, name);
+    }
+    let sections = sections_of(alloc, text)?;
+    let document = Document {
+        alloc,
+        text,
+        sections: sections.as_slice(),
+    };
     match moved_value(document, path)? {
-        Some(moved) => put_text(alloc, without, target, moved),
-        None => headers_text(document, path, target),
+        Some(item) => put_text(alloc, without, target, item),
+        None => table_text(document, without, path, target, value),
     }
 }
 
@@ -325,9 +628,10 @@ pub(crate) fn edited_text(
         Change::SetOrAdd(value) => set_or_added_text(alloc, text, path, value, old),
         Change::Rename(name) => renamed_text(alloc, text, path, name),
         Change::Remove => removed_text(alloc, text, path, old),
-        Change::Add(_) | Change::AddTable | Change::Append(_) | Change::Insert(_) => {
-            inserted_text(alloc, text, path, change)
-        }
+        Change::Add(value) => added_text(alloc, text, path, change, value),
+        Change::AddTable => added_text(alloc, text, path, change, ""),
+        Change::Append(value) => added_text(alloc, text, path, change, value),
+        Change::Insert(value) => added_text(alloc, text, path, change, value),
         Change::MoveTo(_) => Err(Stop::Fault(Reason::WouldDiffer)),
     }
 }

@@ -1,8 +1,6 @@
-use Rattle.toml_span_lex.proofs.Common.{sym, rules}
 use Rattle.toml_span_edit.proofs.Steps.{on_ok}
 use Rattle.toml_span_edit.proofs.step.check_moved.Goals as goal
 
 pub returns : goal.returns
 returns c =
-    on_ok _ _ (λ put. (_, _, sym c.in-Some.ensures, c.is_gone.ensures (search rules), put))
-    c.check_put_back.result c.check_put_back.ensures
+    on_ok _ _ (λ put. (_, _, c.requires, c.in_ok-rest.ensures, put)) c.check_put_back.result c.check_put_back.ensures

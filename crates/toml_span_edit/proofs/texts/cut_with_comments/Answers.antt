@@ -1,5 +1,5 @@
 use Rattle.toml_span_edit.proofs.Steps.{if_ok}
-use Rattle.toml_span_edit.proofs.texts.text_without.Goals as goal
+use Rattle.toml_span_edit.proofs.texts.cut_with_comments.Goals as goal
 
 pub returns : goal.returns
 returns c =

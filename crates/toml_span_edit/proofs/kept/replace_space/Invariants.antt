@@ -1,9 +1,0 @@
-use Rattle.toml_span_lex.proofs.Common.{◌≡◌, drop, map}
-use Rattle.std.specs.List.{list_all}
-use Rattle.toml_span_places.specs.Replace.{edit_of}
-use Rattle.toml_span_edit.specs.Kept.{replaces_space}
-use Rattle.toml_span_edit.proofs.kept.replace_space.Given as goal
-
-abbrev pub invariant-loop-replacement : goal.invariant-loop-replacement
-invariant-loop-replacement l =
-    list_all (replaces_space l.text) (map edit_of l.list) ≡ list_all (replaces_space l.text) (map edit_of (drop l.replacement-index l.list))

@@ -1,0 +1,289 @@
+//! Adds values with the tables and arrays missing on the way.
+use crate::adding::{names_array, put_entry, put_lines, table_entry_site};
+use crate::document::{Document, written};
+use crate::given::{check_value, key_text};
+use crate::headed::{element_text, is_inline};
+use crate::items::{Item, bare};
+use crate::lines::{is_apart, line_end, part};
+use crate::mentions::{PathMention, last_part, opens_element};
+use crate::paths::{front_of, rest_of};
+use crate::plan::Plan;
+use crate::reach::after_line;
+use crate::reason::Reason;
+use std::alloc::{AllocError, Global};
+use toml_span::Stop;
+use toml_span_places::section_lines;
+use toml_span_read::ValKind;
+use toml_span_tree::pointer::position;
+
+/// Returns the number of segments in the longest prefix of `path`, shorter than `path`, that names an existing value.
+/// The empty prefix names the root.
+pub(crate) fn known_prefix_len(
+    document: Document<'_, '_>,
+    path: &[&str],
+) -> Result<usize, AllocError> {
+    for depth in (1..path.len()).rev() {
+        if !document.mentions(front_of(path, depth))?.is_empty() {
+            return Ok(depth);
+        }
+    }
+    Ok(0)
+}
+
+/// Returns the index of the first segment after the first one that is `0`: the position of the only element of an array
+/// that is missing too. Returns `None` if there is none. Fails with `PastEnd` if such a segment is another position.
+pub(crate) fn first_position(missing: &[&str]) -> Result<Option<usize>, Stop<Reason>> {
+    let mut first = None;
+    for (index, segment) in missing.iter().enumerate().skip(1) {
+        match position(*segment) {
+            Some(0) => first = first.or(Some(index)),
+            Some(_) => return Err(Stop::Fault(Reason::PastEnd)),
+            None => {}
+        }
+    }
+    Ok(first)
+}
+
+/// Returns the dotted key whose parts have the names `parts`, each in quotes if necessary.
+fn dotted(document: Document<'_, '_>, parts: &[&str]) -> Result<String, AllocError> {
+    let mut key = String::new(document.alloc);
+    for name in parts {
+        if !key.is_empty() {
+            key.push('.')?;
+        }
+        let text = key_text(document.alloc, *name)?;
+        key.push_str(text.as_str())?;
+    }
+    Ok(key)
+}
+
+/// Returns whether the value at `path` is an array, either in brackets or an array of tables. Returns false if `path`
+/// names nothing.
+pub(crate) fn is_array(document: Document<'_, '_>, path: &[&str]) -> Result<bool, AllocError> {
+    let mentions = document.mentions(path)?;
+    if let Some(value) = written(mentions.as_slice()) {
+        return Ok(matches!(&value.kind, ValKind::Array(_)));
+    }
+    Ok(!path.is_empty() && names_array(mentions.as_slice()))
+}
+
+/// Returns the byte offset after the last section whose header names the table at `path`, and this header up to the
+/// part that names the table, without brackets. Returns the end of the text and an empty string for the root. Returns
+/// `None` if anything but headers names the table, if it is an array of tables, or if nothing names it.
+fn section_place<'s>(
+    document: Document<'s, '_>,
+    path: &[&str],
+) -> Result<Option<(usize, &'s str)>, AllocError> {
+    if path.is_empty() {
+        return Ok(Some((document.text.len(), "")));
+    }
+    let mut place = None;
+    for mention in document.mentions(path)? {
+        let (section, index) = match mention {
+            PathMention::Own(section) => (section, last_part(section)),
+            PathMention::Below(section, index) if !opens_element(section, index) => (
+                section, index,
+            ),
+            _ => return Ok(None),
+        };
+        place = Some((
+            section_lines(document.text, section).end,
+            document.header_text(section, index),
+        ));
+    }
+    Ok(place)
+}
+
+/// Where the sections of a new table can be written.
+#[derive(Drop)]
+pub(crate) struct Place {
+    /// The byte offset before which they are written.
+    pub at: usize,
+    /// The table's header, without brackets.
+    pub header: String,
+}
+
+/// Returns where the sections of a table at `path` can be written, which must name nothing, and must have no positions
+/// in missing arrays. Returns `None` if anything but headers defines the innermost table that exists.
+pub(crate) fn new_place(
+    document: Document<'_, '_>,
+    path: &[&str],
+) -> Result<Option<Place>, AllocError> {
+    let depth = known_prefix_len(document, path)?;
+    let Some((at, table)) = section_place(document, front_of(path, depth))? else {
+        return Ok(None);
+    };
+    let dot = if table.is_empty() { "" } else { "." };
+    let names = dotted(document, rest_of(path, depth))?;
+    let header = format!(in document.alloc; "{table}{dot}{names}")?;
+    Ok(Some(Place { at, header }))
+}
+
+/// Adds to `plan` the insertion of the lines `section` at the byte offset `at`. Also inserts blank lines between them
+/// and the text above and below, unless blank lines are there already.
+pub(crate) fn put_section(
+    document: Document<'_, '_>,
+    at: usize,
+    section: &str,
+    plan: &mut Plan,
+) -> Result<(), AllocError> {
+    let (text, end) = (document.text, line_end(document.text));
+    let gap = if is_apart(text, at) { "" } else { end };
+    let next = part(text, at, after_line(text, at));
+    let below = if next.trim().is_empty() { "" } else { end };
+    let lines = format!(in document.alloc; "{gap}{section}{below}")?;
+    put_lines(document, at, lines.as_str(), plan)
+}
+
+/// Adds to `plan` the insertion of the element `value` of an array of tables as a section at `place`. Fails with
+/// `NoValue` if `value` is not a TOML value, and with `NoInlineTable` if it is not an inline table.
+pub(crate) fn put_element(
+    document: Document<'_, '_>,
+    place: &Place,
+    value: &str,
+    plan: &mut Plan,
+) -> Result<(), Stop<Reason>> {
+    let lines = element_text(document, place.header.as_str(), value)?;
+    put_section(document, place.at, lines.as_str(), plan)?;
+    Ok(())
+}
+
+/// Adds to `plan` the insertion of the value `item` at `path`, which must name nothing, and must have no positions in
+/// missing arrays. Tables missing on the way get a new header or, if braces or dotted keys define the table around
+/// them, a dotted key. Fails with a reason if the insertion is not possible.
+fn put_value(
+    document: Document<'_, '_>,
+    path: &[&str],
+    item: Item<'_>,
+    plan: &mut Plan,
+) -> Result<(), Stop<Reason>> {
+    let depth = known_prefix_len(document, path)?;
+    let (table, missing) = (front_of(path, depth), rest_of(path, depth));
+    let [front @ .., name] = path else {
+        return Err(Stop::Fault(Reason::AlreadyThere));
+    };
+    if let (Some(place), true) = (new_place(document, front)?, missing.len() > 1) {
+        let Item { above, value, note } = item;
+        let (header, end) = (place.header, line_end(document.text));
+        let key = key_text(document.alloc, *name)?;
+        let lines = format!(in document.alloc; "[{header}]{end}{above}{key} = {value}{note}{end}")?;
+        put_section(document, place.at, lines.as_str(), plan)?;
+        return Ok(());
+    }
+    if is_array(document, table)?
+        && missing
+            .first()
+            .is_some_and(|name| position(*name).is_some())
+    {
+        return Err(Stop::Fault(Reason::PastEnd));
+    }
+    let target = table_entry_site(document, table)?;
+    let key = dotted(document, missing)?;
+    put_entry(document, target, key.as_str(), item, plan)?;
+    Ok(())
+}
+
+/// Adds to `plan` the insertion of an array with `value` as its only element at `path`, which must name nothing, and
+/// must have no positions in missing arrays. If `value` is an inline table, and no braces or dotted keys define the
+/// table around the array, the element is written as a section with a header `[[..]]`. Fails with a reason if the
+/// insertion is not possible.
+fn put_array(
+    document: Document<'_, '_>,
+    path: &[&str],
+    value: &str,
+    plan: &mut Plan,
+) -> Result<(), Stop<Reason>> {
+    if let (Some(place), true) = (new_place(document, path)?, is_inline(document, value)?) {
+        return put_element(document, &place, value, plan);
+    }
+    let array = format!(in document.alloc; "[{value}]")?;
+    put_value(document, path, bare(array.as_str()), plan)
+}
+
+/// Returns `value` inside nested inline tables and arrays: for each of `names`, from the outermost inward, a table
+/// whose only entry has this name or, for `0`, an array.
+fn wrapped(alloc: Global, names: &[&str], value: &str) -> Result<String, AllocError> {
+    let mut out = String::from_str(alloc, value)?;
+    for name in names.iter().rev() {
+        out = if *name == "0" {
+            format!(in alloc; "[{out}]")?
+        } else {
+            let key = key_text(alloc, *name)?;
+            format!(in alloc; "{{{key} = {out}}}")?
+        };
+    }
+    Ok(out)
+}
+
+/// Adds to `plan` the insertion of the value `item`, and of the tables and arrays missing on the way, at `path`. Fails
+/// with `AlreadyThere` if `path` names a value, with `PastEnd` if it leads to an element that is missing, other than
+/// the first one of a missing array, and with another reason if the insertion is not possible.
+pub(crate) fn put_missing(
+    document: Document<'_, '_>,
+    path: &[&str],
+    item: Item<'_>,
+    plan: &mut Plan,
+) -> Result<(), Stop<Reason>> {
+    if path.is_empty() || !document.mentions(path)?.is_empty() {
+        return Err(Stop::Fault(Reason::AlreadyThere));
+    }
+    let depth = known_prefix_len(document, path)?;
+    let Some(index) = first_position(rest_of(path, depth))? else {
+        return put_value(document, path, item, plan);
+    };
+    let at = depth.saturating_add(index);
+    let names = rest_of(path, at.saturating_add(1));
+    let element = wrapped(document.alloc, names, item.value)?;
+    put_array(document, front_of(path, at), element.as_str(), plan)
+}
+
+/// Adds to `plan` the insertion of the TOML value `value`, and of the tables and arrays missing on the way, at `path`.
+/// Fails as `put_missing` does.
+pub(crate) fn add_deep(
+    document: Document<'_, '_>,
+    path: &[&str],
+    value: &str,
+    plan: &mut Plan,
+) -> Result<(), Stop<Reason>> {
+    check_value(document.alloc, value)?;
+    put_missing(document, path, bare(value), plan)
+}
+
+/// Adds to `plan` the insertion of an array with the element `value` at `path`, which must name nothing, and of the
+/// tables and arrays missing on the way. Fails as `put_missing` does.
+pub(crate) fn append_first(
+    document: Document<'_, '_>,
+    path: &[&str],
+    value: &str,
+    plan: &mut Plan,
+) -> Result<(), Stop<Reason>> {
+    let depth = known_prefix_len(document, path)?;
+    if first_position(rest_of(path, depth))?.is_none() {
+        return put_array(document, path, value, plan);
+    }
+    let array = format!(in document.alloc; "[{value}]")?;
+    put_missing(document, path, bare(array.as_str()), plan)
+}
+
+/// Adds to `plan` the insertion of an empty table at `path`: a header or, in a table that braces or dotted keys define,
+/// an entry with `{}`. Fails as `put_missing` does.
+pub(crate) fn add_table(
+    document: Document<'_, '_>,
+    path: &[&str],
+    plan: &mut Plan,
+) -> Result<(), Stop<Reason>> {
+    let depth = known_prefix_len(document, path)?;
+    let is_plain = first_position(rest_of(path, depth))?.is_none();
+    if path.is_empty() || !document.mentions(path)?.is_empty() {
+        return Err(Stop::Fault(Reason::AlreadyThere));
+    }
+    match new_place(document, path)? {
+        Some(place) if is_plain => {
+            let (header, end) = (place.header, line_end(document.text));
+            let lines = format!(in document.alloc; "[{header}]{end}")?;
+            put_section(document, place.at, lines.as_str(), plan)?;
+            Ok(())
+        }
+        _ => put_missing(document, path, bare("{}"), plan),
+    }
+}
