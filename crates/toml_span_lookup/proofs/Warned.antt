@@ -9,7 +9,7 @@ use Rattle.toml_span_report.specs.declared.report.Report.{Report}
 use Rattle.toml_span_report.specs.declared.report.Severity.TheVariants.{Warning}
 use Rattle.toml_span_schema.specs.Valid.{valid}
 use Rattle.toml_span_schema.specs.declared.schema.Schema.{Schema}
-use Rattle.toml_span_lookup.specs.Findings.{AddsWarnings, IsChecked, IsWarning}
+use Rattle.toml_span_lookup.specs.Findings.{AddsWarnings, ChecksWith, IsWarning}
 
 pub adds-none : (reports : List ReportContent) → AddsWarnings reports reports
 adds-none reports = ([], sym (append-nil reports), λ k d within. absurd (omega arith))
@@ -27,7 +27,7 @@ adds-more old mid new report (warnings, is, all) more warns = (
   All-append IsWarning warnings (report_content report ∷ []) all (all-one (report_content report) warns),
 )
 
-pub is-checked : (schema : Schema) (root : Node) (errors reports : List Report) → valid schema schema.depth root ≡ Some (length errors == 0) →
-    AddsWarnings (map report_content errors) (map report_content reports) → IsChecked root (map report_content reports)
-is-checked schema root errors reports is adds =
-    inr (inr (schema, map report_content errors, is ∙ ap (λ n. Some (n == 0)) (sym (length-map errors report_content)), adds))
+pub checks-with : (schema : Schema) (root : Node) (errors reports : List Report) → valid schema schema.depth root ≡ Some (length errors == 0) →
+    AddsWarnings (map report_content errors) (map report_content reports) → ChecksWith schema root (map report_content reports)
+checks-with schema root errors reports is adds =
+    (map report_content errors, is ∙ ap (λ n. Some (n == 0)) (sym (length-map errors report_content)), adds)

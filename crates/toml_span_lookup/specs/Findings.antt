@@ -1,12 +1,19 @@
 -- The results of checking documents against schemas in files.
-use Rattle.std.specs.Prelude.{◌≡◌, ◌==◌, ◌⊎◌, ℕ, true, false, List, [], ◌∷◌, ◌++◌, All, Some, codes, length}
+use Rattle.std.specs.Prelude.{◌≡◌, ◌==◌, ◌⊎◌, ℕ, true, false, List, [], ◌∷◌, ◌++◌, All, Option, None, Some, codes}
+use Rattle.std.specs.Prelude.{length, string_bytes, if◌then◌else◌}
+use Rattle.std.specs.Str.{bytes_eq}
 use Rattle.toml_span_check.specs.Schemas.{Says, no_schema}
 use Rattle.toml_span_check.specs.declared.schemas.Chooser.{Chooser}
 use Rattle.toml_span_check.specs.declared.schemas.Chooser.TheVariants.{Files, Arguments}
 use Rattle.toml_span_lookup.specs.Directive.{names_schema}
+use Rattle.toml_span_lookup.specs.declared.compiling.Used.{Used}
+use Rattle.toml_span_lookup.specs.declared.lookup.Choice.{Choice}
+use Rattle.toml_span_lookup.specs.declared.lookup.Choice.TheVariants as choices
 use Rattle.toml_span_report.specs.Report.{ReportContent}
 use Rattle.toml_span_report.specs.declared.report.Severity.TheVariants.{Warning}
+use Rattle.toml_span_report.specs.Visible.{visible}
 use Rattle.toml_span_schema.specs.Valid.{valid}
+use Rattle.toml_span_schema.specs.declared.guide.Guide.{Guide}
 use Rattle.toml_span_schema.specs.declared.schema.Schema.{Schema}
 use Rattle.toml_span_tree.specs.Node.{Node}
 
@@ -29,18 +36,49 @@ IsWarning report = report.severity ≡ Warning
 abbrev pub AddsWarnings : List ReportContent → List ReportContent → Type 0
 AddsWarnings errors reports = (warnings : List ReportContent) × (reports ≡ errors ++ warnings) × All IsWarning warnings
 
--- Either the document is not checked, and the only report may be that its schema is not fetched. Or the document is
--- checked against some schema. Then the reports are errors, followed by warnings, and the list of errors is empty if
--- and only if the document is valid. Since files have no contract, this leaves open whether the document is checked,
--- and against which schema.
-abbrev pub IsChecked : Node → List ReportContent → Type 0
-IsChecked root reports =
-    (reports ≡ [])
-    ⊎ ((report : ReportContent) × (reports ≡ report ∷ []) × IsNotFetched report)
-    ⊎ ((schema : Schema) × (errors : List ReportContent) × (valid schema schema.depth root ≡ Some (length errors == 0))
-    × AddsWarnings errors reports)
+-- The reports of a document that is checked against a schema: errors, followed by warnings. There are no errors if and
+-- only if the document is valid.
+abbrev pub ChecksWith : Schema → Node → List ReportContent → Type 0
+ChecksWith schema root reports =
+    (errors : List ReportContent) × (valid schema schema.depth root ≡ Some (length errors == 0))
+    × AddsWarnings errors reports
+
+-- the compiled schema of the first file with this path; `None` if no file has the path, or if its schema can't be used
+abbrev pub guide_at : List Used → List ℕ → Option Guide
+guide_at [] path = None
+guide_at (used ∷ more) path = if bytes_eq (string_bytes used.path) path then used.guide else guide_at more path
+
+-- the error line that says what can't be done with a file, and why
+unfoldable pub complaint : List ℕ → List ℕ → List ℕ → List ℕ
+complaint what path reason =
+    codes "error: cannot " ++ what ++ codes " `" ++ visible path ++ codes "`: " ++ visible reason ++ codes "\n"
+
+-- the check of a file was not completed, and the complaint says why
+abbrev pub Complains : List ℕ → List ℕ → List ℕ → Type 0
+Complains name before after = (reason : List ℕ) × (after ≡ before ++ complaint (codes "check") name reason)
+
+-- The reports of a document whose schema was read, and the complaint before and after: those of `ChecksWith`, or none
+-- and an error in the complaint, since the check was not completed. There are no reports if the schema can't be used.
+abbrev pub ReportsOf : Option Guide → List ℕ → Node → List ReportContent → List ℕ → List ℕ → Type 0
+ReportsOf None name root reports before after = (reports ≡ []) × (after ≡ before)
+ReportsOf (Some guide) name root reports before after =
+    (ChecksWith guide.schema root reports × (after ≡ before)) ⊎ ((reports ≡ []) × Complains name before after)
+
+-- The reports of a document with this choice of a schema, among the schemas that were read.
+abbrev pub ReportsFor : List Used → Choice → List ℕ → Node → List ReportContent → List ℕ → List ℕ → Type 0
+ReportsFor used choices.None name root reports before after = (reports ≡ []) × (after ≡ before)
+ReportsFor used (choices.Remote address) name root reports before after = (reports ≡ []) × (after ≡ before)
+ReportsFor used (choices.File path) name root reports before after =
+    ReportsOf (guide_at used (string_bytes path)) name root reports before after
+ReportsFor used (choices.Unmapped address span) name root reports before after =
+    ((report : ReportContent) × (reports ≡ report ∷ []) × IsNotFetched report) × (after ≡ before)
+
+-- Since files have no contract, this leaves open which schema a document has, and whether it can be used.
+abbrev pub IsChecked : List ℕ → Node → List ReportContent → List ℕ → Type 0
+IsChecked name root reports complaint =
+    (used : List Used) × (choice : Choice) × (before : List ℕ) × ReportsFor used choice name root reports before complaint
 
 abbrev pub file_says : Says
 file_says chooser name text root reports complaint =
     (HasNoSchema chooser text × no_schema chooser name text root reports complaint)
-    ⊎ (MayHaveSchema chooser text × IsChecked root reports)
+    ⊎ (MayHaveSchema chooser text × IsChecked name root reports complaint)

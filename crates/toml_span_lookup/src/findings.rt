@@ -1,6 +1,6 @@
 //! Checks documents against schemas.
 ghost use Rattle.std.specs.Prelude.{IfOk, OnOk, map};
-ghost use Rattle.toml_span_lookup.specs.Findings.{AddsWarnings, IsChecked, IsNotFetched};
+ghost use Rattle.toml_span_lookup.specs.Findings.{AddsWarnings, ChecksWith, IsNotFetched};
 ghost use Rattle.toml_span_report.specs.Report.{report_content};
 ghost use Rattle.toml_span_tree.specs.Value.{view};
 
@@ -29,7 +29,7 @@ pub(crate) fn findings(
     schema: &Schema,
     root: &Value<'_>,
 ) -> Result<Vec<Report>, CheckError>
-    ensures { IfOk result (λ reports. IsChecked (view root.now) (map report_content reports.items)) }
+    ensures { IfOk result (λ reports. ChecksWith schema.now (view root.now) (map report_content reports.items)) }
 {
     let mut reports = schema.check(alloc, root)?;
     let found = schema.warnings(alloc, root)?;

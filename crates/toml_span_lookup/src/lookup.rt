@@ -1,6 +1,7 @@
 //! Finds the schemas of files, and checks documents against them.
-ghost use Rattle.std.specs.Prelude.{IfOk, map, string_bytes};
-ghost use Rattle.toml_span_lookup.specs.Findings.{IsChecked, file_says};
+ghost use Rattle.std.specs.Prelude.{◌≡◌, IfOk, map, option_map, string_bytes};
+ghost use Rattle.toml_span_lookup.specs.Findings as spec;
+ghost use Rattle.toml_span_lookup.specs.Findings.{ReportsFor, ReportsOf, file_says};
 ghost use Rattle.toml_span_report.specs.Report.{report_content};
 ghost use Rattle.toml_span_tree.specs.Value.{view};
 
@@ -277,8 +278,15 @@ impl Lookup {
     }
 
     /// Returns the schema at a path, or `None` if the schema has not been read or can't be used.
-    fn guide_at(&self, path: &str) -> Option<&Guide> {
-        self.used.get(self.position_of(path)?)?.guide.as_ref()
+    fn guide_at(&self, path: &str) -> Option<&Guide>
+        ensures { option_map (λ guide. guide.now) result ≡ spec.guide_at self.now.used.items path.now }
+    {
+        for used in self.used.as_slice() {
+            if used.path.as_str() == path {
+                return used.guide.as_ref();
+            }
+        }
+        None
     }
 
     /// Returns the schema of the file `name`, whose content is `text`, without reading files. Returns `None` if the
@@ -305,7 +313,8 @@ impl Lookup {
         name: &str,
         root: &Value<'_>,
     ) -> Result<Vec<Report>, AllocError>
-        ensures { IfOk result (λ reports. IsChecked (view root.now) (map report_content reports.items)) }
+        ensures { IfOk result (λ reports. ReportsOf (spec.guide_at self.old.used.items path.now) name.now (view root.now)
+            (map report_content reports.items) (string_bytes self.old.complaint) (string_bytes self.new.complaint)) }
     {
         let Some(guide) = self.guide_at(path) else {
             return Ok(Vec::new(alloc));
@@ -329,7 +338,8 @@ impl Lookup {
         name: &str,
         root: &Value<'_>,
     ) -> Result<Vec<Report>, AllocError>
-        ensures { IfOk result (λ reports. IsChecked (view root.now) (map report_content reports.items)) }
+        ensures { IfOk result (λ reports. ReportsFor self.old.used.items choice.now name.now (view root.now)
+            (map report_content reports.items) (string_bytes self.old.complaint) (string_bytes self.new.complaint)) }
     {
         match choice {
             Choice::None | Choice::Remote(_) => Ok(Vec::new(alloc)),
@@ -344,7 +354,9 @@ impl Lookup {
 
     /// Returns the error lines that say why catalogs or schemas can't be used, or why documents can't be checked. Each
     /// line is returned once.
-    pub fn take_complaint(&mut self, alloc: Global) -> String {
+    pub fn take_complaint(&mut self, alloc: Global) -> String
+        ensures { result ≡ self.old.complaint }
+    {
         mem::replace(&mut self.complaint, String::new(alloc))
     }
 

@@ -1,4 +1,7 @@
 //! Says why schemas and catalogs can't be used.
+ghost use Rattle.std.specs.Prelude.{◌≡◌, ◌++◌, OnOk, string_bytes};
+ghost use Rattle.toml_span_lookup.specs.Findings as spec;
+
 use crate::addresses::{is_remote, path_of_address, without_fragment};
 use crate::catalog::json_fault;
 use crate::options::Place;
@@ -7,12 +10,16 @@ use toml_span_report::visible::push_visible;
 
 /// Adds an error line about the file at `path`, which may be a URL, to `complaint`. `what` names the failed action,
 /// such as `read the catalog`, and `reason` says why it failed.
+#[tactic(auto, unfolding(crate::specs::Findings::complaint))]
 pub(crate) fn complain(
     complaint: &mut String,
     what: &str,
     path: &str,
     reason: &str,
-) -> Result<(), AllocError> {
+) -> Result<(), AllocError>
+    ensures { OnOk result (string_bytes complaint.new
+        ≡ string_bytes complaint.old ++ spec.complaint what.now path.now reason.now) }
+{
     complaint.push_str("error: cannot ")?;
     complaint.push_str(what)?;
     complaint.push_str(" `")?;

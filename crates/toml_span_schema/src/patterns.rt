@@ -5,6 +5,7 @@ ghost use Rattle.std.specs.Char.{encode_utf8};
 ghost use Rattle.std.specs.Option.{is_some};
 ghost use Rattle.std.specs.Str.{chars};
 ghost use Rattle.regex.specs.Patterns.{default_config};
+ghost use Rattle.regex.specs.Strings.{regex_source};
 ghost use Rattle.regex_syntax.specs.Grammar.{read};
 ghost use Rattle.toml_span_schema.specs.Patterns.{character, escape, in_class_after, is_pattern, plain_character};
 ghost use Rattle.toml_span_schema.specs.Patterns.{translated};
@@ -131,7 +132,9 @@ pub(crate) fn compile_pattern(
     alloc: Global,
     pattern: &str,
     place: &str,
-) -> Result<Regex, SchemaError> {
+) -> Result<Regex, SchemaError>
+    ensures { IfOk result (λ regex. regex_source regex ≡ translated pattern.now) }
+{
     let text = translated(alloc, pattern)?;
     match Regex::new(alloc, text.as_str()) {
         Ok(regex) => Ok(regex),

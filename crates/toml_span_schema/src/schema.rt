@@ -42,7 +42,9 @@ impl Schema {
     }
 
     /// Sets whether `check` reports strings that violate the keyword `format`. By default, `check` reports them.
-    pub fn set_formats(&mut self, on: bool) {
+    pub fn set_formats(&mut self, on: bool)
+        ensures { self.new ≡ record self.old { formats = on } }
+    {
         self.formats = on;
     }
 
