@@ -1,5 +1,5 @@
 pub mod DiagnosticLemmas
-pub mod DocumentLemmas
 pub mod EditLemmas
 pub mod PositionLemmas
 pub mod RoundTrip
+mod PartialLemmas

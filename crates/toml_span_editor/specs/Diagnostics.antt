@@ -21,6 +21,8 @@ use Rattle.toml_span_editor.specs.declared.diagnostics.Diagnostic.{Diagnostic}
 use Rattle.toml_span_editor.specs.declared.diagnostics.Related.{Related}
 use Rattle.toml_span_editor.specs.declared.positions.Encoding.{Encoding}
 use Rattle.toml_span_editor.specs.declared.positions.Range.{Range}
+use Rattle.toml_span_editor.specs.Labels.{main_span}
+use Rattle.toml_span_editor.specs.Partial.{ArePartialReports}
 use Rattle.toml_span_editor.specs.Positions.{range_of}
 
 -- a diagnostic as plain data
@@ -42,11 +44,6 @@ diagnostic_content d = record {
   message = string_bytes d.message;
   related = map related_content d.related.items;
 }
-
--- the span of the first primary label, or 0..0 without such a label
-abbrev pub main_span : List ReportLabel → Span
-main_span [] = record { start = 0; end = 0 }
-main_span (label ∷ labels) = if label.primary then label.span else main_span labels
 
 -- the text `out` followed by a line that consists of `front` and `line`; `out` alone if `line` is empty
 unfoldable pub with_line : List ℕ → List ℕ → List ℕ → List ℕ
@@ -94,13 +91,20 @@ AreDocumentReports says version chooser name text root reports complaint =
     (lacks found : List ReportContent) × Lacks version name text lacks × says chooser name text root found complaint
     × (reports ≡ lacks ++ found)
 
+-- `reports` are the reports on the text with errors `text`: first those that `Checks` allows, then those of the schema.
+abbrev pub AreTextReports : Says → Chooser → List ℕ → List ℕ → List ReportContent → Type 0
+AreTextReports says chooser name text reports =
+    (errors found : List ReportContent) × Checks text errors × ArePartialReports says chooser name text found
+    × (reports ≡ errors ++ found)
+
 -- `reports` are the reports on `text`, the content of the file `name`. If `text` is valid TOML, they and `complaint`
--- are as in `AreDocumentReports`. Otherwise, they are the reports that `Checks` allows, and `complaint` is empty.
+-- are as in `AreDocumentReports`. Otherwise, they are as in `AreTextReports`, and `complaint` is empty.
 abbrev pub AreReports : Says → Version → Chooser → List ℕ → List ℕ → List ReportContent → List ℕ → Type 0
 AreReports says version chooser name text reports complaint =
     ((root : Value) × IsTree text depth_limit root
     × AreDocumentReports says version chooser name text (view root) reports complaint)
-    ⊎ ((error : Error) × IsRefusal text depth_limit (Fault error) × Checks text reports × (complaint ≡ []))
+    ⊎ ((error : Error) × IsRefusal text depth_limit (Fault error) × AreTextReports says chooser name text reports
+    × (complaint ≡ []))
 
 -- `diagnostics` are the reports on the text (see `AreReports`) as an editor shows them, in the same order.
 abbrev pub Diagnoses : Says → Version → Chooser → List ℕ → Encoding → List ℕ → List DiagnosticContent → List ℕ

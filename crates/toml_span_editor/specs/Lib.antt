@@ -1,8 +1,11 @@
 pub mod Changes
 pub mod Conversions
 pub mod Diagnostics
+pub mod Documents
 pub mod Edits
 pub mod Formatting
+pub mod Labels
 pub mod Laws
+pub mod Partial
 pub mod Positions
 pub mod Renaming

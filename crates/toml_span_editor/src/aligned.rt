@@ -3,8 +3,8 @@ use crate::edits::Edit;
 use std::alloc::{AllocError, Global};
 use toml_span_lex::span::Span;
 
-/// Returns the lines that a span touches. A span that ends at the start of a line does not touch that line, unless it is
-/// empty.
+/// Returns the lines that a span touches. A span that ends at the start of a line does not touch that line, unless it
+/// is empty.
 pub(crate) fn touched_lines(text: &str, span: Span) -> Span {
     let before = text.get(..span.start).unwrap_or("");
     let start = match before.rfind('\n') {
@@ -61,8 +61,8 @@ impl<'t> Aligned<'t> {
         self.new_bytes = self.new_bytes.saturating_add(kept_bytes(line));
     }
 
-    /// Appends the edit that replaces the lines of the old text by those of the new text, if they differ. The next lines
-    /// belong together.
+    /// Appends the edit that replaces the lines of the old text by those of the new text, if they differ. The next
+    /// lines belong together.
     fn end(&mut self, alloc: Global) -> Result<(), AllocError> {
         let mut text = String::new(alloc);
         for line in self.new.get(self.first..self.next).unwrap_or(&[]) {

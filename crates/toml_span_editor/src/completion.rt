@@ -1,62 +1,164 @@
-//! Proposes text to write at an offset.
-use crate::document::Document;
-use crate::keys::{has_literal, value_of};
+//! Suggests what can be written at an offset.
+use crate::context::{Context, ExpectedText, NamedStep, context_at};
+use crate::document::{Document, read};
+use crate::keys::value_of;
+use crate::schemas::subschemas_at;
+use crate::siblings::{booleans, sibling_keys};
+use crate::suggestions::{key_suggestions, value_suggestions};
 use std::alloc::{AllocError, Global};
 use toml_span::Value;
-use toml_span::value::{Step, nodes};
-use toml_span_places::{literal_span, quote_key, section_places};
+use toml_span::value::Step;
+use toml_span_lex::span::Span;
+use toml_span_places::{TableForm, TablePlace, section_places, table_places};
+use toml_span_schema::Guide;
 
-/// The maximum number of elements of an array to search for keys.
-const MOST_TABLES: usize = 100;
+/// The maximum number of suggestions.
+const MOST: usize = 500;
 
-/// The maximum number of proposals.
-const MOST: usize = 200;
-
-/// A key or value that can be written at an offset.
-#[derive(Debug, Drop)]
-pub struct Proposal {
-    /// The text to write.
-    pub text: String,
-    /// For a key, the kind of the value that the key has in another table. For a value, `boolean`.
-    pub kind: &'static str,
-    pub is_key: bool,
-}
-
-/// The part of a statement that contains an offset.
-#[derive(Clone, Copy, Debug, PartialEq, Eq)]
-pub enum StatementPart {
+/// The kind of a suggestion.
+#[derive(Clone, Copy)]
+pub enum SuggestionKind {
     Key,
+    /// The name of a table, in a header.
+    Table,
     Value,
-    /// A header, a comment, or another part for which nothing is proposed.
-    Other,
 }
 
-/// Returns the text before the offset `at` on the same line, or an empty text if `at` is not a character boundary.
-fn line_front(text: &str, at: usize) -> &str {
-    let front = text.get(..at).unwrap_or("");
-    front.rsplit('\n').next().unwrap_or("")
+/// A key, table or value that can be written at an offset.
+#[derive(Drop)]
+pub struct Suggestion {
+    pub kind: SuggestionKind,
+    /// The key or value as TOML.
+    pub label: String,
+    /// For a key or table, the kinds of its values, as in `string or table, required`. For a value, `default` if it is
+    /// the default. May be empty.
+    pub detail: String,
+    /// The schema's documentation of a key or table, in Markdown. Empty for a value, and if there is none.
+    pub documentation: String,
+    pub is_required: bool,
+    pub is_deprecated: bool,
+    /// The span that the suggestion replaces.
+    pub span: Span,
+    /// The text that replaces `span`.
+    pub text: String,
+    /// An LSP snippet to use in place of `text`, if there is one: for a new key, `=` and a placeholder for the value
+    /// follow.
+    pub snippet: Option<String>,
 }
 
-/// Returns whether a text has only ASCII letters, as in `true`, or is empty.
-fn is_word(text: &str) -> bool {
-    text.chars().all(|c| c.is_ascii_alphabetic())
+/// What can be written at an offset.
+#[derive(Drop)]
+pub struct Completion {
+    pub suggestions: Vec<Suggestion>,
+    /// Whether suggestions are left out because there are too many. Others may be listed if more is typed.
+    pub is_incomplete: bool,
 }
 
-/// Returns the part of a statement at an offset. `front` is the text before the offset on the same line.
-fn part_of(front: &str) -> StatementPart {
-    let front = front.trim_ascii_start();
-    match front.rsplit_once('=') {
-        Some((_, value)) if is_word(value.trim_ascii_start()) => StatementPart::Value,
-        Some(_) => StatementPart::Other,
-        None if front.starts_with('[') || front.contains('#') || front.contains('.') =>
-            StatementPart::Other,
-        None => StatementPart::Key,
+/// The place for which suggestions are made.
+#[derive(Clone, Copy)]
+pub(crate) struct Site<'t> {
+    pub(crate) expected: ExpectedText,
+    /// The span that a suggestion replaces.
+    pub(crate) typed: Span,
+    /// The part of the replaced text that is before the cursor, without quotes.
+    pub(crate) front: &'t str,
+    /// The text from the first character after `typed` that is not a blank.
+    pub(crate) rest: &'t str,
+    /// Whether a value is expected directly after `=`.
+    pub(crate) is_tight: bool,
+    /// Whether another element or pair follows, from which a comma must separate what is written.
+    pub(crate) is_followed: bool,
+    /// Whether the replaced text has only letters, or is empty.
+    pub(crate) is_word: bool,
+    /// The offset of the cursor.
+    pub(crate) at: usize,
+}
+
+/// The table that a key belongs to.
+#[derive(Clone, Copy)]
+pub(crate) struct Outer<'d, 's, 'p, 't> {
+    pub(crate) document: &'d Document<'t>,
+    /// The path of the table.
+    pub(crate) steps: &'s [Step<'p>],
+    /// The table, if the document has it.
+    pub(crate) own: Option<&'d Value<'t>>,
+    /// Where the document names tables. Empty unless the key is in a header.
+    pub(crate) tables: &'s [TablePlace<'p>],
+    /// The names of keys that an inline table has, whether or not it can be read.
+    pub(crate) written: &'s [String],
+}
+
+/// Returns whether `label` has the bytes of `front` in order, in either case, with others between them.
+fn is_matched(front: &str, label: &str) -> bool {
+    let mut left = front.as_bytes();
+    for byte in label.bytes() {
+        left = match left {
+            [first, rest @ ..] if first.eq_ignore_ascii_case(&byte) => rest,
+            _ => left,
+        };
     }
+    left.is_empty()
+}
+
+/// Returns the labels of the suggestions to list, and whether others are left out: if there are more than `MOST`, those
+/// that have the characters before the cursor in order, and at most `MOST` of them.
+pub(crate) fn narrowed<'n>(
+    alloc: Global,
+    labels: Vec<&'n str>,
+    site: Site<'_>,
+) -> Result<(Vec<&'n str>, bool), AllocError> {
+    if labels.len() <= MOST {
+        return Ok((labels, false));
+    }
+    let mut kept = Vec::new(alloc);
+    for label in labels {
+        if kept.len() < MOST && is_matched(site.front, label) {
+            kept.push(label)?;
+        }
+    }
+    Ok((kept, true))
+}
+
+/// Returns whether something can be added before `context.rest`, which does not begin with a blank.
+fn may_be_added(context: &Context<'_>) -> bool {
+    let is_header = matches!(
+        context.expected,
+        ExpectedText::Table | ExpectedText::TableInArray
+    );
+    match context.rest.as_bytes().first() {
+        None | Some(b'\n' | b'\r' | b'#' | b',' | b']' | b'}' | b'=') => true,
+        Some(b'.') => is_header,
+        _ => context.is_followed,
+    }
+}
+
+/// Returns the place for which suggestions are made at the offset `at`. Returns `None` if nothing can be written there.
+fn site_of<'t>(text: &'t str, context: &Context<'t>, at: usize) -> Option<Site<'t>> {
+    let typed = context.typed;
+    let is_new = typed.start == typed.end;
+    if context.expected == ExpectedText::Other || (is_new && !may_be_added(context)) {
+        return None;
+    }
+    if typed.start > at || typed.start > typed.end {
+        return None;
+    }
+    let front = text.get(typed.start..at)?;
+    let replaced = text.get(typed.start..typed.end)?;
+    Some(Site {
+        expected: context.expected,
+        typed,
+        front: front.trim_start_matches(|c| c == '"' || c == '\''),
+        rest: context.rest,
+        is_tight: is_new && text.get(..at)?.ends_with('='),
+        is_followed: context.is_followed,
+        is_word: replaced.chars().all(|c| c.is_ascii_alphabetic()),
+        at,
+    })
 }
 
 /// Returns the path of the table to which an assignment at the offset `at` belongs. The path is that of the last header
 /// before `at`, or empty before the first header.
-pub(crate) fn table_path<'d>(
+fn table_path<'d>(
     alloc: Global,
     document: &'d Document<'_>,
     at: usize,
@@ -70,126 +172,222 @@ pub(crate) fn table_path<'d>(
     Ok(path)
 }
 
-/// Returns the index of the last step that is a position in an array, or `None` if no step is a position.
-fn last_position(path: &[Step<'_>]) -> Option<usize> {
+/// Appends a step to `steps`.
+fn push_step<'p>(step: &'p NamedStep, steps: &mut Vec<Step<'p>>) -> Result<(), AllocError> {
+    steps.push(match step {
+        NamedStep::Key(name) => Step::Key(name.as_str()),
+        NamedStep::Position(at) => Step::Position(*at),
+    })?;
+    Ok(())
+}
+
+/// Returns the position of the last table that a header in double brackets before the offset `at` adds to the array at
+/// a path, or `None` if there is none.
+pub(crate) fn last_element(
+    tables: &[TablePlace<'_>],
+    path: &[Step<'_>],
+    at: usize,
+) -> Option<usize> {
     let mut found = None;
-    for (index, step) in path.iter().enumerate() {
-        if let Step::Position(_) = step {
-            found = Some(index);
+    for table in tables {
+        if let [front @ .., Step::Position(position)] = table.path.as_slice() {
+            if table.form == TableForm::Element && table.span.end <= at && front == path {
+                found = Some(*position);
+            }
         }
     }
     found
 }
 
-/// Returns whether a proposal has this text.
-fn is_proposed(proposals: &[Proposal], text: &str) -> bool {
-    proposals
-        .iter()
-        .any(|proposal| proposal.text.as_str() == text)
-}
-
-/// Returns whether `value` is a table with the key `name`. Returns `false` for `None`.
-pub(crate) fn has_key(value: Option<&Value<'_>>, name: &str) -> bool {
-    let Some(table) = value.and_then(|value| value.as_table()) else {
-        return false;
-    };
-    table.iter().any(|(key, _)| key.name.as_ref() == name)
-}
-
-/// Appends a proposal for each key of `table` that `own` lacks and that is not proposed yet. Stops at `MOST` proposals.
-/// Appends nothing if `table` is not a table.
-fn push_keys(
+/// Returns the path for `front`, the first parts of a header at the offset `at`. After each part that leads to an array
+/// of tables, adds the position of the array's last table before the header.
+fn header_steps<'p>(
     alloc: Global,
-    table: &Value<'_>,
-    own: Option<&Value<'_>>,
-    proposals: &mut Vec<Proposal>,
-) -> Result<(), AllocError> {
-    let Some(table) = table.as_table() else {
-        return Ok(());
-    };
-    for (key, value) in table.iter() {
-        let text = quote_key(alloc, key.name.as_ref())?;
-        let is_new = !has_key(own, key.name.as_ref())
-            && !is_proposed(proposals.as_slice(), text.as_str());
-        if is_new && proposals.len() < MOST {
-            let kind = value.type_str();
-            proposals.push(Proposal {
-                text,
-                kind,
-                is_key: true,
-            })?;
-        }
-    }
-    Ok(())
-}
-
-/// Returns proposals for keys of the table to which an assignment at the offset `at` belongs (see `table_path`). If the
-/// table is an element of an array or inside one, they are keys that the table lacks and that tables at the same place
-/// in the array's other elements have. Otherwise, there are no proposals.
-fn sibling_keys(
-    alloc: Global,
-    document: &Document<'_>,
+    tables: &[TablePlace<'_>],
+    front: &'p [NamedStep],
     at: usize,
-) -> Result<Vec<Proposal>, AllocError> {
-    let mut proposals = Vec::new(alloc);
-    let path = table_path(alloc, document, at)?;
-    let path = path.as_slice();
-    let Some(index) = last_position(path) else {
-        return Ok(proposals);
-    };
-    let own = value_of(&document.root, path);
-    let above = path.get(..index).unwrap_or(&[]);
-    let below = path.get(index.saturating_add(1)..).unwrap_or(&[]);
-    let Some(array) = value_of(&document.root, above).and_then(|value| value.as_array()) else {
-        return Ok(proposals);
-    };
-    for element in array.iter().take(MOST_TABLES) {
-        if let Some(table) = value_of(element, below) {
-            push_keys(alloc, table, own, &mut proposals)?;
+) -> Result<Vec<Step<'p>>, AllocError> {
+    let mut steps = Vec::new(alloc);
+    for step in front {
+        push_step(step, &mut steps)?;
+        if let Some(last) = last_element(tables, steps.as_slice(), at) {
+            steps.push(Step::Position(last))?;
         }
     }
-    Ok(proposals)
+    Ok(steps)
 }
 
-/// Returns whether the offset `at` is inside the literal of a value, such as a string of several lines.
-fn is_in_value(alloc: Global, document: &Document<'_>, at: usize) -> Result<bool, AllocError> {
-    for node in nodes(alloc, &document.root)? {
-        let span = literal_span(document.text, node.value);
-        if span.start < at && at < span.end && has_literal(document.text, node.value) {
-            return Ok(true);
+/// Returns where the document names tables, if `expected` is a part of a header.
+fn tables_of<'d>(
+    alloc: Global,
+    document: &'d Document<'_>,
+    expected: ExpectedText,
+) -> Result<Vec<TablePlace<'d>>, AllocError> {
+    match expected {
+        ExpectedText::Table | ExpectedText::TableInArray => {
+            table_places(alloc, document.sections.as_slice())
+        }
+        _ => Ok(Vec::new(alloc)),
+    }
+}
+
+/// Returns `context.path` as a path from the root of `document`. `context` describes the offset `at`.
+fn steps_of<'p>(
+    alloc: Global,
+    document: &'p Document<'_>,
+    tables: &[TablePlace<'_>],
+    at: usize,
+    context: &'p Context<'_>,
+) -> Result<Vec<Step<'p>>, AllocError> {
+    let path = context.path.as_slice();
+    if matches!(
+        context.expected,
+        ExpectedText::Table | ExpectedText::TableInArray
+    ) {
+        return header_steps(alloc, tables, path, at);
+    }
+    let mut steps = table_path(alloc, document, at)?;
+    for step in path {
+        push_step(step, &mut steps)?;
+    }
+    Ok(steps)
+}
+
+/// Returns the suggestions of the schema `guide` for a key of the table `outer` or, if a value is expected, for the
+/// value at `outer.steps`. Returns `None` where a key or a part of a header is expected, if there is no key to suggest.
+/// Also returns `None` where a value is expected, if there is no value to suggest and the schema does not restrict the
+/// value's kind.
+fn guided(
+    alloc: Global,
+    guide: &Guide,
+    outer: Outer<'_, '_, '_, '_>,
+    site: Site<'_>,
+) -> Result<Option<Completion>, AllocError> {
+    let found = subschemas_at(alloc, guide, &outer.document.root, outer.steps)?;
+    if site.expected == ExpectedText::Value {
+        return value_suggestions(alloc, guide, &found, site);
+    }
+    let made = key_suggestions(alloc, guide, &found, outer, site)?;
+    Ok(if made.suggestions.is_empty() {
+        None
+    } else {
+        Some(made)
+    })
+}
+
+/// Returns the table at the path `steps`.
+fn outer_of<'d, 's, 'p, 't>(
+    document: &'d Document<'t>,
+    steps: &'s [Step<'p>],
+    tables: &'s [TablePlace<'p>],
+    written: &'s [String],
+) -> Outer<'d, 's, 'p, 't> {
+    Outer {
+        document,
+        steps,
+        own: value_of(&document.root, steps),
+        tables,
+        written,
+    }
+}
+
+/// Returns a list without suggestions.
+fn nothing(alloc: Global) -> Completion {
+    Completion {
+        suggestions: Vec::new(alloc),
+        is_incomplete: false,
+    }
+}
+
+/// Returns what can be written at `site`, in the table `outer` (see `completion_at`).
+fn completed(
+    alloc: Global,
+    guide: Option<&Guide>,
+    outer: Outer<'_, '_, '_, '_>,
+    site: Site<'_>,
+) -> Result<Completion, AllocError> {
+    if let Some(known) = guide {
+        if let Some(made) = guided(alloc, known, outer, site)? {
+            return Ok(made);
         }
     }
-    Ok(false)
+    let suggestions = match site.expected {
+        ExpectedText::Key => sibling_keys(alloc, outer, site)?,
+        ExpectedText::Value => booleans(alloc, site)?,
+        _ => Vec::new(alloc),
+    };
+    Ok(Completion {
+        suggestions,
+        is_incomplete: false,
+    })
 }
 
-/// Returns the proposals `true` and `false`.
-fn booleans(alloc: Global) -> Result<Vec<Proposal>, AllocError> {
-    let mut proposals = Vec::new(alloc);
-    for word in ["true", "false"] {
-        proposals.push(Proposal {
-            text: String::from_str(alloc, word)?,
-            kind: "boolean",
-            is_key: false,
-        })?;
+/// Returns what can be written at `site`, which is in `context` (see `completion_at`).
+fn completion_in<'p>(
+    alloc: Global,
+    guide: Option<&Guide>,
+    document: &'p Document<'_>,
+    context: &'p Context<'_>,
+    site: Site<'_>,
+) -> Result<Completion, AllocError> {
+    let tables = tables_of(alloc, &*document, site.expected)?;
+    let steps = steps_of(alloc, &*document, tables.as_slice(), site.at, &*context)?;
+    let outer = outer_of(
+        &*document,
+        steps.as_slice(),
+        tables.as_slice(),
+        context.names.as_slice(),
+    );
+    let made = completed(alloc, guide, outer, site)?;
+    if site.expected == ExpectedText::Key && made.suggestions.is_empty() {
+        return open_siblings(alloc, &*context, site);
     }
-    Ok(proposals)
+    Ok(made)
 }
 
-/// Returns what can be written at the byte offset `at`. For a value, the proposals are `true` and `false`. For a key in
-/// a section whose table is an element of an array or inside one, they are keys that this table lacks and that tables
-/// at the same place in the array's other elements have. Elsewhere, the list is empty.
+/// Returns suggestions of the keys that similar tables in the statement of an inline table have. The statement need not
+/// be closed. Returns none if the statement can't be read up to the table.
+fn open_siblings(
+    alloc: Global,
+    context: &Context<'_>,
+    site: Site<'_>,
+) -> Result<Completion, AllocError> {
+    let mut made = nothing(alloc);
+    let Some(document) = read(alloc, context.front.as_str())? else {
+        return Ok(made);
+    };
+    let mut steps = Vec::new(alloc);
+    for step in &context.path {
+        push_step(step, &mut steps)?;
+    }
+    let tables = Vec::new(alloc);
+    let outer = outer_of(
+        &document,
+        steps.as_slice(),
+        tables.as_slice(),
+        context.names.as_slice(),
+    );
+    made.suggestions = sibling_keys(alloc, outer, site)?;
+    Ok(made)
+}
+
+/// Returns what can be written at the byte offset `at`: keys that the table at `at` lacks, values or, in a header,
+/// names of tables. They are those of the schema `guide`. Without a schema, or where it does not say what can be
+/// written, they are the booleans or the keys that similar tables have: tables at the same place in the other elements
+/// of an array or in the other tables of a table, and inline tables before `at` in the same statement. The list is
+/// empty in a comment, and where neither a key nor a value can be added.
 ///
 /// `document` is as much of `text` as can be read (see `readable`). Fails if an allocation fails.
-pub fn proposals(
+pub fn completion_at<'d>(
     alloc: Global,
-    text: &str,
-    document: &Document<'_>,
+    guide: Option<&Guide>,
+    text: &'d str,
+    document: &'d Document<'_>,
     at: usize,
-) -> Result<Vec<Proposal>, AllocError> {
-    match part_of(line_front(text, at)) {
-        StatementPart::Key if is_in_value(alloc, document, at)? => Ok(Vec::new(alloc)),
-        StatementPart::Key => sibling_keys(alloc, document, at),
-        StatementPart::Value => booleans(alloc),
-        StatementPart::Other => Ok(Vec::new(alloc)),
-    }
+) -> Result<Completion, AllocError> {
+    let context = context_at(alloc, text, at)?;
+    let Some(site) = site_of(text, &context, at) else {
+        return Ok(nothing(alloc));
+    };
+    completion_in(alloc, guide, &*document, &context, site)
 }

@@ -1,21 +1,22 @@
 //! Finds out what is being written at an offset. The text need not be valid.
+use crate::walk::{Next, Opened, Segment, Walk, is_name, literal_end};
 use std::alloc::{AllocError, Global};
-use toml_span::value::Step;
 use toml_span_lex::span::Span;
 use toml_span_lex::stop::Stop;
 use toml_span_lex::tokenizer::Tokenizer;
-use toml_span_lex::tokens::Token;
+use toml_span_syntax::pieces::{Kind, Piece, pieces};
+use toml_span_syntax::statements::{Statement, statements};
 
 /// A step of a path, like `Step`, but with an owned name.
-#[derive(Debug, Drop)]
-pub(crate) enum Segment {
+#[derive(Drop)]
+pub(crate) enum NamedStep {
     Key(String),
     /// The position of an element of an array.
     Position(usize),
 }
 
 /// The kind of text that can be written at an offset.
-#[derive(Clone, Copy, Debug, PartialEq, Eq)]
+#[derive(Clone, Copy, PartialEq, Eq)]
 pub(crate) enum ExpectedText {
     /// A part of the key of an assignment.
     Key,
@@ -29,308 +30,255 @@ pub(crate) enum ExpectedText {
 }
 
 /// The text that is being written at an offset: its kind and its place in the tree.
-#[derive(Debug, Drop)]
-pub(crate) struct Context {
+#[derive(Drop)]
+pub(crate) struct Context<'t> {
     pub(crate) expected: ExpectedText,
     /// For a value, its path. For a part of a key, the path of the table that contains it. Both paths begin at the
     /// table of the section. For a part of a header, the parts before it.
-    pub(crate) path: Vec<Segment>,
-    /// Directly in an inline table, the first parts of the table's keys so far. Otherwise empty.
+    pub(crate) path: Vec<NamedStep>,
+    /// Directly in an inline table, the first parts of the table's other keys. Otherwise empty.
     pub(crate) names: Vec<String>,
+    /// Directly in an inline table, the statement up to the table, with `{}` in place of the table and with the
+    /// brackets around it closed. Otherwise empty.
+    pub(crate) front: String,
     /// The span of the word or string that a suggestion replaces. Empty if nothing is replaced.
     pub(crate) typed: Span,
+    /// The text from the first character after `typed` that is not a blank.
+    pub(crate) rest: &'t str,
+    /// Whether nothing is replaced, and an element of the same array or a pair of the same inline table follows.
+    pub(crate) is_followed: bool,
 }
 
-/// The part of a statement that is expected next.
-#[derive(Clone, Copy, Debug, PartialEq, Eq)]
-enum Next {
-    Key,
-    /// A period or `=`.
-    AfterKey,
-    Value,
-    /// A comma, a closing bracket or brace, or the end of a line.
-    AfterValue,
-    /// A part of a header.
-    Header,
-    /// A period or the end of a header.
-    AfterHeader,
+/// A word or string that a suggestion replaces: the number of pieces before it, and its span. The span is empty if
+/// there is none.
+#[derive(Clone, Copy)]
+struct Typed {
+    before: usize,
+    span: Span,
 }
 
-/// An inline table or an array that is not closed yet.
-#[derive(Debug, Drop)]
-enum Opened {
-    /// An inline table. `length` is the number of steps of its path, and `names` are the first parts of its keys so
-    /// far.
-    Table { length: usize, names: Vec<String> },
-    /// An array. `length` is the number of steps of its path, and `position` the position of its current element.
-    Array { length: usize, position: usize },
-}
-
-/// The state after the tokens before an offset have been read.
-#[derive(Drop)]
-struct Scanner {
-    next: Next,
-    /// Whether the statement is a header in double brackets.
-    is_in_array: bool,
-    /// The path, so far, of the key, header or value that is being read.
-    path: Vec<Segment>,
-    /// The open inline tables and arrays, the outermost first.
-    opened: Vec<Opened>,
-}
-
-/// Appends a segment to `steps`.
-pub(crate) fn push_step<'p>(
-    segment: &'p Segment,
-    steps: &mut Vec<Step<'p>>,
-) -> Result<(), AllocError> {
-    steps.push(match segment {
-        Segment::Key(name) => Step::Key(name.as_str()),
-        Segment::Position(at) => Step::Position(*at),
-    })?;
-    Ok(())
-}
-
-impl Scanner {
-    /// Begins a new statement.
-    fn begin(&mut self) {
-        self.next = Next::Key;
-        self.is_in_array = false;
-        self.path.clear();
-        self.opened.clear();
-    }
-
-    /// Adds `name` to the names of the innermost inline table, if `name` is the first part of a key in this table.
-    fn push_first(&mut self, alloc: Global, name: &str) -> Result<(), AllocError> {
-        match self.opened.pop() {
-            Some(Opened::Table { length, mut names }) => {
-                if self.next == Next::Key && self.path.len() == length {
-                    names.push(String::from_str(alloc, name)?)?;
-                }
-                self.opened.push(Opened::Table { length, names })?;
-                Ok(())
-            }
-            Some(Opened::Array { length, position }) => {
-                self.opened.push(Opened::Array { length, position })?;
-                Ok(())
-            }
-            None => Ok(()),
+/// Returns the number of pieces that begin before the offset `at`.
+fn count_before(pieces: &[Piece], at: usize) -> usize {
+    for (count, piece) in pieces.iter().enumerate() {
+        if piece.start >= at {
+            return count;
         }
     }
+    pieces.len()
+}
 
-    /// Updates the state for the word or string `name`: a part of a key, a part of a header, or a value. Where none of
-    /// these is expected, changes nothing.
-    fn take_name(&mut self, alloc: Global, name: &str) -> Result<(), AllocError> {
-        self.push_first(alloc, name)?;
-        self.next = match self.next {
-            Next::Key => Next::AfterKey,
-            Next::Header => Next::AfterHeader,
-            Next::Value => {
-                self.next = Next::AfterValue;
-                return Ok(());
-            }
-            _ => return Ok(()),
-        };
-        self.path
-            .push(Segment::Key(String::from_str(alloc, name)?))?;
-        Ok(())
-    }
-
-    /// Updates the state for `[`: the first or second bracket of a header, or the bracket that opens an array.
-    /// Elsewhere, changes nothing.
-    fn take_bracket(&mut self) -> Result<(), AllocError> {
-        match self.next {
-            Next::Key if self.path.is_empty() && self.opened.is_empty() => {
-                self.next = Next::Header;
-                Ok(())
-            }
-            Next::Header if self.path.is_empty() => {
-                self.is_in_array = true;
-                Ok(())
-            }
-            Next::Value => {
-                let length = self.path.len();
-                self.opened.push(Opened::Array {
-                    length,
-                    position: 0,
-                })?;
-                self.path.push(Segment::Position(0))?;
-                Ok(())
-            }
-            _ => Ok(()),
+/// Returns the first piece of the last statement that begins before the piece at `count` or with it, and the position
+/// after the statement.
+fn statement_at(statements: &[Statement], count: usize) -> (usize, usize) {
+    let mut found = (0, 0);
+    for statement in statements {
+        if statement.first > count {
+            return found;
         }
+        found = (statement.first, statement.end);
     }
+    found
+}
 
-    /// Updates the state for `{`: opens an inline table if a value is expected. Elsewhere, changes nothing.
-    fn take_brace(&mut self, alloc: Global) -> Result<(), AllocError> {
-        if self.next != Next::Value {
-            return Ok(());
-        }
-        self.next = Next::Key;
-        self.opened.push(Opened::Table {
-            length: self.path.len(),
-            names: Vec::new(alloc),
-        })?;
-        Ok(())
-    }
-
-    /// Updates the state for `]` or `}`: closes the innermost inline table or array, if there is one.
-    fn close(&mut self) {
-        match self.opened.pop() {
-            Some(Opened::Table { length, .. } | Opened::Array { length, .. }) => {
-                self.path.truncate(length);
-                self.next = Next::AfterValue;
-            }
-            None => {}
-        }
-    }
-
-    /// Updates the state for a comma: a key is expected next in an inline table, and an element in an array. Elsewhere,
-    /// changes nothing.
-    fn take_comma(&mut self) -> Result<(), AllocError> {
-        match self.opened.pop() {
-            Some(Opened::Table { length, names }) => {
-                self.path.truncate(length);
-                self.next = Next::Key;
-                self.opened.push(Opened::Table { length, names })?;
-                Ok(())
-            }
-            Some(Opened::Array { length, position }) => {
-                let position = position.saturating_add(1);
-                self.path.truncate(length);
-                self.next = Next::Value;
-                self.opened.push(Opened::Array { length, position })?;
-                self.path.push(Segment::Position(position))?;
-                Ok(())
-            }
-            None => Ok(()),
-        }
-    }
-
-    /// Updates the state for `token`, the next token of the text.
-    fn take(&mut self, alloc: Global, token: &Token<'_>) -> Result<(), AllocError> {
-        match token {
-            Token::Newline if self.opened.is_empty() => {
-                self.begin();
-                Ok(())
-            }
-            Token::Keylike(name) => self.take_name(alloc, *name),
-            Token::String { val, .. } => self.take_name(alloc, val.as_ref()),
-            Token::LeftBracket => self.take_bracket(),
-            Token::LeftBrace => self.take_brace(alloc),
-            Token::Comma => self.take_comma(),
-            Token::RightBracket | Token::RightBrace => {
-                self.close();
-                Ok(())
-            }
-            Token::Period | Token::Equals => {
-                self.next = match (self.next, token) {
-                    (Next::AfterKey, Token::Period) => Next::Key,
-                    (Next::AfterHeader, Token::Period) => Next::Header,
-                    (Next::AfterKey, _) => Next::Value,
-                    (next, _) => next,
-                };
-                Ok(())
-            }
-            _ => Ok(()),
-        }
-    }
-
-    /// Returns what is being written. `typed` is the span that a suggestion replaces.
-    fn context(self, alloc: Global, typed: Span) -> Context {
-        let expected = match (self.next, self.is_in_array) {
-            (Next::Key, _) => ExpectedText::Key,
-            (Next::Value, _) => ExpectedText::Value,
-            (Next::Header, false) => ExpectedText::Table,
-            (Next::Header, true) => ExpectedText::TableInArray,
-            _ => ExpectedText::Other,
-        };
-        let Scanner {
-            path,
-            mut opened,
-            ..
-        } = self;
-        let names = match opened.pop() {
-            Some(Opened::Table { names, .. }) => names,
-            _ => Vec::new(alloc),
-        };
-        Context {
-            expected,
-            path,
-            names,
-            typed,
-        }
+/// Returns the word or single-line string that begins at the offset `at`, after `count` pieces, or an empty span.
+fn next_typed(pieces: &[Piece], count: usize, at: usize) -> Typed {
+    let end = match pieces.get(count) {
+        Some(
+            Piece {
+                kind: Kind::Bare | Kind::String(false) | Kind::Faulty(false),
+                start,
+                end,
+            },
+        ) if *start == at => *end,
+        _ => at,
+    };
+    Typed {
+        before: count,
+        span: Span { start: at, end },
     }
 }
 
-/// Returns `span`, the span of `token`, if a suggestion at the offset `at` replaces the token: a word, or a single-line
-/// string that ends after `at`. Returns `None` for any other token.
-fn typed_in(token: &Token<'_>, span: Span, at: usize) -> Option<Span> {
-    match token {
-        Token::Keylike(_) => Some(span),
-        Token::String {
-            multiline: false,
-            ..
-        } if at < span.end => Some(span),
-        _ => None,
+/// Returns the word or single-line string at the offset `at`, which `count` pieces begin before. A string that ends at
+/// the offset does not count. Returns `None` in a comment or in a multi-line string.
+fn typed_at(pieces: &[Piece], count: usize, at: usize) -> Option<Typed> {
+    let before = count.saturating_sub(1);
+    let last = match pieces.get(before) {
+        Some(last) if count > 0 => *last,
+        _ => return Some(next_typed(pieces, count, at)),
+    };
+    let end = match last.kind {
+        Kind::Comment | Kind::Open(true) => return None,
+        Kind::String(true) | Kind::Faulty(true) if at < last.end => return None,
+        Kind::String(false) | Kind::Faulty(false) if at < last.end => last.end,
+        Kind::Bare => last.end,
+        Kind::Open(false) => at,
+        _ => return Some(next_typed(pieces, count, at)),
+    };
+    let span = Span {
+        start: last.start,
+        end,
+    };
+    Some(Typed { before, span })
+}
+
+/// Returns the name that a piece of `text`, a part of a key, spells: the text of the piece if it is not valid.
+fn name_of(alloc: Global, text: &str, piece: Piece) -> Result<String, AllocError> {
+    let text = text.get(piece.start..piece.end).unwrap_or("");
+    match Tokenizer::new(text).table_key(alloc) {
+        Ok(key) => String::from_str(alloc, key.name.as_ref()),
+        Err(Stop::Memory(error)) => Err(error),
+        Err(Stop::Fault(_)) => String::from_str(alloc, text),
     }
 }
 
-/// Returns whether an offset at the end of the token belongs to the token, as it does for a word, string or comment.
-fn is_typed(token: &Token<'_>) -> bool {
-    matches!(
-        token,
-        Token::Keylike(_) | Token::String { .. } | Token::Comment(_)
-    )
-}
-
-/// Returns whether the bytes from `start` to `at` begin with a quote and contain no line feed. Returns `false` if
-/// `start` is after `at`.
-fn is_open_string(text: &str, start: usize, at: usize) -> bool {
-    if start > at {
-        return false;
+/// Returns `segments` with the names of the keys.
+fn named(
+    alloc: Global,
+    text: &str,
+    pieces: &[Piece],
+    segments: &[Segment],
+) -> Result<Vec<NamedStep>, AllocError> {
+    let mut path = Vec::new(alloc);
+    for segment in segments {
+        match *segment {
+            Segment::Element(position) => path.push(NamedStep::Position(position))?,
+            Segment::Key(at) => if let Some(piece) = pieces.get(at) {
+                path.push(NamedStep::Key(name_of(alloc, text, *piece)?))?;
+            },
+        }
     }
-    let front = text.get(start..at).unwrap_or("");
-    (front.starts_with('"') || front.starts_with('\'')) && !front.contains('\n')
+    Ok(path)
 }
 
-/// Returns whether there is a line feed between two offsets. Returns `false` if `start` is after `end`.
-fn has_line_end(text: &str, start: usize, end: usize) -> bool {
-    start <= end && text.get(start..end).unwrap_or("").contains('\n')
+/// Returns the first parts of the keys of the inline table that the piece at `open` opens, up to the piece at `end`.
+/// Leaves out the piece at `typed`.
+fn names_in(
+    alloc: Global,
+    text: &str,
+    pieces: &[Piece],
+    open: usize,
+    end: usize,
+    typed: usize,
+) -> Result<Vec<String>, AllocError> {
+    let mut names = Vec::new(alloc);
+    let mut walk = Walk::new(alloc);
+    walk.open(open, true)?;
+    for at in open.saturating_add(1)..end.min(pieces.len()) {
+        if walk.opened.is_empty() {
+            break;
+        }
+        let is_first = walk.next == Next::Key && walk.path.is_empty() && is_name(pieces[at].kind);
+        if is_first && at != typed {
+            names.push(name_of(alloc, text, pieces[at])?)?;
+        }
+        walk.take(at, pieces[at].kind)?;
+    }
+    Ok(names)
+}
+
+/// Returns the statement that begins at the offset `start`, up to the innermost of the inline tables and arrays
+/// `opened`, with `{}` in place of that one and with the others closed.
+fn closed_front(
+    alloc: Global,
+    text: &str,
+    pieces: &[Piece],
+    start: usize,
+    opened: &[Opened],
+) -> Result<String, AllocError> {
+    let mut front = String::new(alloc);
+    let [outer @ .., inner] = opened else {
+        return Ok(front);
+    };
+    let end = match pieces.get(inner.at) {
+        Some(piece) => piece.start,
+        None => start,
+    };
+    if start <= end {
+        front.push_str(text.get(start..end).unwrap_or(""))?;
+    }
+    front.push_str("{}")?;
+    for one in outer.iter().rev() {
+        front.push(if one.is_table { '}' } else { ']' })?;
+    }
+    Ok(front)
+}
+
+/// Returns the kind of text that is expected after a walk.
+fn expected_after(walk: &Walk) -> ExpectedText {
+    match walk.next {
+        Next::Key => ExpectedText::Key,
+        Next::Value => ExpectedText::Value,
+        Next::Header if walk.is_in_array => ExpectedText::TableInArray,
+        Next::Header => ExpectedText::Table,
+        Next::AfterKey | Next::AfterValue | Next::AfterHeader | Next::Rest => ExpectedText::Other,
+    }
+}
+
+/// Returns whether a word, a string, an array or an inline table begins with the first of the pieces from the position
+/// `from` to `end` that is not a blank, line end or comment.
+fn is_followed(pieces: &[Piece], from: usize, end: usize) -> bool {
+    for piece in pieces.get(from..end).unwrap_or(&[]) {
+        match piece.kind {
+            Kind::Blank | Kind::LineEnd | Kind::Comment => (),
+            Kind::Mark(mark) => return matches!(mark, b'[' | b'{' | b'+'),
+            _ => return true,
+        }
+    }
+    false
+}
+
+/// Returns the context of an offset at which nothing can be written.
+fn nothing_at<'t>(alloc: Global, at: usize) -> Context<'t> {
+    Context {
+        expected: ExpectedText::Other,
+        path: Vec::new(alloc),
+        names: Vec::new(alloc),
+        front: String::new(alloc),
+        typed: Span { start: at, end: at },
+        rest: "",
+        is_followed: false,
+    }
 }
 
 /// Returns what is being written at the byte offset `at` of a text, which need not be valid.
-pub(crate) fn context_at(alloc: Global, text: &str, at: usize) -> Result<Context, AllocError> {
-    let mut scanner = Scanner {
-        next: Next::Key,
-        is_in_array: false,
-        path: Vec::new(alloc),
-        opened: Vec::new(alloc),
+pub(crate) fn context_at<'t>(
+    alloc: Global,
+    text: &'t str,
+    at: usize,
+) -> Result<Context<'t>, AllocError> {
+    let list = pieces(alloc, text)?;
+    let pieces = list.as_slice();
+    let count = count_before(pieces, at);
+    let (first, end) = statement_at(statements(alloc, pieces)?.as_slice(), count);
+    let mut context = nothing_at(alloc, at);
+    let Some(typed) = typed_at(pieces, count, at) else {
+        return Ok(context);
     };
-    let mut tokenizer = Tokenizer::new(text);
-    for _ in 0..text.len() {
-        let start = tokenizer.current();
-        if start >= at {
-            break;
-        }
-        let read = tokenizer.step(alloc);
-        let end = tokenizer.current();
-        match read {
-            Ok(None) => break,
-            Ok(Some((_, token))) if at <= end && is_typed(&token) => {
-                if let Some(typed) = typed_in(&token, Span { start, end }, at) {
-                    return Ok(scanner.context(alloc, typed));
-                }
-                scanner.next = Next::AfterValue;
-                break;
-            }
-            Ok(Some((_, token))) => scanner.take(alloc, &token)?,
-            Err(Stop::Memory(error)) => return Err(error),
-            Err(Stop::Fault(_)) if is_open_string(text, start, at) => {
-                return Ok(scanner.context(alloc, Span { start, end: at }));
-            }
-            Err(Stop::Fault(_)) if has_line_end(text, start, end) => scanner.begin(),
-            Err(Stop::Fault(_)) => {}
-        }
+    let mut walk = Walk::new(alloc);
+    for position in first..typed.before.min(pieces.len()) {
+        walk.take(position, pieces[position].kind)?;
     }
-    Ok(scanner.context(alloc, Span { start: at, end: at }))
+    context.expected = expected_after(&walk);
+    context.typed = typed.span;
+    let is_new = typed.span.start == typed.span.end;
+    if context.expected == ExpectedText::Value && !is_new {
+        context.typed.end = typed.span.end.max(literal_end(pieces, typed.before));
+    }
+    let rest = text.get(context.typed.end..).unwrap_or("");
+    context.rest = rest.trim_start_matches(|c| c == ' ' || c == '\t');
+    context.path = named(alloc, text, pieces, walk.path.as_slice())?;
+    let Some(opened) = walk.opened.last() else {
+        return Ok(context);
+    };
+    let is_pair = opened.is_table && context.expected == ExpectedText::Key;
+    let is_element = !opened.is_table && context.expected == ExpectedText::Value;
+    context.is_followed = is_new
+        && (is_pair || is_element)
+        && is_followed(pieces, typed.before, end);
+    if is_pair {
+        context.names = names_in(alloc, text, pieces, opened.at, end, typed.before)?;
+        let start = pieces.get(first).map_or(0, |piece| piece.start);
+        context.front = closed_front(alloc, text, pieces, start, walk.opened.as_slice())?;
+    }
+    Ok(context)
 }

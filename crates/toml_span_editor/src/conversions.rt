@@ -1,7 +1,9 @@
 //! Converts tables and arrays to other forms, such as an inline table to a section.
-ghost use Rattle.std.specs.Prelude.{IfOk, IfSome};
+ghost use Rattle.std.specs.Prelude.{IfOk, IfSome, map};
 ghost use Rattle.toml_span_editor.specs.Conversions.{ConvertsBy};
+ghost use Rattle.toml_span_read.specs.Data.{parsed_section};
 
+use crate::converted::is_converted_at;
 use crate::document::Document;
 use crate::edits::{Rewritten, differences};
 use std::alloc::{AllocError, Global};
@@ -48,13 +50,17 @@ pub fn converting(
     conversion: Conversion,
     at: usize,
 ) -> Result<Option<Rewritten>, AllocError>
-    ensures { IfOk result (λ made. IfSome made (ConvertsBy conversion document.now.text.now)) }
+    ensures { IfOk result (λ made. IfSome made (ConvertsBy conversion at document.now.text.now
+        (map parsed_section document.now.sections.items))) }
 {
     let text = document.text;
     let sections = document.sections.as_slice();
     let Some(new) = converted(alloc, text, sections, conversion, at)? else {
         return Ok(None);
     };
+    if !is_converted_at(alloc, document, conversion, at, new.as_str())? {
+        return Ok(None);
+    }
     let edits = differences(alloc, text, new.as_str())?;
     Ok(Some(Rewritten { edits, text: new }))
 }

@@ -8,8 +8,9 @@ ghost use Rattle.toml_span_editor.specs.Diagnostics as spec;
 use crate::document::Document;
 use crate::duplicates::without_duplicate;
 use crate::edits::{Edit, differences, edited};
+use crate::partial::partial_reports;
 use crate::positions::Range;
-use crate::spans::touches;
+use crate::spans::{main_span, touches};
 use crate::table::PositionTable;
 use std::alloc::{AllocError, Global};
 use toml_span::de::parse;
@@ -23,14 +24,14 @@ use toml_span_report::{Report, Severity};
 use toml_span_tree::Label;
 
 /// A range of the text with a message that explains a diagnostic.
-#[derive(Debug, Drop)]
+#[derive(Drop)]
 pub struct Related {
     pub range: Range,
     pub message: String,
 }
 
 /// A report as an editor shows it.
-#[derive(Debug, Drop)]
+#[derive(Drop)]
 pub struct Diagnostic {
     /// The range of the first primary label or, without such a label, the start of the text.
     pub range: Range,
@@ -44,7 +45,7 @@ pub struct Diagnostic {
 }
 
 /// A repair of an error.
-#[derive(Debug, Drop)]
+#[derive(Drop)]
 pub struct Repair {
     /// What the repair does: the first help of the report or, without help, the report's message. "did you mean `a`?"
     /// becomes "write `a`". For a duplicate key, the title is "remove this duplicate key".
@@ -53,18 +54,6 @@ pub struct Repair {
     pub diagnostic_index: usize,
     pub edits: Vec<Edit>,
     pub is_safe: bool,
-}
-
-/// Returns the span of the first primary label, or `0..0` if no label is primary.
-fn main_span(labels: &[Label<()>]) -> Span
-    ensures { result ≡ spec.main_span (map label_content labels.now) }
-{
-    for label in labels {
-        if label.primary {
-            return label.span;
-        }
-    }
-    Span { start: 0, end: 0 }
 }
 
 /// Appends a line with `front` and `text`, or nothing if `text` is empty.
@@ -184,7 +173,7 @@ fn diagnostics_of(
 }
 
 /// The diagnostics of a text, and any reason why the text can't be checked against its schema.
-#[derive(Debug, Drop)]
+#[derive(Drop)]
 pub struct Diagnosed {
     pub diagnostics: Vec<Diagnostic>,
     /// Error lines that say why the text can't be checked against its schema. Empty if it can, if it has no schema, or
@@ -216,8 +205,10 @@ fn document_reports<S: Schemas>(
     })
 }
 
-/// Returns the reports of `check` on a text with errors. For a text without errors, returns the result of
-/// `document_reports`. `name` is the name of the file.
+/// Returns the reports of `check` on a text with errors, followed by those of the schema on what can be read (see
+/// `partial_reports`). For a text without errors, returns the result of `document_reports`. `name` is the name of the
+/// file.
+#[tactic(auto, using(crate::proofs::DiagnosticLemmas::reports_append))]
 fn text_reports<S: Schemas>(
     alloc: Global,
     version: Version,
@@ -232,16 +223,22 @@ fn text_reports<S: Schemas>(
     match parse(alloc, text) {
         Ok(root) => document_reports(alloc, version, chooser, name, text, &root, schemas),
         Err(Stop::Memory(error)) => Err(error),
-        Err(Stop::Fault(_error)) => Ok(SchemaReports {
-            reports: check(alloc, text)?,
-            complaint: String::new(alloc),
-        }),
+        Err(Stop::Fault(_error)) => {
+            let mut reports = check(alloc, text)?;
+            let mut found = partial_reports(alloc, chooser, name, text, schemas)?;
+            reports.append(&mut found)?;
+            Ok(SchemaReports {
+                reports,
+                complaint: String::new(alloc),
+            })
+        }
     }
 }
 
 /// Returns the diagnostics of the text of `table`, in the order in which `toml-span check` prints reports. For a text
-/// with errors, they are the reports of `check`. For valid TOML, they report syntax that `version` lacks, and then what
-/// `schemas` finds. `name` is the name of the file. Fails if an allocation fails.
+/// with errors, they are the reports of `check`, and then what `schemas` finds in what can be read, except for what may
+/// be wrong. For valid TOML, they report syntax that `version` lacks, and then what `schemas` finds. `name` is the name
+/// of the file. Fails if an allocation fails.
 pub fn diagnostics<S: Schemas>(
     alloc: Global,
     table: &PositionTable<'_>,

@@ -11,14 +11,14 @@ use toml_span_lex::span::Span;
 use toml_span_places::{Replacement, replace_all};
 
 /// A span of a text, and the text that replaces it.
-#[derive(Debug, Drop)]
+#[derive(Drop)]
 pub struct Edit {
     pub span: Span,
     pub text: String,
 }
 
 /// Edits of a text, and the new text that they produce.
-#[derive(Debug, Drop)]
+#[derive(Drop)]
 pub struct Rewritten {
     pub edits: Vec<Edit>,
     pub text: String,

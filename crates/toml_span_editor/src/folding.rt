@@ -1,14 +1,14 @@
-//! Finds the parts of a document that an editor can fold.
-use crate::comments::comment_spans;
-use crate::document::Document;
-use crate::keys::has_literal;
+//! Finds the parts of a text that an editor can fold. The text need not be valid.
+use crate::spans::span_of;
 use std::alloc::{AllocError, Global};
-use toml_span::value::nodes;
 use toml_span_lex::span::Span;
-use toml_span_places::{literal_span, section_places};
+use toml_span_syntax::brackets::closes;
+use toml_span_syntax::heads::StatementKind;
+use toml_span_syntax::pieces::{Kind, Piece, pieces};
+use toml_span_syntax::statements::{Statement, statements};
 
 /// A part of a document that can be folded.
-#[derive(Clone, Copy, Debug, PartialEq, Eq)]
+#[derive(Clone, Copy)]
 pub struct Fold {
     pub span: Span,
     pub is_comment: bool,
@@ -48,38 +48,105 @@ fn is_next_line(text: &str, from: usize, to: usize) -> bool {
 }
 
 /// Appends a fold for each group of several comments on consecutive lines with nothing else between them.
-fn push_comments(alloc: Global, text: &str, folds: &mut Vec<Fold>) -> Result<(), AllocError> {
+fn push_comments(text: &str, pieces: &[Piece], folds: &mut Vec<Fold>) -> Result<(), AllocError> {
     let mut group = Span { start: 0, end: 0 };
-    for comment in comment_spans(alloc, text)? {
-        if is_next_line(text, group.end, comment.start) && group.start < group.end {
-            group.end = comment.end;
+    for piece in pieces {
+        let Piece { kind, start, end } = *piece;
+        if kind != Kind::Comment {
+            continue;
+        }
+        if is_next_line(text, group.end, start) && group.start < group.end {
+            group.end = end;
         } else {
             push_fold(text, group, true, folds)?;
-            group = comment;
+            group = Span { start, end };
         }
     }
     push_fold(text, group, true, folds)
 }
 
-/// Returns the parts of a document that can be folded: sections that begin with a header, values that have a literal
-/// (see `has_literal`), and groups of comments. Leaves out parts on one line. Fails if an allocation fails.
-pub fn folds(alloc: Global, document: &Document<'_>) -> Result<Vec<Fold>, AllocError> {
-    let text = document.text;
+/// Appends a fold for each section that begins with a header. A section ends with its last statement that is neither
+/// blank nor a comment.
+fn push_sections(
+    text: &str,
+    pieces: &[Piece],
+    statements: &[Statement],
+    folds: &mut Vec<Fold>,
+) -> Result<(), AllocError> {
+    let mut section = Span { start: 0, end: 0 };
+    for statement in statements {
+        let own = span_of(pieces, *statement);
+        match statement.kind {
+            StatementKind::Blank => (),
+            StatementKind::Header => {
+                push_fold(text, section, false, folds)?;
+                section = own;
+            }
+            _ => if section.start < section.end {
+                section.end = own.end;
+            },
+        }
+    }
+    push_fold(text, section, false, folds)
+}
+
+/// Appends a fold for each array, inline table and multi-line string of a statement.
+fn push_values(
+    alloc: Global,
+    text: &str,
+    pieces: &[Piece],
+    statement: Statement,
+    folds: &mut Vec<Fold>,
+) -> Result<(), AllocError> {
+    let mut opened = Vec::new(alloc);
+    let mut line: usize = 0;
+    for piece in pieces.get(statement.first..statement.end).unwrap_or(&[]) {
+        let Piece { kind, start, end } = *piece;
+        let span = Span { start, end };
+        match kind {
+            Kind::LineEnd => line = line.saturating_add(1),
+            Kind::String(true) | Kind::Faulty(true) => push_fold(text, span, false, folds)?,
+            Kind::Mark(b'[' | b'{') => opened.push((start, line))?,
+            _ if closes(kind) => close_fold(opened.pop(), line, end, folds)?,
+            _ => (),
+        }
+    }
+    Ok(())
+}
+
+/// Appends the fold of brackets that end at the offset `end`, on the line `line` of their statement. `opened` is the
+/// offset and the line at which they begin. Appends nothing for brackets on one line.
+fn close_fold(
+    opened: Option<(usize, usize)>,
+    line: usize,
+    end: usize,
+    folds: &mut Vec<Fold>,
+) -> Result<(), AllocError> {
+    match opened {
+        Some((start, first)) if first < line => {
+            let span = Span { start, end };
+            folds.push(Fold {
+                span,
+                is_comment: false,
+            })?;
+            Ok(())
+        }
+        _ => Ok(()),
+    }
+}
+
+/// Returns the parts of a text that can be folded: sections that begin with a header, arrays, inline tables and
+/// multi-line strings, and groups of comments. Leaves out parts on one line. Takes time linear in the length of the
+/// text. Fails if an allocation fails.
+pub fn folds(alloc: Global, text: &str) -> Result<Vec<Fold>, AllocError> {
+    let pieces = pieces(alloc, text)?;
+    let pieces = pieces.as_slice();
+    let statements = statements(alloc, pieces)?;
     let mut folds = Vec::new(alloc);
-    for section in section_places(alloc, text, document.sections.as_slice())? {
-        if section.header.start < section.header.end {
-            let span = Span {
-                start: section.header.start,
-                end: section.body.end,
-            };
-            push_fold(text, span, false, &mut folds)?;
-        }
+    push_sections(text, pieces, statements.as_slice(), &mut folds)?;
+    for statement in &statements {
+        push_values(alloc, text, pieces, *statement, &mut folds)?;
     }
-    for node in nodes(alloc, &document.root)? {
-        if has_literal(text, node.value) {
-            push_fold(text, literal_span(text, node.value), false, &mut folds)?;
-        }
-    }
-    push_comments(alloc, text, &mut folds)?;
+    push_comments(text, pieces, &mut folds)?;
     Ok(folds)
 }

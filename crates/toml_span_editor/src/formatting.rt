@@ -58,9 +58,9 @@ fn made_within(
     }))
 }
 
-/// Returns edits that format the lines that `span` touches, with the new text. The new text has the same sections, tokens
-/// and comments. Lines that formatting joins or splits are changed together. Returns `None` if the text can't be read,
-/// or if these lines can't be formatted without others. Fails if an allocation fails.
+/// Returns edits that format the lines that `span` touches, with the new text. The new text has the same sections,
+/// tokens and comments. Lines that formatting joins or splits are changed together. Returns `None` if the text can't be
+/// read, or if these lines can't be formatted without others. Fails if an allocation fails.
 pub fn formatting_of(
     alloc: Global,
     text: &str,

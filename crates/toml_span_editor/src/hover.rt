@@ -31,7 +31,7 @@ const MONTHS: [&str; 12] = [
 ];
 
 /// The span of a key or value, and its description in Markdown.
-#[derive(Debug, Drop)]
+#[derive(Drop)]
 pub struct Hover {
     pub span: Span,
     pub text: String,

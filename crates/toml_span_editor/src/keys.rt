@@ -1,4 +1,8 @@
 //! Finds keys, the places where they are written, and the values at paths.
+ghost use Rattle.std.specs.Prelude.{◌≡◌, map, option_map};
+ghost use Rattle.toml_span_editor.specs.Renaming as spec;
+ghost use Rattle.toml_span_places.specs.Keys.{key_mention};
+
 use crate::document::Document;
 use crate::spans::touches;
 use std::alloc::{AllocError, Global};
@@ -8,7 +12,7 @@ use toml_span_lex::span::Span;
 use toml_span_places::{KeyPlace, Role, key_places};
 
 /// A place where a key is written.
-#[derive(Clone, Copy, Debug, PartialEq, Eq)]
+#[derive(Clone, Copy)]
 pub struct Mention {
     /// The span of the key with its quotes.
     pub span: Span,
@@ -17,7 +21,9 @@ pub struct Mention {
 }
 
 /// Returns the first key that contains the offset `at` or ends there, or `None` if no key does.
-pub(crate) fn key_at<'p, 't>(keys: &'p [KeyPlace<'t>], at: usize) -> Option<&'p KeyPlace<'t>> {
+pub(crate) fn key_at<'p, 't>(keys: &'p [KeyPlace<'t>], at: usize) -> Option<&'p KeyPlace<'t>>
+    ensures { option_map (λ key. key_mention key.now) result ≡ spec.key_at at (map key_mention keys.now) }
+{
     for key in keys {
         if touches(key.whole, at) {
             return Some(key);
@@ -82,6 +88,14 @@ pub(crate) fn has_literal(text: &str, value: &Value<'_>) -> bool {
         Some(first) => value.span.start < first.span.start,
         None => true,
     }
+}
+
+/// Returns whether `value` is a table with the key `name`. Returns `false` for `None`.
+pub(crate) fn has_key(value: Option<&Value<'_>>, name: &str) -> bool {
+    let Some(table) = value.and_then(|value| value.as_table()) else {
+        return false;
+    };
+    table.iter().any(|(key, _)| key.name.as_ref() == name)
 }
 
 /// Returns the value that `step` names in the table or array `value`: the value of an entry, or an element. Returns

@@ -7,7 +7,7 @@ use toml_span_lex::span::Span;
 use toml_span_places::{literal_span, with_quotes};
 
 /// An entry of a table, or an element of an array, with the symbols inside it.
-#[derive(Debug, Drop)]
+#[derive(Drop)]
 pub struct Symbol {
     /// The name of the key, or the position of the element.
     pub name: String,

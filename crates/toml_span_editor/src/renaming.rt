@@ -1,38 +1,50 @@
 //! Renames a key wherever it is written.
-ghost use Rattle.std.specs.Prelude.{IfOk, string_bytes};
+ghost use Rattle.std.specs.Prelude.{◌≡◌, IfOk, map, option_map, string_bytes};
+ghost use Rattle.std.specs.Cow.{cow_str_bytes};
+ghost use Rattle.toml_span_editor.specs.Renaming as spec;
 ghost use Rattle.toml_span_editor.specs.Renaming.{Renames, RenamesBy};
+ghost use Rattle.toml_span_read.specs.Data.{parsed_section};
+ghost use Rattle.toml_span_tree.specs.Nodes.{step_of};
 
 use crate::document::Document;
 use crate::edits::{Edit, Rewritten, changes_into, differences};
 use crate::keys::{key_at, mentions};
 use std::alloc::{AllocError, Global};
+use std::borrow::CowStr;
 use toml_span::Stop;
 use toml_span::value::Step;
 use toml_span_edit::{Change, Edit as KeyEdit, EditError, Edits};
 use toml_span_lex::span::Span;
-use toml_span_places::{key_places, quote_key};
+use toml_span_places::{key_places, quote_key, segment_names};
 
 /// A key that can be renamed.
-#[derive(Debug, Drop)]
-pub struct Renamable {
+#[derive(Drop)]
+pub struct Renamable<'d> {
     /// The span of the key with its quotes.
     pub span: Span,
-    /// The name without quotes and escapes.
-    pub name: String,
-    /// The segments of the path from the root to the key's value. The last segment is the name.
-    pub path: Vec<String>,
+    /// The segments of the path from the root to the key's value. The last segment is the name of the key, without
+    /// quotes and escapes.
+    pub path: Vec<CowStr<'d>>,
 }
 
 /// Returns a step as the segment of a path: a name, or a position in decimal digits.
-fn segment_of(alloc: Global, step: Step<'_>) -> Result<String, AllocError> {
+fn segment_of<'d>(alloc: Global, step: Step<'d>) -> Result<CowStr<'d>, AllocError>
+    ensures { IfOk result (λ segment. cow_str_bytes segment ≡ spec.segment_of (step_of step.entry)) }
+{
     match step {
-        Step::Key(name) => String::from_str(alloc, name),
-        Step::Position(at) => format!(in alloc; "{at}"),
+        Step::Key(name) => Ok(CowStr::Borrowed(name)),
+        Step::Position(at) => Ok(CowStr::Owned(format!(in alloc; "{at}")?)),
     }
 }
 
 /// Returns the segments of a path.
-fn segments_of(alloc: Global, path: &[Step<'_>]) -> Result<Vec<String>, AllocError> {
+pub(crate) fn segments_of<'d>(
+    alloc: Global,
+    path: &[Step<'d>],
+) -> Result<Vec<CowStr<'d>>, AllocError>
+    ensures { IfOk result (λ segments. map cow_str_bytes segments.items
+        ≡ map spec.segment_of (map step_of path.now)) }
+{
     let mut segments = Vec::new(alloc);
     for step in path {
         segments.push(segment_of(alloc, *step)?)?;
@@ -41,24 +53,22 @@ fn segments_of(alloc: Global, path: &[Step<'_>]) -> Result<Vec<String>, AllocErr
 }
 
 /// Returns the key at the byte offset `at`, or `None` if no key is there. Fails if an allocation fails.
-pub fn renamable_at(
+pub fn renamable_at<'d>(
     alloc: Global,
-    document: &Document<'_>,
+    document: &'d Document<'_>,
     at: usize,
-) -> Result<Option<Renamable>, AllocError> {
+) -> Result<Option<Renamable<'d>>, AllocError>
+    ensures { IfOk result (λ found. option_map (λ key. map cow_str_bytes key.path.items) found
+        ≡ spec.path_at at document.now.text.now (map parsed_section document.now.sections.items)) }
+{
     let keys = key_places(alloc, document.text, document.sections.as_slice())?;
-    let Some(key) = key_at(keys.as_slice(), at) else {
-        return Ok(None);
-    };
-    let name = match key.path.last() {
-        Some(step) => segment_of(alloc, *step)?,
-        None => String::new(alloc),
-    };
-    Ok(Some(Renamable {
-        span: key.whole,
-        name,
-        path: segments_of(alloc, key.path.as_slice())?,
-    }))
+    match key_at(keys.as_slice(), at) {
+        Some(key) => Ok(Some(Renamable {
+            span: key.whole,
+            path: segments_of(alloc, key.path.as_slice())?,
+        })),
+        None => Ok(None),
+    }
 }
 
 /// Returns the message for a rename that was refused with `error`.
@@ -70,7 +80,7 @@ fn refusal(alloc: Global, error: &EditError) -> Result<String, AllocError> {
 
 /// Returns the text with the key at a path renamed to `name`. Fails with a message if the rename is refused.
 fn renamed(alloc: Global, text: &str, path: &[&str], name: &str) -> Result<String, Stop<String>>
-    ensures { IfOk result (λ new. Renames name.now text.now (string_bytes new)) }
+    ensures { IfOk result (λ new. Renames name.now (map (λ s. s.now) path.now) text.now (string_bytes new)) }
 {
     let mut edits = Edits::new(alloc, text);
     edits.push(KeyEdit {
@@ -103,24 +113,22 @@ fn mention_edits(
     Ok(edits)
 }
 
-/// Returns the edits that rename the key at the byte offset `at` to `name`, wherever the key is written. The new text
-/// is valid, and only the name has changed. Fails with a message if no key is at `at`, or if the rename is refused.
-/// Fails with `Stop::Memory` if an allocation fails.
+/// Returns the edits that rename the key at the byte offset `at` (see `renamable_at`) to `name`, wherever the key is
+/// written. The new text is valid, and only the name has changed. Fails with a message if no key is at `at`, or if the
+/// rename is refused. Fails with `Stop::Memory` if an allocation fails.
 pub fn rename(
     alloc: Global,
     document: &Document<'_>,
     at: usize,
     name: &str,
 ) -> Result<Rewritten, Stop<String>>
-    ensures { IfOk result (RenamesBy name.now document.now.text.now) }
+    ensures { IfOk result (RenamesBy at name.now document.now.text.now
+        (map parsed_section document.now.sections.items)) }
 {
     let Some(key) = renamable_at(alloc, document, at)? else {
         return Err(Stop::Fault(String::from_str(alloc, "there is no key here")?));
     };
-    let mut path = Vec::new(alloc);
-    for segment in &key.path {
-        path.push(segment.as_str())?;
-    }
+    let path = segment_names(alloc, key.path.as_slice())?;
     let text = renamed(alloc, document.text, path.as_slice(), name)?;
     let edits = mention_edits(alloc, document, at, name)?;
     if changes_into(alloc, document.text, edits.as_slice(), text.as_str())? {

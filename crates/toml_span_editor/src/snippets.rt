@@ -36,8 +36,9 @@ fn push_choice(out: &mut String, words: &[&str]) -> Result<(), AllocError> {
     out.push_str("|}")
 }
 
-/// Appends an empty placeholder for a value of one of `kinds`: in quotes if `kinds` has strings, otherwise in braces if
-/// it has tables, otherwise in brackets if it has arrays, otherwise alone.
+/// Appends a placeholder for a value of one of `kinds`, such that the text is valid TOML as it is: in quotes if `kinds`
+/// has strings, otherwise in braces if it has tables, otherwise in brackets if it has arrays, otherwise 0 if it has
+/// numbers, otherwise an empty string.
 fn push_kind(out: &mut String, kinds: Kinds) -> Result<(), AllocError> {
     out.push_str(if kinds.string {
         "\"$1\""
@@ -45,8 +46,10 @@ fn push_kind(out: &mut String, kinds: Kinds) -> Result<(), AllocError> {
         "{ $1 }"
     } else if kinds.array {
         "[$1]"
+    } else if kinds.integer || kinds.float {
+        "${1:0}"
     } else {
-        "$1"
+        "${1:\"\"}"
     })
 }
 

@@ -1,79 +1,20 @@
-//! Suggests what can be written at an offset, according to a schema.
-use crate::completion::{has_key, table_path};
-use crate::context::{Context, ExpectedText, Segment, context_at, push_step};
-use crate::document::Document;
-use crate::keys::{child, value_of};
-use crate::schemas::{default_of, documentation, is_deprecated, listed_values, subschemas_at};
+//! Suggests keys, tables and values according to a schema.
+use crate::completion::{
+    Completion, Outer, Site, Suggestion, SuggestionKind, last_element, narrowed,
+};
+use crate::context::ExpectedText;
+use crate::keys::{child, has_key};
+use crate::schemas::{default_of, documentation, is_deprecated, listed_values};
 use crate::snippets::{push_place, push_text};
+use crate::spans::touches;
 use std::alloc::{AllocError, Global};
 use toml_span::Value;
 use toml_span::value::Step;
-use toml_span_lex::span::Span;
-use toml_span_places::quote_key;
+use toml_span_places::{TableForm, quote_key};
 use toml_span_schema::{Guide, Kinds, Subschemas};
 
-/// The maximum number of suggestions.
-const MOST: usize = 500;
-
-/// The kind of a suggestion.
-#[derive(Clone, Copy, Debug, PartialEq, Eq)]
-pub enum SuggestionKind {
-    Key,
-    /// The name of a table, in a header.
-    Table,
-    Value,
-}
-
-/// A key, table or value that can be written at an offset, according to a schema.
-#[derive(Debug, Drop)]
-pub struct Suggestion {
-    pub kind: SuggestionKind,
-    /// The key or value as TOML.
-    pub label: String,
-    /// For a key or table, the kinds of its values, as in `string or table, required`. For a value, `default` if it is
-    /// the default. May be empty.
-    pub detail: String,
-    /// The schema's documentation of a key or table, in Markdown. Empty for a value, and if the schema has no
-    /// documentation.
-    pub documentation: String,
-    pub is_required: bool,
-    pub is_deprecated: bool,
-    /// The span that the suggestion replaces.
-    pub span: Span,
-    /// The text that replaces `span`.
-    pub text: String,
-    /// For a new key, an LSP snippet to use in place of `text`: the key, `=`, and a placeholder for the value.
-    pub snippet: Option<String>,
-}
-
-/// The place for which suggestions are made.
-#[derive(Clone, Copy)]
-struct Site<'t> {
-    expected: ExpectedText,
-    /// The span that a suggestion replaces.
-    typed: Span,
-    /// The text from the offset to the end of its line.
-    rest: &'t str,
-}
-
-/// Returns the text from the offset `at` to the end of its line.
-fn rest_of_line(text: &str, at: usize) -> &str {
-    let rest = text.get(at..).unwrap_or("");
-    rest.split('\n').next().unwrap_or("")
-}
-
-/// Returns `rest` without the remainder of a key at its start: letters, digits, dashes and underscores, and then a
-/// closing quote. `rest` is the text from an offset in the key to the end of the line.
-fn after_key(rest: &str) -> &str {
-    let is_word = |c: char| c.is_ascii_alphanumeric() || c == '-' || c == '_';
-    let rest = rest.trim_start_matches(is_word);
-    let rest = rest.strip_prefix('"').unwrap_or(rest);
-    rest.strip_prefix('\'').unwrap_or(rest)
-}
-
-/// Returns whether `=` or a period follows a key. `rest` is as for `after_key`.
-fn is_assigned(rest: &str) -> bool {
-    let rest = after_key(rest).trim_ascii_start();
+/// Returns whether `=` or a period follows a key. `rest` is the text after the key and after blanks.
+pub(crate) fn is_assigned(rest: &str) -> bool {
     rest.starts_with('=') || rest.starts_with('.')
 }
 
@@ -110,23 +51,14 @@ fn detail_of(alloc: Global, kinds: Kinds, is_required: bool) -> Result<String, A
     Ok(out)
 }
 
-/// Appends what follows a key in a header: the brackets that close the header if `ends` is set, otherwise a period.
-/// Leaves out brackets that already follow the key, and appends nothing if a period does. `site` must be in a header.
-fn push_header_rest(out: &mut String, site: Site<'_>, ends: bool) -> Result<(), AllocError> {
+/// Appends what follows a key at the end of a header: the closing brackets that are not there already.
+fn push_closing(out: &mut String, site: Site<'_>) -> Result<(), AllocError> {
     let needed = match site.expected {
-        ExpectedText::Table => 1,
         ExpectedText::TableInArray => 2,
-        _ => 0,
+        _ => 1,
     };
-    let rest = after_key(site.rest).trim_ascii_start();
-    if rest.starts_with('.') {
-        return Ok(());
-    }
-    if !ends {
-        return out.push('.');
-    }
     for at in 0..needed {
-        if rest.as_bytes().get(at) != Some(&b']') {
+        if site.rest.as_bytes().get(at) != Some(&b']') {
             out.push(']')?;
         }
     }
@@ -167,30 +99,78 @@ fn has_tables(alloc: Global, guide: &Guide, table: &Subschemas) -> Result<bool, 
     Ok(false)
 }
 
-/// Returns whether a header that can't end after the key of a value can go on after it. In double brackets, it can if
-/// `has_tables` is true for `inner`, the subschemas for the value. In single brackets, it can if `value` is an array,
-/// and `has_tables` is true for the subschemas for its last element (or for position 0, if the array is empty). `value`
-/// is `None` if the document lacks the value.
+/// Returns whether a header that can't end after the key `name` of the table `outer` can go on after it: into a table
+/// that the document has or that a header in double brackets may define, or into the last table of an array of tables
+/// before the header. `inner` are the subschemas for the value of the key, and `value` is the value in the document.
+/// Such a table must have keys that are tables.
 fn can_go_on(
     alloc: Global,
     guide: &Guide,
     inner: &Subschemas,
     value: Option<&Value<'_>>,
-    expected: ExpectedText,
+    outer: Outer<'_, '_, '_, '_>,
+    name: &str,
+    site: Site<'_>,
 ) -> Result<bool, AllocError> {
-    match expected {
-        ExpectedText::TableInArray => has_tables(alloc, guide, inner),
-        ExpectedText::Table => match value.and_then(|value| value.as_array()) {
-            Some(array) => {
-                let last = array.len().saturating_sub(1);
-                let step = Step::Position(last);
-                let element = guide.subschemas_inside(alloc, inner, step, array.get(last))?;
-                has_tables(alloc, guide, &element)
-            }
-            None => Ok(false),
-        },
-        _ => Ok(false),
+    let Some(value) = value else {
+        let is_open = site.expected == ExpectedText::TableInArray || site.rest.starts_with('.');
+        return Ok(is_open && has_tables(alloc, guide, inner)?);
+    };
+    if value.as_table().is_some() {
+        return has_tables(alloc, guide, inner);
     }
+    let mut path = Vec::new(alloc);
+    path.extend_from_slice(outer.steps)?;
+    path.push(Step::Key(name))?;
+    match last_element(outer.tables, path.as_slice(), site.at) {
+        Some(last) => {
+            let element = child(value, Step::Position(last));
+            let inside = guide.subschemas_inside(alloc, inner, Step::Position(last), element)?;
+            has_tables(alloc, guide, &inside)
+        }
+        None => Ok(false),
+    }
+}
+
+/// Returns whether `path` is the path of the table `outer` followed by the key `name` and, if `is_element` is set, by a
+/// position.
+fn is_below(path: &[Step<'_>], outer: Outer<'_, '_, '_, '_>, name: &str, is_element: bool) -> bool {
+    let path = match path {
+        [front @ .., Step::Position(_)] if is_element => front,
+        _ => path,
+    };
+    match path {
+        [front @ .., Step::Key(last)] => *last == name && front == outer.steps,
+        _ => false,
+    }
+}
+
+/// Returns whether a header at the cursor can define the key `name` of the table `outer`, whose value in the document
+/// is `value`. It can if there is no value. In single brackets, it can also if only headers of tables inside the table
+/// name it, and in double brackets if headers in double brackets do.
+fn is_free(
+    outer: Outer<'_, '_, '_, '_>,
+    name: &str,
+    value: Option<&Value<'_>>,
+    site: Site<'_>,
+) -> bool {
+    let is_element = site.expected == ExpectedText::TableInArray;
+    let mut is_named = false;
+    for table in outer.tables {
+        if is_below(table.path.as_slice(), outer, name, is_element) {
+            is_named = true;
+            let is_compatible = match table.form {
+                TableForm::Element => is_element,
+                TableForm::Passed => true,
+                TableForm::Header => touches(table.span, site.at),
+                TableForm::Dotted | TableForm::Inline => false,
+            };
+            if !is_compatible {
+                return false;
+            }
+        }
+    }
+    value.is_none() || is_named
 }
 
 /// Returns the kind of a suggestion of a key: `Key` in an assignment, `Table` in a header.
@@ -202,9 +182,52 @@ fn key_kind(expected: ExpectedText) -> SuggestionKind {
     }
 }
 
-/// Returns the suggestion of the key `name`. `inner` are the subschemas for the value of the key. `ends` says whether a
-/// header can end after the key. If it can't, the text of the suggestion ends with a period, unless one follows the key
-/// already.
+/// Returns a name for a table inside `value` that `value` does not have yet.
+fn new_name(value: Option<&Value<'_>>) -> &'static str {
+    for name in ["name", "table", "key"] {
+        if !has_key(value, name) {
+            return name;
+        }
+    }
+    "new"
+}
+
+/// Appends to a key what follows it: `=` or, in a header, the closing brackets or, if `next` is not `None`, a period.
+/// Returns a snippet to use in place of the text if a value or another key must follow. `next` is the placeholder for
+/// this other key.
+fn with_rest(
+    alloc: Global,
+    guide: &Guide,
+    inner: &Subschemas,
+    site: Site<'_>,
+    text: &mut String,
+    next: Option<&str>,
+) -> Result<Option<String>, AllocError> {
+    if site.expected == ExpectedText::Key {
+        text.push_str(" = ")?;
+        let values = listed_values(alloc, guide, inner)?;
+        let default = default_of(alloc, guide, inner)?;
+        let default = default.as_ref().map(|default| default.as_str());
+        let kinds = guide.kinds_of(inner);
+        let values = values.as_slice();
+        return Ok(Some(snippet_of(alloc, text.as_str(), kinds, values, default, site)?));
+    }
+    let Some(name) = next else {
+        push_closing(text, site)?;
+        return Ok(None);
+    };
+    text.push('.')?;
+    let mut snippet = String::new(alloc);
+    push_text(&mut snippet, text.as_str())?;
+    snippet.push_str("${1:")?;
+    snippet.push_str(name)?;
+    snippet.push('}')?;
+    push_closing(&mut snippet, site)?;
+    Ok(Some(snippet))
+}
+
+/// Returns the suggestion of the key `name`. `inner` are the subschemas for the value of the key. `next` is `None` if a
+/// header can end after the key, and otherwise a placeholder for the key that follows.
 fn key_suggestion(
     alloc: Global,
     guide: &Guide,
@@ -212,23 +235,14 @@ fn key_suggestion(
     site: Site<'_>,
     name: &str,
     is_required: bool,
-    ends: bool,
+    next: Option<&str>,
 ) -> Result<Suggestion, AllocError> {
     let kinds = guide.kinds_of(inner);
     let mut text = quote_key(alloc, name)?;
     let label = text.clone()?;
     let mut snippet = None;
-    if site.expected != ExpectedText::Key {
-        push_header_rest(&mut text, site, ends)?;
-    } else if !is_assigned(site.rest) {
-        text.push_str(" = ")?;
-        snippet = Some(snippet_of(
-            alloc,
-            text.as_str(),
-            kinds,
-            listed_values(alloc, guide, inner)?,
-            default_of(alloc, guide, inner)?,
-        )?);
+    if !is_assigned(site.rest) {
+        snippet = with_rest(alloc, guide, inner, site, &mut text, next)?;
     }
     Ok(Suggestion {
         kind: key_kind(site.expected),
@@ -243,67 +257,104 @@ fn key_suggestion(
     })
 }
 
-/// Returns a snippet: the text `front`, and then the placeholder for a value that `push_place` appends.
-fn snippet_of(
+/// Returns a snippet: the text `front`, the placeholder for a value that `push_place` appends, and a comma if another
+/// pair follows.
+pub(crate) fn snippet_of(
     alloc: Global,
     front: &str,
     kinds: Kinds,
-    values: Vec<String>,
-    default: Option<String>,
+    values: &[String],
+    default: Option<&str>,
+    site: Site<'_>,
 ) -> Result<String, AllocError> {
     let mut borrowed = Vec::new(alloc);
-    for value in &values {
+    for value in values {
         borrowed.push(value.as_str())?;
     }
     let mut out = String::new(alloc);
     push_text(&mut out, front)?;
-    let default = default.as_ref().map(|default| default.as_str());
     push_place(&mut out, kinds, borrowed.as_slice(), default)?;
+    if site.is_followed {
+        out.push(',')?;
+    }
     Ok(out)
 }
 
-/// Returns at most `MOST` suggestions of keys for a table. `outer` are the subschemas for the table, and `own` is the
-/// table if it can be read. Leaves out keys that are not possible in a header (see `can_end` and `can_go_on`) and, for
-/// an assignment, keys of `own` and keys in `written`.
-fn key_suggestions(
+/// Returns the names of the keys that `table`, the subschemas for the table `outer`, names. Leaves out keys that the
+/// table has, unless they are for a header.
+fn new_names<'s>(
     alloc: Global,
-    guide: &Guide,
-    outer: &Subschemas,
-    own: Option<&Value<'_>>,
-    written: &[String],
+    guide: &'s Guide,
+    table: &Subschemas,
+    outer: Outer<'_, '_, '_, '_>,
     site: Site<'_>,
-) -> Result<Vec<Suggestion>, AllocError> {
-    let mut found = Vec::new(alloc);
-    for name in guide.keys_of(alloc, outer)? {
-        let is_written = has_key(own, name) || written.iter().any(|other| other.as_str() == name);
-        let is_new = site.expected != ExpectedText::Key || !is_written;
-        if is_new && found.len() < MOST {
-            let step = Step::Key(name);
-            let value = own.and_then(|own| child(own, step));
-            let inner = guide.subschemas_inside(alloc, outer, step, value)?;
-            let ends = can_end(alloc, guide, &inner, site.expected)?;
-            if ends || can_go_on(alloc, guide, &inner, value, site.expected)? {
-                let is_required = guide.is_required(outer, name);
-                found.push(key_suggestion(alloc, guide, &inner, site, name, is_required, ends)?)?;
-            }
+) -> Result<Vec<&'s str>, AllocError> {
+    let mut names = Vec::new(alloc);
+    for name in guide.keys_of(alloc, table)? {
+        let is_written = has_key(outer.own, name)
+            || outer.written.iter().any(|other| other.as_str() == name);
+        if site.expected != ExpectedText::Key || !is_written {
+            names.push(name)?;
         }
     }
-    Ok(found)
+    Ok(names)
 }
 
-/// Appends the suggestion of the value `literal`. Appends nothing if `literal` is suggested already, or if there are
-/// `MOST` suggestions.
-fn push_value(
+/// Returns suggestions of keys for the table `outer`. `table` are the subschemas for the table. Leaves out keys that
+/// are not possible in a header (see `can_end`, `is_free` and `can_go_on`) and, for an assignment, keys that the table
+/// has.
+pub(crate) fn key_suggestions(
     alloc: Global,
-    found: &mut Vec<Suggestion>,
+    guide: &Guide,
+    table: &Subschemas,
+    outer: Outer<'_, '_, '_, '_>,
+    site: Site<'_>,
+) -> Result<Completion, AllocError> {
+    let names = new_names(alloc, guide, table, outer, site)?;
+    let (names, is_incomplete) = narrowed(alloc, names, site)?;
+    let mut suggestions = Vec::new(alloc);
+    for name in names {
+        let value = outer.own.and_then(|own| child(own, Step::Key(name)));
+        let inner = guide.subschemas_inside(alloc, table, Step::Key(name), value)?;
+        let ends = site.expected == ExpectedText::Key
+            || !site.rest.starts_with('.')
+                && can_end(alloc, guide, &inner, site.expected)?
+                && is_free(outer, name, value, site);
+        if ends || can_go_on(alloc, guide, &inner, value, outer, name, site)? {
+            let is_required = guide.is_required(table, name);
+            let next = if ends { None } else { Some(new_name(value)) };
+            let one = key_suggestion(alloc, guide, &inner, site, name, is_required, next)?;
+            suggestions.push(one)?;
+        }
+    }
+    Ok(Completion {
+        suggestions,
+        is_incomplete,
+    })
+}
+
+/// Appends a literal, unless it is in the list already.
+fn push_literal<'l>(literals: &mut Vec<&'l str>, literal: &'l str) -> Result<(), AllocError> {
+    if !literals.iter().any(|other| *other == literal) {
+        literals.push(literal)?;
+    }
+    Ok(())
+}
+
+/// Returns the suggestion of the value `literal`. A blank comes before it if it is written directly after `=`, and a
+/// comma after it if another element follows.
+pub(crate) fn value_suggestion(
+    alloc: Global,
     site: Site<'_>,
     literal: &str,
     detail: &str,
-) -> Result<(), AllocError> {
-    if found.len() >= MOST || found.iter().any(|other| other.label.as_str() == literal) {
-        return Ok(());
+) -> Result<Suggestion, AllocError> {
+    let mut text = String::from_str(alloc, if site.is_tight { " " } else { "" })?;
+    text.push_str(literal)?;
+    if site.is_followed {
+        text.push(',')?;
     }
-    found.push(Suggestion {
+    Ok(Suggestion {
         kind: SuggestionKind::Value,
         label: String::from_str(alloc, literal)?,
         detail: String::from_str(alloc, detail)?,
@@ -311,113 +362,50 @@ fn push_value(
         is_required: false,
         is_deprecated: false,
         span: site.typed,
-        text: String::from_str(alloc, literal)?,
+        text,
         snippet: None,
-    })?;
-    Ok(())
+    })
 }
 
 /// Returns suggestions of values: the default, the values of `enum` and `const`, and the booleans if they are allowed.
 /// `inner` are the subschemas for the value. Returns `None` if there is no value to suggest and `inner` does not
 /// restrict the kind of the value.
-fn value_suggestions(
+pub(crate) fn value_suggestions(
     alloc: Global,
     guide: &Guide,
     inner: &Subschemas,
     site: Site<'_>,
-) -> Result<Option<Vec<Suggestion>>, AllocError> {
+) -> Result<Option<Completion>, AllocError> {
     let kinds = guide.kinds_of(inner);
-    let mut found = Vec::new(alloc);
-    if let Some(default) = default_of(alloc, guide, inner)? {
-        push_value(alloc, &mut found, site, default.as_str(), "default")?;
+    let default = default_of(alloc, guide, inner)?;
+    let default = default.as_ref().map(|default| default.as_str());
+    let values = listed_values(alloc, guide, inner)?;
+    let mut literals = Vec::new(alloc);
+    if let Some(literal) = default {
+        literals.push(literal)?;
     }
-    for value in &listed_values(alloc, guide, inner)? {
-        push_value(alloc, &mut found, site, value.as_str(), "")?;
+    for value in &values {
+        push_literal(&mut literals, value.as_str())?;
     }
     if kinds.boolean {
-        push_value(alloc, &mut found, site, "true", "")?;
-        push_value(alloc, &mut found, site, "false", "")?;
+        push_literal(&mut literals, "true")?;
+        push_literal(&mut literals, "false")?;
     }
-    if found.is_empty() && kinds.is_empty() {
+    if literals.is_empty() && kinds.is_empty() {
         return Ok(None);
     }
-    Ok(Some(found))
-}
-
-/// Returns the position of the last element of the array at a path, or 0 if the array is empty. Returns `None` if the
-/// path does not lead to an array.
-fn last_element(root: &Value<'_>, path: &[Step<'_>]) -> Option<usize> {
-    let array = value_of(root, path)?.as_array()?;
-    Some(array.len().saturating_sub(1))
-}
-
-/// Returns the path for `segments`, the first parts of a header. After each part that leads to an array, adds the
-/// position of the array's last element, or 0 if the array is empty.
-fn header_steps<'p>(
-    alloc: Global,
-    root: &Value<'_>,
-    segments: &'p [Segment],
-) -> Result<Vec<Step<'p>>, AllocError> {
-    let mut steps = Vec::new(alloc);
-    for segment in segments {
-        push_step(segment, &mut steps)?;
-        if let Some(last) = last_element(root, steps.as_slice()) {
-            steps.push(Step::Position(last))?;
-        }
+    let (literals, is_incomplete) = narrowed(alloc, literals, site)?;
+    let mut suggestions = Vec::new(alloc);
+    for literal in literals {
+        let detail = if default == Some(literal) {
+            "default"
+        } else {
+            ""
+        };
+        suggestions.push(value_suggestion(alloc, site, literal, detail)?)?;
     }
-    Ok(steps)
-}
-
-/// Returns `context.path` as a path from the root of `document`. `context` describes the offset `at`.
-fn steps_of<'p>(
-    alloc: Global,
-    document: &'p Document<'_>,
-    at: usize,
-    context: &'p Context,
-) -> Result<Vec<Step<'p>>, AllocError> {
-    let segments = context.path.as_slice();
-    if matches!(
-        context.expected,
-        ExpectedText::Table | ExpectedText::TableInArray
-    ) {
-        return header_steps(alloc, &document.root, segments);
-    }
-    let mut steps = table_path(alloc, document, at)?;
-    for segment in segments {
-        push_step(segment, &mut steps)?;
-    }
-    Ok(steps)
-}
-
-/// Returns what can be written at the byte offset `at`, according to the schema `guide`: keys that the table at `at`
-/// lacks, values or, in a header, names of tables. `document` is as much of `text` as can be read (see `readable`).
-///
-/// The list is empty in a comment, and where neither a key nor a value is expected. Returns `None` where a key or a
-/// part of a header is expected, if there is no key to suggest. Also returns `None` where a value is expected, if there
-/// is no value to suggest and the schema does not restrict the value's kind. Fails if an allocation fails.
-pub fn suggestions(
-    alloc: Global,
-    guide: &Guide,
-    text: &str,
-    document: &Document<'_>,
-    at: usize,
-) -> Result<Option<Vec<Suggestion>>, AllocError> {
-    let context = context_at(alloc, text, at)?;
-    if context.expected == ExpectedText::Other {
-        return Ok(Some(Vec::new(alloc)));
-    }
-    let steps = steps_of(alloc, document, at, &context)?;
-    let steps = steps.as_slice();
-    let found = subschemas_at(alloc, guide, &document.root, steps)?;
-    let site = Site {
-        expected: context.expected,
-        typed: context.typed,
-        rest: rest_of_line(text, at),
-    };
-    if context.expected == ExpectedText::Value {
-        return value_suggestions(alloc, guide, &found, site);
-    }
-    let own = value_of(&document.root, steps);
-    let keys = key_suggestions(alloc, guide, &found, own, context.names.as_slice(), site)?;
-    Ok(if keys.is_empty() { None } else { Some(keys) })
+    Ok(Some(Completion {
+        suggestions,
+        is_incomplete,
+    }))
 }

@@ -1,14 +1,12 @@
-//! Finds the tokens of a document with their meanings, for syntax highlighting.
-use crate::comments::comment_spans;
-use crate::document::Document;
+//! Finds the tokens of a text with their meanings, for syntax highlighting. The text need not be valid.
+use crate::walk::{Next, Walk, is_name, literal_end};
 use std::alloc::{AllocError, Global};
-use toml_span::Value;
-use toml_span::value::nodes;
 use toml_span_lex::span::Span;
-use toml_span_places::{Role, key_places, literal_span};
+use toml_span_syntax::pieces::{Kind, Piece, pieces};
+use toml_span_syntax::statements::{Statement, statements};
 
 /// The meaning of a token.
-#[derive(Clone, Copy, Debug, PartialEq, Eq)]
+#[derive(Clone, Copy)]
 pub enum Meaning {
     Comment,
     /// A part of a header.
@@ -22,40 +20,49 @@ pub enum Meaning {
 }
 
 /// A token. Its span does not include a line end.
-#[derive(Clone, Copy, Debug, PartialEq, Eq)]
+#[derive(Clone, Copy)]
 pub struct Token {
     pub span: Span,
     pub meaning: Meaning,
 }
 
-/// Returns the meaning of a part of a key or header.
-fn key_meaning(role: Role) -> Meaning {
-    match role {
-        Role::Header | Role::HeaderLast => Meaning::Table,
-        Role::Dotted | Role::Last => Meaning::Key,
+/// Returns the meaning of a value that is not a string: that of a number if it begins with a digit or a sign. Returns
+/// `None` for a word that is not a value.
+fn literal_meaning(text: &str) -> Option<Meaning> {
+    match text {
+        "true" | "false" => Some(Meaning::Boolean),
+        "inf" | "nan" => Some(Meaning::Number),
+        _ if text.starts_with(|c| matches!(c, '0'..='9' | '+' | '-')) => Some(Meaning::Number),
+        _ => None,
     }
 }
 
-/// Returns the meaning of a value, or `None` for a table or an array.
-fn value_meaning(value: &Value<'_>) -> Option<Meaning> {
-    if value.as_table().is_some() || value.as_array().is_some() {
-        None
-    } else if value.as_str().is_some() {
-        Some(Meaning::String)
-    } else if value.as_bool().is_some() {
-        Some(Meaning::Boolean)
-    } else {
-        Some(Meaning::Number)
-    }
+/// Returns the token that begins with the piece at the position `at`: a comment, a key, a string, or a number or word,
+/// which may go on with further pieces. `next` is what is expected at the piece. Returns `None` if the piece has no
+/// meaning there.
+fn token_at(text: &str, pieces: &[Piece], at: usize, next: Next) -> Option<Token> {
+    let Piece { kind, start, end } = *pieces.get(at)?;
+    let is_word = is_name(kind);
+    let meaning = match next {
+        _ if kind == Kind::Comment => Meaning::Comment,
+        Next::Key if is_word => Meaning::Key,
+        Next::Header if is_word => Meaning::Table,
+        Next::Value | Next::AfterValue if matches!(kind, Kind::Bare | Kind::Mark(b'+')) => {
+            let end = literal_end(pieces, at);
+            let meaning = literal_meaning(text.get(start..end)?)?;
+            let span = Span { start, end };
+            return Some(Token { span, meaning });
+        }
+        Next::Value if is_word || kind == Kind::Open(true) => Meaning::String,
+        _ => return None,
+    };
+    let span = Span { start, end };
+    Some(Token { span, meaning })
 }
 
-/// Appends a token for each line of a span, except for empty lines.
-fn push_lines(
-    text: &str,
-    span: Span,
-    meaning: Meaning,
-    tokens: &mut Vec<Token>,
-) -> Result<(), AllocError> {
+/// Appends a token for each line of a token, except for empty lines.
+fn push_lines(text: &str, token: Token, tokens: &mut Vec<Token>) -> Result<(), AllocError> {
+    let Token { span, meaning } = token;
     if span.start > span.end {
         return Ok(());
     }
@@ -72,22 +79,40 @@ fn push_lines(
     Ok(())
 }
 
-/// Returns the tokens of a document in the order of the text: keys, values other than tables and arrays, and comments.
-/// A string of several lines has a token for each line, except for empty lines. Fails if an allocation fails.
-pub fn tokens(alloc: Global, document: &Document<'_>) -> Result<Vec<Token>, AllocError> {
-    let text = document.text;
-    let mut tokens = Vec::new(alloc);
-    for key in key_places(alloc, text, document.sections.as_slice())? {
-        push_lines(text, key.whole, key_meaning(key.role), &mut tokens)?;
-    }
-    for node in nodes(alloc, &document.root)? {
-        if let Some(meaning) = value_meaning(node.value) {
-            push_lines(text, literal_span(text, node.value), meaning, &mut tokens)?;
+/// Appends the tokens of a statement.
+fn push_statement(
+    alloc: Global,
+    text: &str,
+    pieces: &[Piece],
+    statement: Statement,
+    tokens: &mut Vec<Token>,
+) -> Result<(), AllocError> {
+    let mut walk = Walk::new(alloc);
+    let mut end = 0;
+    for at in statement.first..statement.end.min(pieces.len()) {
+        let piece = pieces[at];
+        let found = if piece.start < end {
+            None
+        } else {
+            token_at(text, pieces, at, walk.next)
+        };
+        if let Some(token) = found {
+            push_lines(text, token, tokens)?;
+            end = token.span.end;
         }
+        walk.take(at, piece.kind)?;
     }
-    for comment in comment_spans(alloc, text)? {
-        push_lines(text, comment, Meaning::Comment, &mut tokens)?;
+    Ok(())
+}
+
+/// Returns the tokens of a text in order: keys, values other than tables and arrays, and comments. A string of several
+/// lines has a token for each line, except for empty lines. Takes time linear in the length of the text. Fails if an
+/// allocation fails.
+pub fn tokens(alloc: Global, text: &str) -> Result<Vec<Token>, AllocError> {
+    let pieces = pieces(alloc, text)?;
+    let mut tokens = Vec::new(alloc);
+    for statement in &statements(alloc, pieces.as_slice())? {
+        push_statement(alloc, text, pieces.as_slice(), *statement, &mut tokens)?;
     }
-    tokens.sort_by_key(|token| token.span.start)?;
     Ok(tokens)
 }

@@ -13,4 +13,4 @@ returns-in-Ok c =
     let text : c.push.new.self.text.now ≡ c.args.text.now = rw (c.in_ok-push.ensures.1, c.new-edits.ensures.0) refl in
     let P : List Edit → Type 0 = λ es. EditsMade es c.args.text.now new in
     let Q : List ℕ → Type 0 = λ t. EditsMade c.push.new.self.list.items t new in
-    (e, refl, subst P items (subst Q text c.in-Ok.ensures))
+    (e, refl, refl, subst P items (subst Q text c.in-Ok.ensures))

@@ -1,0 +1,137 @@
+//! Inserts keys that a schema requires.
+use crate::document::Document;
+use crate::edits::{Edit, differences};
+use crate::keys::{has_key, value_of};
+use crate::renaming::segments_of;
+use crate::schemas::{default_of, listed_values, subschemas_at};
+use crate::spans::touches;
+use std::alloc::{AllocError, Global};
+use std::borrow::CowStr;
+use toml_span::Stop;
+use toml_span::value::{Step, nodes};
+use toml_span_edit::{Change, Edit as KeyEdit, Edits};
+use toml_span_lex::span::Span;
+use toml_span_places::{quote_key, segment_names};
+use toml_span_schema::{Guide, Kinds, Subschemas};
+
+/// Edits that insert a missing key.
+#[derive(Drop)]
+pub struct Insertion {
+    /// What the edits do, such as "insert `port = 80`".
+    pub title: String,
+    pub edits: Vec<Edit>,
+}
+
+/// Returns an empty value of one of `kinds` as TOML. If there are none, returns an empty string.
+fn empty_value(kinds: Kinds) -> &'static str {
+    if kinds.string || kinds.is_empty() {
+        "\"\""
+    } else if kinds.table {
+        "{}"
+    } else if kinds.array {
+        "[]"
+    } else if kinds.boolean {
+        "false"
+    } else if kinds.integer {
+        "0"
+    } else {
+        "0.0"
+    }
+}
+
+/// Returns a value that a schema may allow, as TOML: its default, the first value that it lists, or an empty value.
+/// `inner` are the subschemas for the value.
+fn new_value(alloc: Global, guide: &Guide, inner: &Subschemas) -> Result<String, AllocError> {
+    if let Some(default) = default_of(alloc, guide, inner)? {
+        return Ok(default);
+    }
+    match listed_values(alloc, guide, inner)?.first() {
+        Some(value) => value.clone(),
+        None => String::from_str(alloc, empty_value(guide.kinds_of(inner))),
+    }
+}
+
+/// Returns the text with this value added at `path`. Returns `None` if it can't be added.
+fn added<'x>(
+    alloc: Global,
+    text: &str,
+    path: &'x [&'x str],
+    value: &'x str,
+) -> Result<Option<String>, AllocError> {
+    let mut edits = Edits::new(alloc, text);
+    let change = Change::SetOrAdd(value);
+    edits.push(KeyEdit { path, change })?;
+    match edits.finish() {
+        Ok(new) => Ok(Some(new)),
+        Err(Stop::Memory(error)) => Err(error),
+        Err(Stop::Fault(_)) => Ok(None),
+    }
+}
+
+/// Returns edits that add the key `name` with this value to the table at `path`. Returns `None` if it can't be added.
+fn edits_for<'d>(
+    alloc: Global,
+    text: &str,
+    path: &[Step<'d>],
+    name: &'d str,
+    value: &str,
+) -> Result<Option<Vec<Edit>>, AllocError> {
+    let mut segments = segments_of(alloc, path)?;
+    segments.push(CowStr::Borrowed(name))?;
+    let names = segment_names(alloc, segments.as_slice())?;
+    match added(alloc, text, names.as_slice(), value)? {
+        Some(new) => Ok(Some(differences(alloc, text, new.as_str())?)),
+        None => Ok(None),
+    }
+}
+
+/// Appends an insertion for each key that `guide` requires in the table at `path`, and that is missing there.
+fn push_insertions(
+    alloc: Global,
+    guide: &Guide,
+    document: &Document<'_>,
+    path: &[Step<'_>],
+    found: &mut Vec<Insertion>,
+) -> Result<(), AllocError> {
+    let table = subschemas_at(alloc, guide, &document.root, path)?;
+    let value = value_of(&document.root, path);
+    for name in guide.keys_of(alloc, &table)? {
+        if has_key(value, name) || !guide.is_required(&table, name) {
+            continue;
+        }
+        let inner = guide.subschemas_inside(alloc, &table, Step::Key(name), None)?;
+        let new = new_value(alloc, guide, &inner)?;
+        if let Some(edits) = edits_for(alloc, document.text, path, name, new.as_str())? {
+            let key = quote_key(alloc, name)?;
+            found.push(Insertion {
+                title: format!(in alloc; "insert `{key} = {new}`")?,
+                edits,
+            })?;
+        }
+    }
+    Ok(())
+}
+
+/// Returns insertions of the keys that the schema `guide` requires and that are missing in tables at `span`: with a
+/// header or dotted key that touches `span`, with braces that do, or the root at the start of the text. Fails if an
+/// allocation fails.
+pub fn insertions(
+    alloc: Global,
+    guide: &Guide,
+    document: &Document<'_>,
+    span: Span,
+) -> Result<Vec<Insertion>, AllocError> {
+    let mut found = Vec::new(alloc);
+    for node in nodes(alloc, &document.root)? {
+        let place = if node.path.is_empty() {
+            Span { start: 0, end: 0 }
+        } else {
+            node.value.span
+        };
+        let is_here = touches(place, span.start) || touches(span, place.start);
+        if is_here && node.value.as_table().is_some() {
+            push_insertions(alloc, guide, document, node.path.as_slice(), &mut found)?;
+        }
+    }
+    Ok(found)
+}
