@@ -2,7 +2,8 @@
 """Tests the language server: python3 sessions.py PROGRAM FILE..
 
 A session is a file of lines: `-> JSON` is a message to the server, `<- JSON` one that it must send next, `=> TEXT`
-bytes that are sent as they are (with the escapes of Python), and `status N` the exit status, by default 0.
+bytes that are sent as they are (with the escapes of Python), `spaces N` that many spaces that are sent, and `status N`
+the exit status, by default 0.
 `"jsonrpc": "2.0"` is added to messages without it, and not compared; `"..."` stands for any value. `file PATH TEXT`
 writes a file in the folder in which the server runs, once all messages before it have come; `HERE` stands for the path
 of that folder. Lines that begin with `#` are comments. A line that begins with spaces goes on with the line before it.
@@ -102,6 +103,8 @@ def read_session(name, here):
             parts[-1].sent += encoded(json.loads(text))
         elif kind == "=>":
             parts[-1].sent += text.encode().decode("unicode_escape").encode("latin-1")
+        elif kind == "spaces":
+            parts[-1].sent += b" " * int(text)
         elif kind == "<-":
             wanted.append(json.loads(text))
         elif kind == "status":

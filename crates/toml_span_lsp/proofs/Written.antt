@@ -1,7 +1,6 @@
 -- Frames that are written one after the other.
-use Rattle.toml_span_lex.proofs.Common.{◌≡◌, ℕ, ◌+◌, ◌≤◌, List, [], ◌++◌, Option, Some, None, flat_map, length, map, take, sym, subst, ap, ◌∙◌, refl, arith, length-append, take_all, flat_map-append, flat_map-map, Appends, Appends-nil, Appends-trans, Vec, Global}
+use Rattle.toml_span_lex.proofs.Common.{◌≡◌, ℕ, ◌+◌, List, [], ◌++◌, Option, Some, None, flat_map, length, map, take, sym, subst, ap, ◌∙◌, refl, arith, length-append, take_all, flat_map-append, flat_map-map, Appends, Appends-nil, Appends-trans, Vec, Global}
 use Rattle.std.proofs.Math.Seq.{take-append-add}
-use Rattle.toml_span_lines.specs.Run.{HasWritten}
 use Rattle.toml_span_lsp.specs.Frames.{AreFrames, Writes, WritesFrames, WritesFront, frame_of}
 
 -- the frames of messages are frames

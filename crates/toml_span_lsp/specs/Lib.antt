@@ -1,2 +1,3 @@
 pub mod Diagnosed
 pub mod Frames
+pub mod Messages

@@ -1,15 +1,15 @@
 //! Code actions: repairs of diagnostics, and conversions of tables and arrays.
 use crate::incoming::{member, range_of};
-use crate::outgoing::{flag, text, write_workspace_edit};
-use json::{Value, Writer};
-use std::alloc::{AllocError, Global};
-use toml_span_check::newer::Version;
+use crate::methods::Request;
+use crate::outgoing::{Json, write_workspace_edit};
+use json::Value;
+use std::alloc::AllocError;
 use toml_span_editor::conversions::{OFFERS, converting};
 use toml_span_editor::diagnostics::{all_repairs, repairs};
 use toml_span_editor::document::{Document, read};
 use toml_span_editor::edits::Edit;
+use toml_span_editor::missing::insertions;
 use toml_span_editor::positions::offset_at;
-use toml_span_editor::table::PositionTable;
 use toml_span_lex::span::Span;
 use toml_span_lookup::lookup::Lookup;
 
@@ -44,43 +44,39 @@ fn is_wanted(params: &Value<'_>, kind: &str) -> bool {
 
 /// Writes an action of this kind that makes these edits.
 fn write_action(
-    out: &mut Writer,
-    uri: &str,
-    table: &PositionTable<'_>,
+    request: &Request<'_, '_, '_>,
     title: &str,
     kind: &str,
     is_preferred: bool,
     edits: &[Edit],
-) -> Result<(), AllocError> {
-    out.begin_object()?;
-    text(out, "title", title)?;
-    text(out, "kind", kind)?;
-    flag(out, "isPreferred", is_preferred)?;
-    out.key("edit")?;
-    write_workspace_edit(out, uri, table, edits)?;
-    out.end_object()
+    out: &mut Json,
+) {
+    out.begin_object();
+    out.text("title", title);
+    out.text("kind", kind);
+    out.flag("isPreferred", is_preferred);
+    out.key("edit");
+    write_workspace_edit(out, request.uri, request.table, edits);
+    out.end_object();
 }
 
 /// Writes an action for each possible conversion of the table or array at the offset `at`.
 fn write_conversions(
-    alloc: Global,
-    out: &mut Writer,
-    uri: &str,
-    table: &PositionTable<'_>,
+    request: &Request<'_, '_, '_>,
     document: &Document<'_>,
     at: usize,
+    out: &mut Json,
 ) -> Result<(), AllocError> {
     for offer in &OFFERS {
-        if let Some(made) = converting(alloc, document, offer.conversion, at)? {
+        if let Some(made) = converting(request.alloc, document, offer.conversion, at)? {
             write_action(
-                out,
-                uri,
-                table,
+                request,
                 offer.title,
                 REWRITE,
                 false,
                 made.edits.as_slice(),
-            )?;
+                out,
+            );
         }
     }
     Ok(())
@@ -89,22 +85,45 @@ fn write_conversions(
 /// Writes an action for each repair of a diagnostic that touches `span`. `document` is the result of `read` for the
 /// text.
 fn write_repairs(
-    alloc: Global,
-    out: &mut Writer,
-    uri: &str,
-    table: &PositionTable<'_>,
+    request: &Request<'_, '_, '_>,
     document: Option<&Document<'_>>,
-    version: Version,
-    name: &str,
     lookup: &mut Lookup,
     span: Span,
+    out: &mut Json,
 ) -> Result<(), AllocError> {
-    let (text, chooser) = (table.text, lookup.chooser());
-    let found = repairs(alloc, text, document, version, chooser, name, lookup, span)?;
+    let found = repairs(
+        request.alloc,
+        request.table.text,
+        document,
+        request.settings.version,
+        lookup.chooser(),
+        request.name,
+        lookup,
+        span,
+    )?;
     for repair in &found {
         let title = repair.title.as_str();
         let edits = repair.edits.as_slice();
-        write_action(out, uri, table, title, QUICK_FIX, repair.is_safe, edits)?;
+        write_action(request, title, QUICK_FIX, repair.is_safe, edits, out);
+    }
+    Ok(())
+}
+
+/// Writes an action for each missing key of a table at `span` that the document's schema requires.
+fn write_insertions(
+    request: &Request<'_, '_, '_>,
+    document: &Document<'_>,
+    lookup: &Lookup,
+    span: Span,
+    out: &mut Json,
+) -> Result<(), AllocError> {
+    let (alloc, text) = (request.alloc, request.table.text);
+    let Some(guide) = lookup.guide_of(alloc, request.name, text)? else {
+        return Ok(());
+    };
+    for made in &insertions(alloc, guide, document, span)? {
+        let edits = made.edits.as_slice();
+        write_action(request, made.title.as_str(), QUICK_FIX, false, edits, out);
     }
     Ok(())
 }
@@ -112,58 +131,53 @@ fn write_repairs(
 /// Writes an action that makes the edits of `all_repairs`, if there are any. `document` is the result of `read` for the
 /// text.
 fn write_fix_all(
-    alloc: Global,
-    out: &mut Writer,
-    uri: &str,
-    table: &PositionTable<'_>,
+    request: &Request<'_, '_, '_>,
     document: Option<&Document<'_>>,
-    version: Version,
-    name: &str,
+    out: &mut Json,
 ) -> Result<(), AllocError> {
-    let edits = all_repairs(alloc, table.text, document, version, name)?;
-    if edits.is_empty() {
-        return Ok(());
+    let (text, version) = (request.table.text, request.settings.version);
+    let edits = all_repairs(request.alloc, text, document, version, request.name)?;
+    if !edits.is_empty() {
+        let title = "Apply all safe fixes";
+        write_action(request, title, FIX_ALL, false, edits.as_slice(), out);
     }
-    let title = "Apply all safe fixes";
-    write_action(out, uri, table, title, FIX_ALL, false, edits.as_slice())
+    Ok(())
 }
 
-/// Writes a list of actions: one for each repair of a diagnostic that touches `span`, one with the edits of
-/// `all_repairs`, and one for each possible conversion of the table or array at the start of `span`. Leaves out kinds
-/// that the client does not want. `name` is the path of the file. Reads no files.
+/// Writes a list of actions: one for each repair of a diagnostic that touches `span`, one for each missing key of a
+/// table there, one with the edits of `all_repairs`, and one for each possible conversion of the table or array at the
+/// start of `span`. Leaves out kinds that the client does not want. Reads no files.
 pub(crate) fn write_actions(
-    alloc: Global,
-    out: &mut Writer,
-    uri: &str,
-    table: &PositionTable<'_>,
-    version: Version,
-    name: &str,
+    request: &Request<'_, '_, '_>,
     lookup: &mut Lookup,
     span: Span,
-    params: &Value<'_>,
+    out: &mut Json,
 ) -> Result<(), AllocError> {
-    let document = read(alloc, table.text)?;
+    let document = read(request.alloc, request.table.text)?;
     let document = document.as_ref();
-    out.begin_array()?;
-    if is_wanted(params, QUICK_FIX) {
-        write_repairs(
-            alloc, out, uri, table, document, version, name, lookup, span,
-        )?;
-    }
-    if is_wanted(params, FIX_ALL) {
-        write_fix_all(alloc, out, uri, table, document, version, name)?;
-    }
-    if let Some(document) = document {
-        if is_wanted(params, REWRITE) {
-            write_conversions(alloc, out, uri, table, document, span.start)?;
+    out.begin_array();
+    if is_wanted(request.params, QUICK_FIX) {
+        write_repairs(request, document, lookup, span, out)?;
+        if let Some(document) = document {
+            write_insertions(request, document, lookup, span, out)?;
         }
     }
-    out.end_array()
+    if is_wanted(request.params, FIX_ALL) {
+        write_fix_all(request, document, out)?;
+    }
+    if let Some(document) = document {
+        if is_wanted(request.params, REWRITE) {
+            write_conversions(request, document, span.start, out)?;
+        }
+    }
+    out.end_array();
+    Ok(())
 }
 
 /// Returns the range of a request as a span, or `None` if the request has no valid range.
-pub(crate) fn span_of(table: &PositionTable<'_>, params: &Value<'_>) -> Option<Span> {
-    let range = range_of(params.get("range")?)?;
+pub(crate) fn span_of(request: &Request<'_, '_, '_>) -> Option<Span> {
+    let range = range_of(request.params.get("range")?)?;
+    let table = request.table;
     let start = offset_at(table.encoding, table.text, range.start);
     let end = offset_at(table.encoding, table.text, range.end);
     Some(Span {

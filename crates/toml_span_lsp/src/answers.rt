@@ -1,97 +1,59 @@
 //! Writes answers about a position in a document: definitions, hovers and completion items.
-use crate::outgoing::{flag, number, range, text, write_location};
-use crate::suggested::write_suggestions;
-use json::Writer;
-use std::alloc::{AllocError, Global};
-use toml_span_editor::completion::{Proposal, proposals};
+use crate::methods::Request;
+use crate::outgoing::{Json, write_location};
+use crate::suggested::write_items;
+use std::alloc::AllocError;
+use toml_span_editor::completion::completion_at;
 use toml_span_editor::document::Document;
 use toml_span_editor::hover::hover_at;
 use toml_span_editor::keys::definition;
-use toml_span_editor::suggestions::suggestions;
-use toml_span_editor::table::PositionTable;
 use toml_span_schema::Guide;
 
 /// Writes the location where the key at an offset is defined, or null if there is no key at the offset.
 pub(crate) fn write_definition(
-    alloc: Global,
-    out: &mut Writer,
-    uri: &str,
-    table: &PositionTable<'_>,
+    request: &Request<'_, '_, '_>,
     document: &Document<'_>,
     at: usize,
+    out: &mut Json,
 ) -> Result<(), AllocError> {
-    match definition(alloc, document, at)? {
-        Some(span) => write_location(out, uri, table.range(span)),
+    match definition(request.alloc, document, at)? {
+        Some(span) => write_location(out, request.uri, request.table.range(span)),
         None => out.null(),
     }
+    Ok(())
 }
 
 /// Writes the description of the key or value at an offset. Writes null if neither a key nor a value other than a table
 /// is there.
 pub(crate) fn write_hover(
-    alloc: Global,
-    out: &mut Writer,
-    table: &PositionTable<'_>,
+    request: &Request<'_, '_, '_>,
     document: &Document<'_>,
     guide: Option<&Guide>,
     at: usize,
+    out: &mut Json,
 ) -> Result<(), AllocError> {
-    let Some(found) = hover_at(alloc, document, guide, at)? else {
-        return out.null();
+    let Some(found) = hover_at(request.alloc, document, guide, at)? else {
+        out.null();
+        return Ok(());
     };
-    out.begin_object()?;
-    out.key("contents")?;
-    out.begin_object()?;
-    text(out, "kind", "markdown")?;
-    text(out, "value", found.text.as_str())?;
-    out.end_object()?;
-    range(out, "range", table.range(found.span))?;
-    out.end_object()
+    out.begin_object();
+    out.object("contents");
+    out.text("kind", "markdown");
+    out.text("value", found.text.as_str());
+    out.end_object();
+    out.range("range", request.table.range(found.span));
+    out.end_object();
+    Ok(())
 }
 
-/// Writes a proposal as a completion item.
-fn write_proposal(out: &mut Writer, proposal: &Proposal) -> Result<(), AllocError> {
-    out.begin_object()?;
-    text(out, "label", proposal.text.as_str())?;
-    number(out, "kind", if proposal.is_key { 10 } else { 14 })?;
-    text(out, "detail", proposal.kind)?;
-    out.end_object()
-}
-
-/// Writes the completion items for the offset `at`: the `suggestions` of the schema `guide`. If `guide` is `None` or
-/// `suggestions` returns `None`, writes the items of `write_proposals`.
+/// Writes the completion items for the offset `at`.
 pub(crate) fn write_completion(
-    alloc: Global,
-    out: &mut Writer,
-    table: &PositionTable<'_>,
+    request: &Request<'_, '_, '_>,
     document: &Document<'_>,
     guide: Option<&Guide>,
-    has_snippets: bool,
     at: usize,
+    out: &mut Json,
 ) -> Result<(), AllocError> {
-    if let Some(known) = guide {
-        if let Some(found) = suggestions(alloc, known, table.text, document, at)? {
-            return write_suggestions(alloc, out, table, found.as_slice(), has_snippets);
-        }
-    }
-    write_proposals(alloc, out, table, document, at)
-}
-
-/// Writes the completion items for the offset `at` that `proposals` returns, without a schema.
-fn write_proposals(
-    alloc: Global,
-    out: &mut Writer,
-    table: &PositionTable<'_>,
-    document: &Document<'_>,
-    at: usize,
-) -> Result<(), AllocError> {
-    out.begin_object()?;
-    flag(out, "isIncomplete", false)?;
-    out.key("items")?;
-    out.begin_array()?;
-    for proposal in &proposals(alloc, table.text, document, at)? {
-        write_proposal(out, proposal)?;
-    }
-    out.end_array()?;
-    out.end_object()
+    let made = completion_at(request.alloc, guide, request.table.text, document, at)?;
+    write_items(request, &made, out)
 }

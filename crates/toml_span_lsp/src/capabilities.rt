@@ -1,10 +1,10 @@
 //! Answers `initialize`: stores the capabilities of the client, and writes those of the server.
 use crate::configuration::{settings_in, use_settings};
 use crate::incoming::{member, text_in};
-use crate::outgoing::{flag, number, text};
+use crate::outgoing::Json;
 use crate::state::{Client, State};
 use crate::uris::path_of_uri;
-use json::{Value, Writer};
+use json::Value;
 use std::alloc::{AllocError, Global};
 use toml_span_editor::positions::Encoding;
 
@@ -20,6 +20,9 @@ const PROVIDERS: [&str; 9] = [
     "foldingRangeProvider",
     "selectionRangeProvider",
 ];
+
+/// The version of the server.
+const VERSION: &str = "0.7.2";
 
 /// The types of semantic tokens, in the order of their numbers.
 const TOKEN_TYPES: [&str; 6] = ["comment", "type", "property", "string", "number", "keyword"];
@@ -117,87 +120,77 @@ pub(crate) fn store_client(
 }
 
 /// Writes a member whose value is a list of strings.
-fn list(out: &mut Writer, name: &str, items: &[&str]) -> Result<(), AllocError> {
-    out.key(name)?;
-    out.begin_array()?;
+fn list(out: &mut Json, name: &str, items: &[&str]) {
+    out.array(name);
     for item in items {
-        out.string(*item)?;
+        out.string(*item);
     }
-    out.end_array()
+    out.end_array();
 }
 
 /// Writes `textDocumentSync`: the client must report each document that is opened, changed, saved or closed, and the
 /// changes as ranges with new text.
-fn write_sync(out: &mut Writer) -> Result<(), AllocError> {
-    out.key("textDocumentSync")?;
-    out.begin_object()?;
-    flag(out, "openClose", true)?;
-    number(out, "change", 2)?;
-    flag(out, "save", true)?;
-    out.end_object()
+fn write_sync(out: &mut Json) {
+    out.object("textDocumentSync");
+    out.flag("openClose", true);
+    out.number("change", 2);
+    out.flag("save", true);
+    out.end_object();
 }
 
 /// Writes the capabilities of the server that have options.
-fn write_options(out: &mut Writer) -> Result<(), AllocError> {
-    out.key("completionProvider")?;
-    out.begin_object()?;
-    list(out, "triggerCharacters", &["=", ".", "[", "\"", "{", ","])?;
-    out.end_object()?;
-    out.key("documentLinkProvider")?;
-    out.begin_object()?;
-    out.end_object()?;
-    out.key("renameProvider")?;
-    out.begin_object()?;
-    flag(out, "prepareProvider", true)?;
-    out.end_object()?;
-    out.key("codeActionProvider")?;
-    out.begin_object()?;
+fn write_options(out: &mut Json) {
+    out.object("completionProvider");
+    list(out, "triggerCharacters", &["=", ".", "[", "\"", "{", ","]);
+    out.end_object();
+    out.object("documentLinkProvider");
+    out.end_object();
+    out.object("renameProvider");
+    out.flag("prepareProvider", true);
+    out.end_object();
+    out.object("codeActionProvider");
     list(
         out,
         "codeActionKinds",
         &["quickfix", "refactor.rewrite", "source.fixAll"],
-    )?;
-    out.end_object()?;
-    out.key("diagnosticProvider")?;
-    out.begin_object()?;
-    flag(out, "interFileDependencies", false)?;
-    flag(out, "workspaceDiagnostics", false)?;
-    out.end_object()
+    );
+    out.end_object();
+    out.object("diagnosticProvider");
+    out.flag("interFileDependencies", false);
+    out.flag("workspaceDiagnostics", false);
+    out.end_object();
 }
 
 /// Writes the capability for semantic tokens, with their types.
-fn write_tokens(out: &mut Writer) -> Result<(), AllocError> {
-    out.key("semanticTokensProvider")?;
-    out.begin_object()?;
-    out.key("legend")?;
-    out.begin_object()?;
-    list(out, "tokenTypes", &TOKEN_TYPES)?;
-    list(out, "tokenModifiers", &[])?;
-    out.end_object()?;
-    flag(out, "full", true)?;
-    out.end_object()
+fn write_tokens(out: &mut Json) {
+    out.object("semanticTokensProvider");
+    out.object("legend");
+    list(out, "tokenTypes", &TOKEN_TYPES);
+    list(out, "tokenModifiers", &[]);
+    out.end_object();
+    out.flag("full", true);
+    out.end_object();
 }
 
 /// Writes the answer to `initialize`.
-pub(crate) fn write_capabilities(out: &mut Writer, encoding: Encoding) -> Result<(), AllocError> {
+pub(crate) fn write_capabilities(out: &mut Json, encoding: Encoding) {
     let units = match encoding {
         Encoding::Utf8 => "utf-8",
         Encoding::Utf16 => "utf-16",
     };
-    out.begin_object()?;
-    out.key("capabilities")?;
-    out.begin_object()?;
-    text(out, "positionEncoding", units)?;
-    write_sync(out)?;
+    out.begin_object();
+    out.object("capabilities");
+    out.text("positionEncoding", units);
+    write_sync(out);
     for name in &PROVIDERS {
-        flag(out, *name, true)?;
+        out.flag(*name, true);
     }
-    write_options(out)?;
-    write_tokens(out)?;
-    out.end_object()?;
-    out.key("serverInfo")?;
-    out.begin_object()?;
-    text(out, "name", "toml-span")?;
-    out.end_object()?;
-    out.end_object()
+    write_options(out);
+    write_tokens(out);
+    out.end_object();
+    out.object("serverInfo");
+    out.text("name", "toml-span");
+    out.text("version", VERSION);
+    out.end_object();
+    out.end_object();
 }

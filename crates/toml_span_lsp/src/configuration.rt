@@ -1,6 +1,6 @@
 //! Requests the settings of the client, and uses them.
 use crate::incoming::Id;
-use crate::outgoing::{finished, request, text};
+use crate::outgoing::{Json, Outbox, ServerCall};
 use crate::publish::publish;
 use crate::settings::{AllSettings, read_settings};
 use crate::state::State;
@@ -16,44 +16,41 @@ const SECTION: &str = "toml-span";
 const SETTINGS: &str = "settings";
 
 /// Returns the request for the settings.
-fn settings_request(alloc: Global) -> Result<Vec<u8>, AllocError> {
-    let mut out = request(alloc, SETTINGS, "workspace/configuration")?;
-    out.begin_object()?;
-    out.key("items")?;
-    out.begin_array()?;
-    out.begin_object()?;
-    text(&mut out, "section", SECTION)?;
-    out.end_object()?;
-    out.end_array()?;
-    out.end_object()?;
-    finished(out)
+fn settings_request(alloc: Global) -> ServerCall {
+    let mut out = Json::new(alloc);
+    out.begin_object();
+    out.array("items");
+    out.begin_object();
+    out.text("section", SECTION);
+    out.end_object();
+    out.end_array();
+    out.end_object();
+    ServerCall::request(SETTINGS, "workspace/configuration", out)
 }
 
 /// Returns the request that asks the client to report changes of the settings.
-fn registration(alloc: Global) -> Result<Vec<u8>, AllocError> {
-    let mut out = request(alloc, "registration", "client/registerCapability")?;
-    out.begin_object()?;
-    out.key("registrations")?;
-    out.begin_array()?;
-    out.begin_object()?;
-    text(&mut out, "id", SETTINGS)?;
-    text(&mut out, "method", "workspace/didChangeConfiguration")?;
-    out.key("registerOptions")?;
-    out.begin_object()?;
-    text(&mut out, "section", SECTION)?;
-    out.end_object()?;
-    out.end_object()?;
-    out.end_array()?;
-    out.end_object()?;
-    finished(out)
+fn registration(alloc: Global) -> ServerCall {
+    let mut out = Json::new(alloc);
+    out.begin_object();
+    out.array("registrations");
+    out.begin_object();
+    out.text("id", SETTINGS);
+    out.text("method", "workspace/didChangeConfiguration");
+    out.object("registerOptions");
+    out.text("section", SECTION);
+    out.end_object();
+    out.end_object();
+    out.end_array();
+    out.end_object();
+    ServerCall::request("registration", "client/registerCapability", out)
 }
 
 /// Returns the request that asks the client to request diagnostics again.
-fn refresh_request(alloc: Global) -> Result<Vec<u8>, AllocError> {
-    let mut out = request(alloc, "refresh", "workspace/diagnostic/refresh")?;
-    out.begin_object()?;
-    out.end_object()?;
-    finished(out)
+fn refresh_request(alloc: Global) -> ServerCall {
+    let mut out = Json::new(alloc);
+    out.begin_object();
+    out.end_object();
+    ServerCall::request("refresh", "workspace/diagnostic/refresh", out)
 }
 
 /// Returns the settings in `value`. Adds a line to `state.notices` if settings are wrong.
@@ -94,7 +91,7 @@ fn change_settings<D: Disk>(
     state: &mut State,
     disk: &mut D,
     value: Option<&Value<'_>>,
-    out: &mut Vec<Vec<u8>>,
+    out: &mut Outbox,
 ) -> Result<(), AllocError> {
     let value = not_empty(value);
     let settings = match value {
@@ -117,25 +114,20 @@ fn change_settings<D: Disk>(
         publish(alloc, state, uri.as_str(), out)?;
     }
     if state.client.asks_diagnostics && state.client.refreshes_diagnostics {
-        out.push(refresh_request(alloc)?)?;
+        out.add(refresh_request(alloc));
     }
     Ok(())
 }
 
 /// Appends the request to report changes of the settings, and the request for the settings. Leaves out a request that
 /// the client does not support.
-pub(crate) fn initialized(
-    alloc: Global,
-    state: &State,
-    out: &mut Vec<Vec<u8>>,
-) -> Result<(), AllocError> {
+pub(crate) fn initialized(alloc: Global, state: &State, out: &mut Outbox) {
     if state.client.registers_settings {
-        out.push(registration(alloc)?)?;
+        out.add(registration(alloc));
     }
     if state.client.has_settings {
-        out.push(settings_request(alloc)?)?;
+        out.add(settings_request(alloc));
     }
-    Ok(())
 }
 
 /// Carries out the notification that the settings have changed. Appends the request for the settings if the client
@@ -145,10 +137,10 @@ pub(crate) fn settings_changed<D: Disk>(
     state: &mut State,
     disk: &mut D,
     params: &Value<'_>,
-    out: &mut Vec<Vec<u8>>,
+    out: &mut Outbox,
 ) -> Result<(), AllocError> {
     if state.client.has_settings {
-        out.push(settings_request(alloc)?)?;
+        out.add(settings_request(alloc));
         return Ok(());
     }
     match params.get("settings") {
@@ -167,7 +159,7 @@ pub(crate) fn settings_came<D: Disk>(
     disk: &mut D,
     id: Id<'_>,
     answer: Option<&Value<'_>>,
-    out: &mut Vec<Vec<u8>>,
+    out: &mut Outbox,
 ) -> Result<(), AllocError> {
     let Id::Text(SETTINGS) = id else {
         return Ok(());

@@ -1,39 +1,39 @@
 //! Writes answers about renames and formatting.
 use crate::actions::span_of;
 use crate::incoming::text_in;
-use crate::outgoing::{range, text, write_edits, write_workspace_edit};
+use crate::methods::Request;
+use crate::outgoing::{Json, write_edits, write_workspace_edit};
 use crate::refusal::{INVALID_PARAMS, REQUEST_FAILED, Refusal, refused};
-use json::{Value, Writer};
-use std::alloc::{AllocError, Global};
+use json::Value;
+use std::alloc::AllocError;
 use toml_span_editor::document::read;
 use toml_span_editor::formatting::{formatting, formatting_of};
 use toml_span_editor::renaming::{renamable_at, rename};
-use toml_span_editor::table::PositionTable;
 use toml_span_format::Options;
 use toml_span_lex::stop::Stop;
 
 /// Writes the edits that rename the key at the offset `at` to the `newName` in `params`. Fails with a `Refusal` if
 /// `newName` is not a string, if the document has errors, or if the rename is refused.
 pub(crate) fn write_rename(
-    alloc: Global,
-    out: &mut Writer,
-    uri: &str,
-    table: &PositionTable<'_>,
+    request: &Request<'_, '_, '_>,
     at: usize,
-    params: &Value<'_>,
+    out: &mut Json,
 ) -> Result<(), Stop<Refusal>> {
-    let Some(name) = text_in(params, &["newName"]) else {
-        return Err(refused(alloc, INVALID_PARAMS, "`newName` must be a string"));
+    let Some(name) = text_in(request.params, &["newName"]) else {
+        return Err(refused(request.alloc, INVALID_PARAMS, "`newName` must be a string"));
     };
-    let Some(document) = read(alloc, table.text)? else {
+    let Some(document) = read(request.alloc, request.table.text)? else {
         let message = "the document has errors: correct them first";
-        return Err(refused(alloc, REQUEST_FAILED, message));
+        return Err(refused(request.alloc, REQUEST_FAILED, message));
     };
-    match rename(alloc, &document, at, name) {
-        Ok(made) => Ok(write_workspace_edit(out, uri, table, made.edits.as_slice())?),
+    match rename(request.alloc, &document, at, name) {
+        Ok(made) => {
+            write_workspace_edit(out, request.uri, request.table, made.edits.as_slice());
+            Ok(())
+        }
         Err(stop) => {
             let reason = stop.fault()?;
-            Err(refused(alloc, REQUEST_FAILED, reason.as_str()))
+            Err(refused(request.alloc, REQUEST_FAILED, reason.as_str()))
         }
     }
 }
@@ -41,21 +41,26 @@ pub(crate) fn write_rename(
 /// Writes the range and the name of the key at an offset. Writes null if there is no key at the offset, or if the
 /// document has errors.
 pub(crate) fn write_renamable(
-    alloc: Global,
-    out: &mut Writer,
-    table: &PositionTable<'_>,
+    request: &Request<'_, '_, '_>,
     at: usize,
+    out: &mut Json,
 ) -> Result<(), AllocError> {
-    let Some(document) = read(alloc, table.text)? else {
-        return out.null();
+    let Some(document) = read(request.alloc, request.table.text)? else {
+        out.null();
+        return Ok(());
     };
-    let Some(key) = renamable_at(alloc, &document, at)? else {
-        return out.null();
+    let Some(key) = renamable_at(request.alloc, &document, at)? else {
+        out.null();
+        return Ok(());
     };
-    out.begin_object()?;
-    range(out, "range", table.range(key.span))?;
-    text(out, "placeholder", key.name.as_str())?;
-    out.end_object()
+    out.begin_object();
+    out.range("range", request.table.range(key.span));
+    match key.path.last() {
+        Some(name) => out.text("placeholder", name.as_ref()),
+        None => out.text("placeholder", ""),
+    }
+    out.end_object();
+    Ok(())
 }
 
 /// Returns the options of the formatter: `width`, and the `tabSize` of the request as the indentation. If `width` is
@@ -75,19 +80,18 @@ fn options_of(width: Option<usize>, params: &Value<'_>) -> Options {
 /// Writes the edits that format a document or, if the request has a valid range, the lines of the range. Writes null if
 /// the document, or the range alone, can't be formatted.
 pub(crate) fn write_formatting(
-    alloc: Global,
-    out: &mut Writer,
-    table: &PositionTable<'_>,
-    width: Option<usize>,
-    params: &Value<'_>,
+    request: &Request<'_, '_, '_>,
+    out: &mut Json,
 ) -> Result<(), AllocError> {
-    let options = options_of(width, params);
-    let made = match span_of(table, params) {
-        None => formatting(alloc, table.text, options)?,
-        Some(span) => formatting_of(alloc, table.text, options, span)?,
+    let options = options_of(request.settings.width, request.params);
+    let text = request.table.text;
+    let made = match span_of(request) {
+        None => formatting(request.alloc, text, options)?,
+        Some(span) => formatting_of(request.alloc, text, options, span)?,
     };
     match made {
-        Some(made) => write_edits(out, table, made.edits.as_slice()),
+        Some(made) => write_edits(out, request.table, made.edits.as_slice()),
         None => out.null(),
     }
+    Ok(())
 }

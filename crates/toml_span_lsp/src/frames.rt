@@ -1,6 +1,8 @@
 //! Frames: headers, an empty line, and the content (LSP 3.17, Base Protocol).
-ghost use Rattle.std.specs.Prelude.{◌≡◌, ◌++◌, ◌≤◌, IfOk, OnOk, length};
+ghost use Rattle.std.specs.Prelude.{◌≡◌, ◌≢◌, ◌+◌, ◌<◌, ◌^◌, ◌++◌, ◌≤◌, IfSome, List, OnOk, Some, codes, length, ℕ};
+ghost use Rattle.std.specs.List.{All};
 ghost use Rattle.toml_span_lsp.specs.Frames as spec;
+ghost use Rattle.toml_span_lsp.specs.Frames.{IsShort};
 
 use std::alloc::AllocError;
 use std::fmt::Write;
@@ -18,8 +20,6 @@ pub enum FrameFault {
     Headers,
     /// There is no header `Content-Length`, or its value is not a number.
     Length,
-    /// The content is longer than `LIMIT`.
-    TooLong,
 }
 
 /// The result of reading a frame at the start of the bytes.
@@ -27,6 +27,8 @@ pub enum FrameFault {
 pub enum Framed {
     /// The whole frame is there. Its content is from `start` to `end`, the end exclusive.
     Whole { start: usize, end: usize },
+    /// The content is longer than `LIMIT`, and ends at the offset `end`, which may be past the bytes.
+    TooLong { end: usize },
     /// Only a part of the frame is there: more bytes are needed.
     Part,
     /// The bytes don't begin with a frame.
@@ -35,23 +37,34 @@ pub enum Framed {
 
 /// Returns the offset after the empty line that ends the headers, or `None` if this line does not end in the first 8
 /// KiB.
-fn headers_end(bytes: &[u8]) -> Option<usize> {
+fn headers_end(bytes: &[u8]) -> Option<usize>
+    ensures within { IfSome result (λ end. end ≤ length bytes.now) }
+    ensures first { (head more rest : List ℕ) → All (λ b. b ≢ 13) head → length head + 4 ≤ 8192
+        → bytes.now ++ more ≡ head ++ (codes "\r\n\r\n" ++ rest)
+        → result ≡ spec.end_of_headers (length head + 4) (length bytes.now) }
+{
     let most = bytes.len().min(HEADERS);
     for at in 3..most {
-        if bytes[at] == b'\n'
-            && bytes[at - 1] == b'\r'
-            && bytes[at - 2] == b'\n'
-            && bytes[at - 3] == b'\r'
-        {
+        let rest = &bytes[at - 3..];
+        if rest.starts_with(b"\r\n\r\n") {
             return Some(at + 1);
         }
     }
     None
 }
 
+/// Returns the value of the header `Content-Length` if it is the only header, written as `push_frame` writes it. `None`
+/// only means that the headers have another form.
+fn plain_length(headers: &str) -> Option<usize>
+    ensures { (n : ℕ) → n < 2 ^ 64 → headers.now ≡ spec.head_of n → result ≡ Some n }
+{
+    let value = headers.strip_prefix("Content-Length: ")?;
+    value.strip_suffix("\r\n\r\n")?.parse().ok()
+}
+
 /// Returns the value of the last header `Content-Length`, or `None` if the header is missing or its value is not a
 /// number.
-fn length_in(headers: &str) -> Option<usize> {
+fn last_length(headers: &str) -> Option<usize> {
     let mut found = None;
     for line in headers.split("\r\n") {
         if let Some((name, value)) = line.split_once(':') {
@@ -63,13 +76,25 @@ fn length_in(headers: &str) -> Option<usize> {
     found
 }
 
-/// Returns the frame whose content begins at `start` and has this length. Returns `Part` if the bytes end before the
-/// content does, or a fault if `length` exceeds `LIMIT`.
-fn content(bytes: &[u8], start: usize, length: usize) -> Framed {
-    if length > LIMIT {
-        return Framed::Fault(FrameFault::TooLong);
+/// Returns the value of the header `Content-Length`, or `None` if the header is missing or its value is not a number.
+fn length_in(headers: &str) -> Option<usize>
+    ensures { (n : ℕ) → n < 2 ^ 64 → headers.now ≡ spec.head_of n → result ≡ Some n }
+{
+    match plain_length(headers) {
+        Some(length) => Some(length),
+        None => last_length(headers),
     }
-    let end = start.saturating_add(length);
+}
+
+/// Returns the frame whose content begins at `start` and has `count` bytes. Returns `Part` if the bytes end before the
+/// content does.
+fn content(bytes: &[u8], start: usize, count: usize) -> Framed
+    ensures { count ≤ spec.limit → start ≤ 8192 → result ≡ spec.framed_at start (start + count) (length bytes.now) }
+{
+    let end = start.saturating_add(count);
+    if count > LIMIT {
+        return Framed::TooLong { end };
+    }
     if end > bytes.len() {
         Framed::Part
     } else {
@@ -77,21 +102,31 @@ fn content(bytes: &[u8], start: usize, length: usize) -> Framed {
     }
 }
 
-/// Reads the frame at the start of the bytes.
-pub fn frame(bytes: &[u8]) -> Framed {
-    let Some(start) = headers_end(bytes) else {
-        return if bytes.len() < HEADERS {
-            Framed::Part
-        } else {
-            Framed::Fault(FrameFault::Headers)
-        };
-    };
-    let Ok(headers) = str::from_utf8(bytes.get(..start).unwrap_or(&[])) else {
+/// Reads the frame at the start of the bytes, whose headers end at `start`.
+fn frame_after(bytes: &[u8], start: usize) -> Framed
+    requires { start ≤ length bytes.now }
+    ensures { (content more rest : List ℕ) → IsShort content → bytes.now ++ more ≡ spec.frame_of content ++ rest
+        → start ≡ length (spec.head_of (length content)) → result ≡ spec.framed content (length bytes.now) }
+{
+    let headers = &bytes[..start];
+    let Ok(headers) = str::from_utf8(headers) else {
         return Framed::Fault(FrameFault::Headers);
     };
     match length_in(headers) {
         Some(length) => content(bytes, start, length),
         None => Framed::Fault(FrameFault::Length),
+    }
+}
+
+/// Reads the frame at the start of the bytes.
+pub fn frame(bytes: &[u8]) -> Framed
+    ensures { (content more rest : List ℕ) → IsShort content → bytes.now ++ more ≡ spec.frame_of content ++ rest
+        → result ≡ spec.framed content (length bytes.now) }
+{
+    match headers_end(bytes) {
+        Some(start) => frame_after(bytes, start),
+        None if bytes.len() < HEADERS => Framed::Part,
+        None => Framed::Fault(FrameFault::Headers),
     }
 }
 

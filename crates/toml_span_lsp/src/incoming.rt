@@ -1,4 +1,11 @@
 //! Reads messages from the client (JSON-RPC 2.0).
+ghost use Rattle.std.specs.Prelude.{◌≡◌, None, Ok, Some, codes};
+ghost use Rattle.json.specs.Find.{get};
+ghost use Rattle.json.specs.Token.{Token};
+ghost use Rattle.json.specs.Value.{value_view};
+ghost use Rattle.toml_span_lsp.specs.Messages as spec;
+ghost use Rattle.toml_span_lsp.specs.Messages.{HasId, IsNotification, IsRequest};
+
 use json::Value;
 use toml_span_editor::positions::{Position, Range};
 
@@ -31,7 +38,10 @@ pub(crate) enum Message<'v, 'j> {
 }
 
 /// Returns the id of a message, or `None` if the message has none. Fails if the id is not an integer, a string or null.
-fn id_of<'v, 'j>(message: &'v Value<'j>) -> Result<Option<Id<'v>>, ()> {
+fn id_of<'v, 'j>(message: &'v Value<'j>) -> Result<Option<Id<'v>>, ()>
+    ensures none { get (codes "id") (value_view message.now) ≡ None → result ≡ Ok None }
+    ensures some { (id : Token) → HasId (value_view message.now) id → spec.read_id result ≡ Some id }
+{
     match message.get("id") {
         None => Ok(None),
         Some(Value::Null) => Ok(Some(Id::Null)),
@@ -44,7 +54,10 @@ fn id_of<'v, 'j>(message: &'v Value<'j>) -> Result<Option<Id<'v>>, ()> {
 }
 
 /// Reads a JSON value as a message. The `params` of a call without parameters are the whole message.
-pub(crate) fn message_of<'v, 'j>(value: &'v Value<'j>) -> Message<'v, 'j> {
+pub(crate) fn message_of<'v, 'j>(value: &'v Value<'j>) -> Message<'v, 'j>
+    ensures request { (id : Token) → IsRequest (value_view value.now) id → spec.awaited result ≡ Some id }
+    ensures notification { IsNotification (value_view value.now) → spec.awaited result ≡ None }
+{
     let Ok(id) = id_of(value) else {
         return Message::Invalid(Id::Null);
     };

@@ -21,6 +21,7 @@ mod settings;
 mod state;
 mod steps;
 mod suggested;
+mod surrogates;
 mod sync;
 mod uris;
 

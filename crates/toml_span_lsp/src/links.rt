@@ -1,9 +1,8 @@
 //! The links in a document: from a `#:schema` directive to the schema.
-use crate::outgoing::{range, text};
+use crate::methods::Request;
+use crate::outgoing::Json;
 use crate::uris::uri_of_path;
-use json::Writer;
 use std::alloc::{AllocError, Global};
-use toml_span_editor::table::PositionTable;
 use toml_span_lookup::directive::directive_of;
 use toml_span_lookup::lookup::Lookup;
 
@@ -22,24 +21,23 @@ fn target_of(
     }
 }
 
-/// Writes a list with a link from the `#:schema` directive of the document `name` to the schema. The list is empty if
-/// there is no directive, or if `target_of` returns `None`.
+/// Writes a list with a link from the `#:schema` directive of the document to the schema. The list is empty if there is
+/// no directive, or if `target_of` returns `None`.
 pub(crate) fn write_links(
-    alloc: Global,
-    out: &mut Writer,
-    table: &PositionTable<'_>,
+    request: &Request<'_, '_, '_>,
     lookup: &Lookup,
-    name: &str,
+    out: &mut Json,
 ) -> Result<(), AllocError> {
-    out.begin_array()?;
-    if let Some(directive) = directive_of(table.text) {
-        if let Some(target) = target_of(alloc, lookup, name, directive.address)? {
-            out.begin_object()?;
-            range(out, "range", table.range(directive.span))?;
-            text(out, "target", target.as_str())?;
-            text(out, "tooltip", "Open the schema")?;
-            out.end_object()?;
+    out.begin_array();
+    if let Some(directive) = directive_of(request.table.text) {
+        if let Some(target) = target_of(request.alloc, lookup, request.name, directive.address)? {
+            out.begin_object();
+            out.range("range", request.table.range(directive.span));
+            out.text("target", target.as_str());
+            out.text("tooltip", "Open the schema");
+            out.end_object();
         }
     }
-    out.end_array()
+    out.end_array();
+    Ok(())
 }

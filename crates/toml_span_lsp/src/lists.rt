@@ -1,6 +1,8 @@
 //! Writes answers that list parts of a document: symbols, folds, selections, highlights, references and tokens.
-use crate::outgoing::{number, range, text, write_location};
-use json::Writer;
+use crate::incoming::member;
+use crate::methods::Request;
+use crate::outgoing::{Json, write_location};
+use json::Value;
 use std::alloc::{AllocError, Global};
 use toml_span_editor::document::Document;
 use toml_span_editor::folding::folds;
@@ -24,128 +26,120 @@ fn symbol_kind(kind: &str) -> usize {
 }
 
 /// Writes a symbol and the symbols inside it.
-fn write_symbol(
-    out: &mut Writer,
-    table: &PositionTable<'_>,
-    symbol: &Symbol,
-) -> Result<(), AllocError> {
-    out.begin_object()?;
+fn write_symbol(out: &mut Json, table: &PositionTable<'_>, symbol: &Symbol) {
+    out.begin_object();
     let name = if symbol.name.is_empty() {
         "\"\""
     } else {
         symbol.name.as_str()
     };
-    text(out, "name", name)?;
-    number(out, "kind", symbol_kind(symbol.kind))?;
-    range(out, "range", table.range(symbol.span))?;
-    range(out, "selectionRange", table.range(symbol.selection))?;
-    out.key("children")?;
-    out.begin_array()?;
+    out.text("name", name);
+    out.number("kind", symbol_kind(symbol.kind));
+    out.range("range", table.range(symbol.span));
+    out.range("selectionRange", table.range(symbol.selection));
+    out.array("children");
     for child in &symbol.children {
-        write_symbol(out, table, child)?;
+        write_symbol(out, table, child);
     }
-    out.end_array()?;
-    out.end_object()
+    out.end_array();
+    out.end_object();
 }
 
 /// Writes the outline of a document.
 pub(crate) fn write_symbols(
-    alloc: Global,
-    out: &mut Writer,
-    table: &PositionTable<'_>,
+    request: &Request<'_, '_, '_>,
     document: &Document<'_>,
+    out: &mut Json,
 ) -> Result<(), AllocError> {
-    out.begin_array()?;
-    for symbol in &outline(alloc, document)? {
-        write_symbol(out, table, symbol)?;
+    out.begin_array();
+    for symbol in &outline(request.alloc, document)? {
+        write_symbol(out, request.table, symbol);
     }
-    out.end_array()
+    out.end_array();
+    Ok(())
 }
 
-/// Writes the first and last lines of the parts of a document that can be folded. Leaves out parts on one line.
-pub(crate) fn write_folds(
-    alloc: Global,
-    out: &mut Writer,
-    table: &PositionTable<'_>,
-    document: &Document<'_>,
-) -> Result<(), AllocError> {
-    out.begin_array()?;
-    for fold in &folds(alloc, document)? {
-        let place = table.range(fold.span);
+/// Writes the first and last lines of the parts of a text that can be folded. Leaves out parts on one line.
+pub(crate) fn write_folds(request: &Request<'_, '_, '_>, out: &mut Json) -> Result<(), AllocError> {
+    out.begin_array();
+    for fold in &folds(request.alloc, request.table.text)? {
+        let place = request.table.range(fold.span);
         let is_before = place.end.character == 0 && place.start.line < place.end.line;
         let end = place.end.line.saturating_sub(if is_before { 1 } else { 0 });
         if place.start.line < end {
-            out.begin_object()?;
-            number(out, "startLine", place.start.line)?;
-            number(out, "endLine", end)?;
-            text(
-                out,
-                "kind",
-                if fold.is_comment { "comment" } else { "region" },
-            )?;
-            out.end_object()?;
+            out.begin_object();
+            out.number("startLine", place.start.line);
+            out.number("endLine", end);
+            out.text("kind", if fold.is_comment { "comment" } else { "region" });
+            out.end_object();
         }
     }
-    out.end_array()
+    out.end_array();
+    Ok(())
 }
 
 /// Writes the ranges around an offset, from the inside out, each with the next range as its parent.
 pub(crate) fn write_selection(
     alloc: Global,
-    out: &mut Writer,
     table: &PositionTable<'_>,
     document: &Document<'_>,
     at: usize,
+    out: &mut Json,
 ) -> Result<(), AllocError> {
     let spans = selections(alloc, document, at)?;
     for (index, span) in spans.iter().enumerate() {
         if index > 0 {
-            out.key("parent")?;
+            out.key("parent");
         }
-        out.begin_object()?;
-        range(out, "range", table.range(*span))?;
+        out.begin_object();
+        out.range("range", table.range(*span));
     }
     for _ in &spans {
-        out.end_object()?;
+        out.end_object();
     }
     Ok(())
 }
 
 /// Writes the ranges of all places where the key at an offset is written.
 pub(crate) fn write_highlights(
-    alloc: Global,
-    out: &mut Writer,
-    table: &PositionTable<'_>,
+    request: &Request<'_, '_, '_>,
     document: &Document<'_>,
     at: usize,
+    out: &mut Json,
 ) -> Result<(), AllocError> {
-    out.begin_array()?;
-    for mention in &mentions(alloc, document, at)? {
-        out.begin_object()?;
-        range(out, "range", table.range(mention.span))?;
-        out.end_object()?;
+    out.begin_array();
+    for mention in &mentions(request.alloc, document, at)? {
+        out.begin_object();
+        out.range("range", request.table.range(mention.span));
+        out.end_object();
     }
-    out.end_array()
+    out.end_array();
+    Ok(())
 }
 
-/// Writes the locations where the key at an offset is written. Leaves out its definitions unless `with_definitions` is
-/// set.
+/// Returns whether the answer to a request for references must include the places where the key is defined. The default
+/// is true.
+fn with_definitions(params: &Value<'_>) -> bool {
+    let asked = member(params, &["context", "includeDeclaration"]);
+    asked.and_then(|asked| asked.as_bool()).unwrap_or(true)
+}
+
+/// Writes the locations where the key at an offset is written. Leaves out its definitions if the request says so.
 pub(crate) fn write_references(
-    alloc: Global,
-    out: &mut Writer,
-    uri: &str,
-    table: &PositionTable<'_>,
+    request: &Request<'_, '_, '_>,
     document: &Document<'_>,
     at: usize,
-    with_definitions: bool,
+    out: &mut Json,
 ) -> Result<(), AllocError> {
-    out.begin_array()?;
-    for mention in &mentions(alloc, document, at)? {
-        if with_definitions || !mention.is_definition {
-            write_location(out, uri, table.range(mention.span))?;
+    let all = with_definitions(request.params);
+    out.begin_array();
+    for mention in &mentions(request.alloc, document, at)? {
+        if all || !mention.is_definition {
+            write_location(out, request.uri, request.table.range(mention.span));
         }
     }
-    out.end_array()
+    out.end_array();
+    Ok(())
 }
 
 /// Returns the number of a token's type: the position of the type in `TOKEN_TYPES`.
@@ -160,38 +154,31 @@ fn token_type(meaning: Meaning) -> usize {
     }
 }
 
-/// Writes the tokens of a document, each as five numbers (LSP 3.17, SemanticTokens). The numbers are the line relative
-/// to the previous token, the start (relative to the previous token if that is on the same line), the length, the type,
+/// Writes the tokens of a text, each as five numbers (LSP 3.17, SemanticTokens). The numbers are the line relative to
+/// the previous token, the start (relative to the previous token if that is on the same line), the length, the type,
 /// and 0 for no modifiers.
 pub(crate) fn write_tokens(
-    alloc: Global,
-    out: &mut Writer,
-    table: &PositionTable<'_>,
-    document: &Document<'_>,
+    request: &Request<'_, '_, '_>,
+    out: &mut Json,
 ) -> Result<(), AllocError> {
     let mut last = FIRST;
-    out.begin_object()?;
-    out.key("data")?;
-    out.begin_array()?;
-    for token in &tokens(alloc, document)? {
-        let place = table.range(token.span);
+    out.begin_object();
+    out.array("data");
+    for token in &tokens(request.alloc, request.table.text)? {
+        let place = request.table.range(token.span);
         let front = if place.start.line == last.line {
             last.character
         } else {
             0
         };
-        let numbers = [
-            place.start.line.saturating_sub(last.line),
-            place.start.character.saturating_sub(front),
-            place.end.character.saturating_sub(place.start.character),
-            token_type(token.meaning),
-            0,
-        ];
-        for number in &numbers {
-            out.u64(*number as u64)?;
-        }
+        out.count(place.start.line.saturating_sub(last.line));
+        out.count(place.start.character.saturating_sub(front));
+        out.count(place.end.character.saturating_sub(place.start.character));
+        out.count(token_type(token.meaning));
+        out.count(0);
         last = place.start;
     }
-    out.end_array()?;
-    out.end_object()
+    out.end_array();
+    out.end_object();
+    Ok(())
 }

@@ -1,4 +1,8 @@
 //! The requests about documents that the server answers.
+use crate::settings::Settings;
+use json::Value;
+use std::alloc::Global;
+use toml_span_editor::table::PositionTable;
 
 /// A request about a document.
 #[derive(Clone, Copy, Debug, PartialEq, Eq)]
@@ -42,4 +46,21 @@ pub(crate) fn method_named(name: &str) -> Option<Method> {
         "textDocument/diagnostic" => Some(Method::Diagnose),
         _ => None,
     }
+}
+
+/// A request about an open document.
+#[derive(Clone, Copy)]
+pub(crate) struct Request<'r, 't, 'j> {
+    pub alloc: Global,
+    pub method: Method,
+    /// The URI of the document.
+    pub uri: &'r str,
+    /// The path of the document.
+    pub name: &'r str,
+    /// The text of the document, with its positions.
+    pub table: &'r PositionTable<'t>,
+    pub params: &'r Value<'j>,
+    pub settings: Settings,
+    /// Whether the client supports snippets.
+    pub has_snippets: bool,
 }

@@ -2,10 +2,9 @@
 ghost use Rattle.std.specs.Prelude.{IfOk, string_bytes};
 ghost use Rattle.toml_span_lsp.specs.Diagnosed.{AreChecked};
 
-use crate::outgoing::{finished, notification, number, range, text, write_location};
+use crate::outgoing::{Json, Outbox, ServerCall, write_location};
 use crate::settings::Settings;
 use crate::state::{Open, State};
-use json::Writer;
 use std::alloc::{AllocError, Global};
 use toml_span_editor::diagnostics::{Diagnosed, Diagnostic, Related, diagnostics};
 use toml_span_editor::positions::{Encoding, Position, Range};
@@ -26,25 +25,23 @@ fn severity_of(severity: Severity) -> usize {
 }
 
 /// Writes the locations that are related to a diagnostic, with their messages.
-fn write_related(out: &mut Writer, uri: &str, related: &[Related]) -> Result<(), AllocError> {
-    out.key("relatedInformation")?;
-    out.begin_array()?;
+fn write_related(out: &mut Json, uri: &str, related: &[Related]) {
+    out.array("relatedInformation");
     for place in related {
-        out.begin_object()?;
-        out.key("location")?;
-        write_location(out, uri, place.range)?;
-        text(out, "message", place.message.as_str())?;
-        out.end_object()?;
+        out.begin_object();
+        out.key("location");
+        write_location(out, uri, place.range);
+        out.text("message", place.message.as_str());
+        out.end_object();
     }
-    out.end_array()
+    out.end_array();
 }
 
 /// Writes the tag for deprecated code (LSP 3.17, DiagnosticTag).
-fn write_deprecated(out: &mut Writer) -> Result<(), AllocError> {
-    out.key("tags")?;
-    out.begin_array()?;
-    out.u64(2)?;
-    out.end_array()
+fn write_deprecated(out: &mut Json) {
+    out.array("tags");
+    out.count(2);
+    out.end_array();
 }
 
 /// Returns the range to mark for a diagnostic. If a schema caused the diagnostic and its range has several lines, as
@@ -62,33 +59,29 @@ fn shown_range(diagnostic: &Diagnostic) -> Range {
 }
 
 /// Writes a diagnostic.
-fn write_diagnostic(
-    out: &mut Writer,
-    uri: &str,
-    diagnostic: &Diagnostic,
-) -> Result<(), AllocError> {
-    out.begin_object()?;
-    range(out, "range", shown_range(diagnostic))?;
-    number(out, "severity", severity_of(diagnostic.severity))?;
-    text(out, "code", diagnostic.code.as_str())?;
-    text(out, "source", "toml-span")?;
-    text(out, "message", diagnostic.message.as_str())?;
+fn write_diagnostic(out: &mut Json, uri: &str, diagnostic: &Diagnostic) {
+    out.begin_object();
+    out.range("range", shown_range(diagnostic));
+    out.number("severity", severity_of(diagnostic.severity));
+    out.text("code", diagnostic.code.as_str());
+    out.text("source", "toml-span");
+    out.text("message", diagnostic.message.as_str());
     if diagnostic.code.as_str() == DEPRECATED {
-        write_deprecated(out)?;
+        write_deprecated(out);
     }
     if !diagnostic.related.is_empty() {
-        write_related(out, uri, diagnostic.related.as_slice())?;
+        write_related(out, uri, diagnostic.related.as_slice());
     }
-    out.end_object()
+    out.end_object();
 }
 
-/// Writes diagnostics as a list.
-fn write_list(out: &mut Writer, uri: &str, diagnostics: &[Diagnostic]) -> Result<(), AllocError> {
-    out.begin_array()?;
+/// Writes a member whose value is a list of diagnostics.
+fn write_list(out: &mut Json, name: &str, uri: &str, diagnostics: &[Diagnostic]) {
+    out.array(name);
     for diagnostic in diagnostics {
-        write_diagnostic(out, uri, diagnostic)?;
+        write_diagnostic(out, uri, diagnostic);
     }
-    out.end_array()
+    out.end_array();
 }
 
 /// Returns the diagnostics of an open document and, if it can't be checked against its schema, error lines that say
@@ -152,17 +145,16 @@ fn diagnosed_at(
 pub(crate) fn write_report(
     alloc: Global,
     state: &mut State,
-    out: &mut Writer,
     uri: &str,
+    out: &mut Json,
 ) -> Result<bool, AllocError> {
     let Some((found, _version)) = diagnosed_at(alloc, state, uri)? else {
         return Ok(false);
     };
-    out.begin_object()?;
-    text(out, "kind", "full")?;
-    out.key("items")?;
-    write_list(out, uri, found.as_slice())?;
-    out.end_object()?;
+    out.begin_object();
+    out.text("kind", "full");
+    write_list(out, "items", uri, found.as_slice());
+    out.end_object();
     Ok(true)
 }
 
@@ -172,18 +164,17 @@ pub(crate) fn published(
     uri: &str,
     version: Option<i64>,
     diagnostics: &[Diagnostic],
-) -> Result<Vec<u8>, AllocError> {
-    let mut out = notification(alloc, "textDocument/publishDiagnostics")?;
-    out.begin_object()?;
-    text(&mut out, "uri", uri)?;
+) -> ServerCall {
+    let mut out = Json::new(alloc);
+    out.begin_object();
+    out.text("uri", uri);
     if let Some(version) = version {
-        out.key("version")?;
-        out.i64(version)?;
+        out.key("version");
+        out.integer(version);
     }
-    out.key("diagnostics")?;
-    write_list(&mut out, uri, diagnostics)?;
-    out.end_object()?;
-    finished(out)
+    write_list(&mut out, "diagnostics", uri, diagnostics);
+    out.end_object();
+    ServerCall::notification("textDocument/publishDiagnostics", out)
 }
 
 /// Appends the notification with the diagnostics of the open document `uri`, as `diagnosed_at` finds them. Does nothing
@@ -192,13 +183,13 @@ pub(crate) fn publish(
     alloc: Global,
     state: &mut State,
     uri: &str,
-    out: &mut Vec<Vec<u8>>,
+    out: &mut Outbox,
 ) -> Result<(), AllocError> {
     if state.client.asks_diagnostics {
         return Ok(());
     }
     if let Some((found, version)) = diagnosed_at(alloc, state, uri)? {
-        out.push(published(alloc, uri, version, found.as_slice())?)?;
+        out.add(published(alloc, uri, version, found.as_slice()));
     }
     Ok(())
 }

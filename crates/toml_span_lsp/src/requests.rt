@@ -2,18 +2,18 @@
 use crate::actions::{span_of, write_actions};
 use crate::answers::{write_completion, write_definition, write_hover};
 use crate::edits::{write_formatting, write_renamable, write_rename};
-use crate::incoming::{member, position_of, text_in};
+use crate::incoming::{position_of, text_in};
 use crate::links::write_links;
 use crate::lists::{
     write_folds, write_highlights, write_references, write_selection, write_symbols, write_tokens,
 };
-use crate::methods::Method;
+use crate::methods::{Method, Request};
+use crate::outgoing::Json;
 use crate::publish::write_report;
 use crate::refusal::{INVALID_PARAMS, REQUEST_FAILED, Refusal, refused};
 use crate::state::State;
-use json::{Value, Writer};
+use json::Value;
 use std::alloc::Global;
-use toml_span_check::newer::Version;
 use toml_span_editor::document::{Document, read, readable};
 use toml_span_editor::positions::offset_at;
 use toml_span_editor::table::PositionTable;
@@ -21,28 +21,17 @@ use toml_span_lex::stop::Stop;
 use toml_span_lookup::lookup::Lookup;
 use toml_span_schema::Guide;
 
-/// The client's capabilities and settings that answers depend on.
-#[derive(Clone, Copy)]
-struct AnswerOptions {
-    /// Whether the client supports snippets.
-    has_snippets: bool,
-    /// The width of a line for the formatter, in characters, or `None` if the client has not set one.
-    width: Option<usize>,
-}
-
 /// Returns the offset of the position in a request. Fails with `INVALID_PARAMS` if the request has no valid position.
-fn offset_of(
-    alloc: Global,
-    table: &PositionTable<'_>,
-    params: &Value<'_>,
-) -> Result<usize, Stop<Refusal>> {
-    match params
+fn offset_of(request: &Request<'_, '_, '_>) -> Result<usize, Stop<Refusal>> {
+    let table = request.table;
+    match request
+        .params
         .get("position")
         .and_then(|position| position_of(position))
     {
         Some(position) => Ok(offset_at(table.encoding, table.text, position)),
         None => Err(refused(
-            alloc,
+            request.alloc,
             INVALID_PARAMS,
             "`position` must have a `line` and a `character`",
         )),
@@ -52,16 +41,15 @@ fn offset_of(
 /// Writes the ranges around each of the positions in a request. Fails with `INVALID_PARAMS` if the request has no list
 /// of positions, or if a position is not valid.
 fn write_selections(
-    alloc: Global,
-    out: &mut Writer,
-    table: &PositionTable<'_>,
+    request: &Request<'_, '_, '_>,
     document: &Document<'_>,
-    params: &Value<'_>,
+    out: &mut Json,
 ) -> Result<(), Stop<Refusal>> {
-    let Some(Value::Array(positions)) = params.get("positions") else {
+    let (alloc, table) = (request.alloc, request.table);
+    let Some(Value::Array(positions)) = request.params.get("positions") else {
         return Err(refused(alloc, INVALID_PARAMS, "`positions` must be a list"));
     };
-    out.begin_array()?;
+    out.begin_array();
     for position in positions {
         let Some(position) = position_of(position) else {
             return Err(refused(
@@ -71,118 +59,77 @@ fn write_selections(
             ));
         };
         let at = offset_at(table.encoding, table.text, position);
-        write_selection(alloc, out, table, document, at)?;
+        write_selection(alloc, table, document, at, out)?;
     }
-    Ok(out.end_array()?)
-}
-
-/// Returns whether the answer to a request for references must include the places where the key is defined. The default
-/// is true.
-fn with_definitions(params: &Value<'_>) -> bool {
-    let asked = member(params, &["context", "includeDeclaration"]);
-    asked.and_then(|asked| asked.as_bool()).unwrap_or(true)
+    out.end_array();
+    Ok(())
 }
 
 /// Writes the answer to a request about a position in a document that can be read. Fails with a `Refusal` if the
 /// request is refused.
 fn write_at(
-    alloc: Global,
-    method: Method,
-    out: &mut Writer,
-    uri: &str,
-    table: &PositionTable<'_>,
+    request: &Request<'_, '_, '_>,
     document: &Document<'_>,
     guide: Option<&Guide>,
-    options: AnswerOptions,
-    params: &Value<'_>,
+    out: &mut Json,
 ) -> Result<(), Stop<Refusal>> {
-    let at = offset_of(alloc, table, params)?;
-    match method {
-        Method::Highlights => write_highlights(alloc, out, table, document, at)?,
-        Method::References => {
-            let all = with_definitions(params);
-            write_references(alloc, out, uri, table, document, at, all)?;
-        }
-        Method::Definition => write_definition(alloc, out, uri, table, document, at)?,
-        Method::Hover => write_hover(alloc, out, table, document, guide, at)?,
-        _ => {
-            let has_snippets = options.has_snippets;
-            write_completion(alloc, out, table, document, guide, has_snippets, at)?;
-        }
+    let at = offset_of(request)?;
+    match request.method {
+        Method::Highlights => write_highlights(request, document, at, out)?,
+        Method::References => write_references(request, document, at, out)?,
+        Method::Definition => write_definition(request, document, at, out)?,
+        Method::Hover => write_hover(request, document, guide, at, out)?,
+        _ => write_completion(request, document, guide, at, out)?,
     }
     Ok(())
 }
 
 /// Writes the answer to a request about a document that can be read. Fails with a `Refusal` if the request is refused.
 fn write_of(
-    alloc: Global,
-    method: Method,
-    out: &mut Writer,
-    uri: &str,
-    table: &PositionTable<'_>,
+    request: &Request<'_, '_, '_>,
     document: &Document<'_>,
     guide: Option<&Guide>,
-    options: AnswerOptions,
-    params: &Value<'_>,
+    out: &mut Json,
 ) -> Result<(), Stop<Refusal>> {
-    match method {
-        Method::Symbols => write_symbols(alloc, out, table, document)?,
-        Method::Folds => write_folds(alloc, out, table, document)?,
-        Method::Tokens => write_tokens(alloc, out, table, document)?,
-        Method::Selections => return write_selections(alloc, out, table, document, params),
-        _ => return write_at(
-            alloc, method, out, uri, table, document, guide, options, params,
-        ),
+    match request.method {
+        Method::Symbols => write_symbols(request, document, out)?,
+        Method::Selections => return write_selections(request, document, out),
+        _ => return write_at(request, document, guide, out),
     }
     Ok(())
 }
 
 /// Writes the answer to a request about a document. If the document has errors, answers about the text that `readable`
-/// returns, or writes null if `readable` returns `None`. Fails with a `Refusal` if the request is refused.
+/// returns. Fails with a `Refusal` if the request is refused.
 fn write_readable(
-    alloc: Global,
-    method: Method,
-    out: &mut Writer,
-    uri: &str,
-    table: &PositionTable<'_>,
+    request: &Request<'_, '_, '_>,
     guide: Option<&Guide>,
-    options: AnswerOptions,
-    params: &Value<'_>,
+    out: &mut Json,
 ) -> Result<(), Stop<Refusal>> {
-    if let Some(document) = read(alloc, table.text)? {
-        return write_of(
-            alloc, method, out, uri, table, &document, guide, options, params,
-        );
+    if let Some(document) = read(request.alloc, request.table.text)? {
+        return write_of(request, &document, guide, out);
     }
-    let Some(kept) = readable(alloc, table.text)? else {
-        return Ok(out.null()?);
-    };
-    match read(alloc, kept.as_ref())? {
-        Some(document) => write_of(
-            alloc, method, out, uri, table, &document, guide, options, params,
-        ),
-        None => Ok(out.null()?),
+    let kept = readable(request.alloc, request.table.text)?;
+    match read(request.alloc, kept.as_str())? {
+        Some(document) => write_of(request, &document, guide, out),
+        None => {
+            out.null();
+            Ok(())
+        }
     }
 }
 
-/// Writes the actions for the range in a request. `name` is the path of the file. Reads no files. Fails with
-/// `INVALID_PARAMS` if the request has no valid range.
+/// Writes the actions for the range in a request. Reads no files. Fails with `INVALID_PARAMS` if the request has no
+/// valid range.
 fn write_actions_of(
-    alloc: Global,
-    out: &mut Writer,
-    uri: &str,
-    table: &PositionTable<'_>,
-    version: Version,
-    name: &str,
+    request: &Request<'_, '_, '_>,
     lookup: &mut Lookup,
-    params: &Value<'_>,
+    out: &mut Json,
 ) -> Result<(), Stop<Refusal>> {
-    match span_of(table, params) {
-        Some(span) => Ok(write_actions(
-            alloc, out, uri, table, version, name, lookup, span, params,
-        )?),
+    match span_of(request) {
+        Some(span) => Ok(write_actions(request, lookup, span, out)?),
         None => Err(refused(
-            alloc,
+            request.alloc,
             INVALID_PARAMS,
             "`range` must have a `start` and an `end`",
         )),
@@ -191,28 +138,23 @@ fn write_actions_of(
 
 /// Writes the answer to a request about a document. Fails with a `Refusal` if the request is refused.
 fn write_answer(
-    alloc: Global,
-    method: Method,
-    out: &mut Writer,
-    uri: &str,
-    table: &PositionTable<'_>,
+    request: &Request<'_, '_, '_>,
     guide: Option<&Guide>,
-    options: AnswerOptions,
-    params: &Value<'_>,
+    out: &mut Json,
 ) -> Result<(), Stop<Refusal>> {
-    match method {
-        Method::Format | Method::FormatRange => {
-            Ok(write_formatting(alloc, out, table, options.width, params)?)
-        }
+    match request.method {
+        Method::Format | Method::FormatRange => Ok(write_formatting(request, out)?),
+        Method::Folds => Ok(write_folds(request, out)?),
+        Method::Tokens => Ok(write_tokens(request, out)?),
         Method::Rename => {
-            let at = offset_of(alloc, table, params)?;
-            write_rename(alloc, out, uri, table, at, params)
+            let at = offset_of(request)?;
+            write_rename(request, at, out)
         }
         Method::PrepareRename => {
-            let at = offset_of(alloc, table, params)?;
-            Ok(write_renamable(alloc, out, table, at)?)
+            let at = offset_of(request)?;
+            Ok(write_renamable(request, at, out)?)
         }
-        _ => write_readable(alloc, method, out, uri, table, guide, options, params),
+        _ => write_readable(request, guide, out),
     }
 }
 
@@ -222,32 +164,36 @@ pub(crate) fn write_result(
     alloc: Global,
     state: &mut State,
     method: Method,
-    out: &mut Writer,
     params: &Value<'_>,
+    out: &mut Json,
 ) -> Result<(), Stop<Refusal>> {
     let Some(uri) = text_in(params, &["textDocument", "uri"]) else {
         return Err(refused(alloc, INVALID_PARAMS, "`textDocument` must have a `uri`"));
     };
-    if method == Method::Diagnose && write_report(alloc, state, out, uri)? {
+    if method == Method::Diagnose && write_report(alloc, state, uri, out)? {
         return Ok(());
     }
     let Some(open) = state.documents.get(uri) else {
         return Err(refused(alloc, REQUEST_FAILED, "the document is not open"));
     };
-    let (encoding, settings) = (state.encoding, state.settings);
-    let table = PositionTable::new(alloc, encoding, open.text.as_str())?;
+    let table = PositionTable::new(alloc, state.encoding, open.text.as_str())?;
     let name = open.name.as_str();
-    if method == Method::Links {
-        return Ok(write_links(alloc, out, &table, &state.lookup, name)?);
-    }
-    if method == Method::Actions {
-        let (version, lookup) = (settings.version, &mut state.lookup);
-        return write_actions_of(alloc, out, uri, &table, version, name, lookup, params);
-    }
-    let guide = state.lookup.guide_of(alloc, name, open.text.as_str())?;
-    let options = AnswerOptions {
+    let request = Request {
+        alloc,
+        method,
+        uri,
+        name,
+        table: &table,
+        params,
+        settings: state.settings,
         has_snippets: state.client.has_snippets,
-        width: settings.width,
     };
-    write_answer(alloc, method, out, uri, &table, guide, options, params)
+    match method {
+        Method::Links => Ok(write_links(&request, &state.lookup, out)?),
+        Method::Actions => write_actions_of(&request, &mut state.lookup, out),
+        _ => {
+            let guide = state.lookup.guide_of(alloc, name, open.text.as_str())?;
+            write_answer(&request, guide, out)
+        }
+    }
 }

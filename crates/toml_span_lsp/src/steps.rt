@@ -1,16 +1,21 @@
 //! One step of the server: takes a message, and returns the messages to send.
+ghost use Rattle.std.specs.Prelude.{IfOk, map, option_map};
+ghost use Rattle.toml_span_lsp.specs.Messages as spec;
+ghost use Rattle.toml_span_lsp.specs.Messages.{Answers, IsAnswer, IsResponse, Responds};
+
 use crate::capabilities::{store_client, write_capabilities};
 use crate::configuration::{initialized, settings_came, settings_changed};
 use crate::incoming::{Call, Id, Message, message_of};
 use crate::methods::method_named;
-use crate::outgoing::{error_response, finished, response, show_message};
+use crate::outgoing::{Json, Outbox, error_response, response, show_message};
 use crate::refusal::{
     INVALID_REQUEST, METHOD_NOT_FOUND, NOT_INITIALIZED, PARSE_ERROR, Refusal, refusal_with, refused,
 };
 use crate::requests::write_result;
 use crate::state::{Phase, State};
+use crate::surrogates::without_lone;
 use crate::sync::{change, close, open, save};
-use json::{Error, Scratch, Value, Writer};
+use json::{Error, Scratch, Value};
 use std::alloc::{AllocError, Global};
 use std::mem;
 use toml_span_lex::stop::Stop;
@@ -22,14 +27,15 @@ fn write_request(
     alloc: Global,
     state: &mut State,
     call: Call<'_, '_>,
-    out: &mut Writer,
+    out: &mut Json,
 ) -> Result<(), Stop<Refusal>> {
     if call.method == "shutdown" {
         state.phase = Phase::Shut;
-        return Ok(out.null()?);
+        out.null();
+        return Ok(());
     }
     match method_named(call.method) {
-        Some(method) => write_result(alloc, state, method, out, call.params),
+        Some(method) => write_result(alloc, state, method, call.params, out),
         None => Err(refused(alloc, METHOD_NOT_FOUND, "the method is not known")),
     }
 }
@@ -39,12 +45,12 @@ fn write_phased(
     alloc: Global,
     state: &mut State,
     call: Call<'_, '_>,
-    out: &mut Writer,
+    out: &mut Json,
 ) -> Result<(), Stop<Refusal>> {
     match (state.phase, call.method) {
         (Phase::New, "initialize") => {
             store_client(alloc, state, call.params)?;
-            write_capabilities(out, state.encoding)?;
+            write_capabilities(out, state.encoding);
             state.phase = Phase::Running;
             Ok(())
         }
@@ -65,10 +71,12 @@ fn answered(
     state: &mut State,
     id: Id<'_>,
     call: Call<'_, '_>,
-) -> Result<Vec<u8>, AllocError> {
-    let mut out = response(alloc, id)?;
-    match write_phased(alloc, state, call, &mut out) {
-        Ok(()) => finished(out),
+) -> Result<Vec<u8>, AllocError>
+    ensures { IfOk result (λ message. IsResponse (spec.id_token id.entry) message.items) }
+{
+    let mut value = Json::new(alloc);
+    match write_phased(alloc, state, call, &mut value) {
+        Ok(()) => response(alloc, id, value),
         Err(stop) => {
             let refusal = stop.fault()?;
             error_response(alloc, id, &refusal)
@@ -83,7 +91,7 @@ fn note<D: Disk>(
     state: &mut State,
     disk: &mut D,
     call: Call<'_, '_>,
-    out: &mut Vec<Vec<u8>>,
+    out: &mut Outbox,
 ) -> Result<(), AllocError> {
     match (state.phase, call.method) {
         (Phase::Shut, "exit") => {
@@ -98,87 +106,139 @@ fn note<D: Disk>(
             };
             Ok(())
         }
-        (Phase::Running, "initialized") => initialized(alloc, state, out),
+        (Phase::Running, "initialized") => {
+            initialized(alloc, state, out);
+            Ok(())
+        }
         (Phase::Running, "workspace/didChangeConfiguration") => {
             settings_changed(alloc, state, disk, call.params, out)
         }
         (Phase::Running, "textDocument/didOpen") => open(alloc, state, disk, call.params, out),
         (Phase::Running, "textDocument/didChange") => change(alloc, state, call.params, out),
         (Phase::Running, "textDocument/didSave") => save(alloc, state, disk, call.params, out),
-        (Phase::Running, "textDocument/didClose") => close(alloc, state, call.params, out),
+        (Phase::Running, "textDocument/didClose") => {
+            close(alloc, state, call.params, out);
+            Ok(())
+        }
         _ => Ok(()),
     }
 }
 
-/// Carries out a message, and appends the messages to send.
+/// Returns the response that refuses a message.
+pub(crate) fn refuse(
+    alloc: Global,
+    id: Id<'_>,
+    code: i64,
+    message: &str,
+) -> Result<Vec<u8>, AllocError>
+    ensures { IfOk result (λ message. IsResponse (spec.id_token id.entry) message.items) }
+{
+    let refusal = refusal_with(alloc, code, message)?;
+    error_response(alloc, id, &refusal)
+}
+
+/// Carries out a message, and appends the notifications and requests to send. Returns the response to a request, or
+/// `None` for another message.
 fn take<D: Disk>(
     alloc: Global,
     state: &mut State,
     disk: &mut D,
     message: Message<'_, '_>,
-    out: &mut Vec<Vec<u8>>,
-) -> Result<(), AllocError> {
+    out: &mut Outbox,
+) -> Result<Option<Vec<u8>>, AllocError>
+    ensures { IfOk result (λ response. IsAnswer (spec.awaited message.entry)
+        (option_map (λ text. text.items) response)) }
+{
     match message {
         Message::Response(id, result) => {
             if state.phase == Phase::Running {
                 settings_came(alloc, state, disk, id, result, out)?;
             }
-            Ok(())
+            Ok(None)
         }
         Message::Invalid(id) => {
-            let refusal = refusal_with(alloc, INVALID_REQUEST, "not a message of JSON-RPC 2.0")?;
-            out.push(error_response(alloc, id, &refusal)?)?;
-            Ok(())
+            let response = refuse(alloc, id, INVALID_REQUEST, "not a message of JSON-RPC 2.0")?;
+            Ok(Some(response))
         }
         Message::Call(call) => match call.id {
             Some(id) => {
-                out.push(answered(alloc, state, id, call)?)?;
-                Ok(())
+                let response = answered(alloc, state, id, call)?;
+                Ok(Some(response))
             }
-            None => note(alloc, state, disk, call, out),
+            None => {
+                note(alloc, state, disk, call, out)?;
+                Ok(None)
+            }
         },
+    }
+}
+
+/// Carries out the message in `content`, which is not JSON, as if it had no lone surrogates. If it still is not JSON,
+/// returns a response that says so. Otherwise, does the same as `take`.
+fn take_repaired<D: Disk>(
+    alloc: Global,
+    state: &mut State,
+    disk: &mut D,
+    content: &[u8],
+    out: &mut Outbox,
+) -> Result<Option<Vec<u8>>, AllocError> {
+    let repaired = without_lone(alloc, content)?;
+    let mut scratch = Scratch::new(alloc);
+    match Value::from_slice(alloc, repaired.as_slice(), &mut scratch) {
+        Ok(value) => take(alloc, state, disk, message_of(&value), out),
+        Err(Error::OutOfMemory) => Err(AllocError),
+        Err(_) => {
+            let response = refuse(alloc, Id::Null, PARSE_ERROR, "the content is not JSON")?;
+            Ok(Some(response))
+        }
+    }
+}
+
+/// Carries out the message in `content`, and appends the notifications and requests to send. Returns the response, if
+/// there is one.
+fn respond<D: Disk>(
+    alloc: Global,
+    state: &mut State,
+    disk: &mut D,
+    content: &[u8],
+    out: &mut Outbox,
+) -> Result<Option<Vec<u8>>, AllocError>
+    ensures { IfOk result (λ response. Responds content.now (option_map (λ text. text.items) response)) }
+{
+    let mut scratch = Scratch::new(alloc);
+    match Value::from_slice(alloc, content, &mut scratch) {
+        Ok(value) => take(alloc, state, disk, message_of(&value), out),
+        Err(Error::OutOfMemory) => Err(AllocError),
+        Err(_) => take_repaired(alloc, state, disk, content, out),
     }
 }
 
 /// Moves the lines of `state.notices` to `out`, each as a notification that shows the line to the user. The prefix
 /// `error: ` is left out.
-fn push_notices(
-    alloc: Global,
-    state: &mut State,
-    out: &mut Vec<Vec<u8>>,
-) -> Result<(), AllocError> {
-    if state.notices.is_empty() {
-        return Ok(());
-    }
+fn push_notices(alloc: Global, state: &mut State, out: &mut Outbox) {
     let notices = mem::replace(&mut state.notices, String::new(alloc));
     for line in notices.as_str().split('\n') {
         if !line.is_empty() {
             let message = line.strip_prefix("error: ").unwrap_or(line);
-            out.push(show_message(alloc, message)?)?;
+            out.add(show_message(alloc, message));
         }
     }
-    Ok(())
 }
 
-/// Carries out the message in `content`, the content of a frame. Returns the contents of the frames to send, in order.
-/// Reads schemas from `disk` when a document is opened or saved, or when settings change. Fails if an allocation fails;
-/// the message may have been carried out in part by then.
+/// Carries out the message in `content`, the content of a frame. Returns the contents of the frames to send, in order:
+/// the response, if the message is a request, and then notifications and requests of the server. Reads schemas from
+/// `disk` when a document is opened or saved, or when settings change. Fails if an allocation fails; the message may
+/// have been carried out in part by then.
 pub fn step<D: Disk>(
     alloc: Global,
     state: &mut State,
     disk: &mut D,
     content: &[u8],
-) -> Result<Vec<Vec<u8>>, AllocError> {
-    let mut out = Vec::new(alloc);
-    let mut scratch = Scratch::new(alloc);
-    match Value::from_slice(alloc, content, &mut scratch) {
-        Ok(value) => take(alloc, state, disk, message_of(&value), &mut out)?,
-        Err(Error::OutOfMemory) => return Err(AllocError),
-        Err(_) => {
-            let refusal = refusal_with(alloc, PARSE_ERROR, "the content is not JSON")?;
-            out.push(error_response(alloc, Id::Null, &refusal)?)?;
-        }
-    }
-    push_notices(alloc, state, &mut out)?;
-    Ok(out)
+) -> Result<Vec<Vec<u8>>, AllocError>
+    ensures { IfOk result (λ messages. Answers content.now (map (λ text. text.items) messages.items)) }
+{
+    let mut out = Outbox::new(alloc);
+    let response = respond(alloc, state, disk, content, &mut out)?;
+    push_notices(alloc, state, &mut out);
+    out.finish(alloc, response)
 }

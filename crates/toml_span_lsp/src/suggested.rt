@@ -1,9 +1,8 @@
-//! Writes the suggestions of a schema for completion.
-use crate::outgoing::{flag, number, range, text};
-use json::Writer;
-use std::alloc::{AllocError, Global};
-use toml_span_editor::suggestions::{Suggestion, SuggestionKind};
-use toml_span_editor::table::PositionTable;
+//! Writes completion items.
+use crate::methods::Request;
+use crate::outgoing::Json;
+use std::alloc::AllocError;
+use toml_span_editor::completion::{Completion, Suggestion, SuggestionKind};
 
 /// Returns the number for the kind of a suggestion (LSP 3.17, CompletionItemKind).
 fn kind_of(kind: SuggestionKind) -> usize {
@@ -27,80 +26,69 @@ fn rank_of(suggestion: &Suggestion) -> &'static str {
 }
 
 /// Writes the documentation of a suggestion as Markdown.
-fn write_documentation(out: &mut Writer, documentation: &str) -> Result<(), AllocError> {
-    out.key("documentation")?;
-    out.begin_object()?;
-    text(out, "kind", "markdown")?;
-    text(out, "value", documentation)?;
-    out.end_object()
+fn write_documentation(out: &mut Json, documentation: &str) {
+    out.object("documentation");
+    out.text("kind", "markdown");
+    out.text("value", documentation);
+    out.end_object();
 }
 
-/// Writes the range that a suggestion replaces, and the new text: the snippet if there is one and `has_snippets` is
-/// set, otherwise `suggestion.text`.
-fn write_edit(
-    out: &mut Writer,
-    table: &PositionTable<'_>,
-    suggestion: &Suggestion,
-    has_snippets: bool,
-) -> Result<(), AllocError> {
+/// Writes the range that a suggestion replaces, and the new text: the snippet if there is one and the client supports
+/// snippets, otherwise `suggestion.text`.
+fn write_edit(request: &Request<'_, '_, '_>, suggestion: &Suggestion, out: &mut Json) {
     let new = match &suggestion.snippet {
-        Some(snippet) if has_snippets => {
-            number(out, "insertTextFormat", 2)?;
+        Some(snippet) if request.has_snippets => {
+            out.number("insertTextFormat", 2);
             snippet.as_str()
         }
         _ => suggestion.text.as_str(),
     };
-    out.key("textEdit")?;
-    out.begin_object()?;
-    range(out, "range", table.range(suggestion.span))?;
-    text(out, "newText", new)?;
-    out.end_object()
+    out.object("textEdit");
+    out.range("range", request.table.range(suggestion.span));
+    out.text("newText", new);
+    out.end_object();
 }
 
-/// Writes a suggestion, which is at `position` in the list. `has_snippets` says whether the client supports snippets.
+/// Writes a suggestion, which is at `position` in the list.
 fn write_suggestion(
-    alloc: Global,
-    out: &mut Writer,
-    table: &PositionTable<'_>,
+    request: &Request<'_, '_, '_>,
     suggestion: &Suggestion,
     position: usize,
-    has_snippets: bool,
+    out: &mut Json,
 ) -> Result<(), AllocError> {
-    out.begin_object()?;
-    text(out, "label", suggestion.label.as_str())?;
-    number(out, "kind", kind_of(suggestion.kind))?;
+    let rank = rank_of(suggestion);
+    let sort = format!(in request.alloc; "{rank}{position:04}")?;
+    out.begin_object();
+    out.text("label", suggestion.label.as_str());
+    out.number("kind", kind_of(suggestion.kind));
     if !suggestion.detail.is_empty() {
-        text(out, "detail", suggestion.detail.as_str())?;
+        out.text("detail", suggestion.detail.as_str());
     }
     if !suggestion.documentation.is_empty() {
-        write_documentation(out, suggestion.documentation.as_str())?;
+        write_documentation(out, suggestion.documentation.as_str());
     }
     if suggestion.is_deprecated {
-        flag(out, "deprecated", true)?;
+        out.flag("deprecated", true);
     }
-    let rank = rank_of(suggestion);
-    let sort = format!(in alloc; "{rank}{position:04}")?;
-    text(out, "sortText", sort.as_str())?;
-    write_edit(out, table, suggestion, has_snippets)?;
-    out.end_object()
+    out.text("sortText", sort.as_str());
+    write_edit(request, suggestion, out);
+    out.end_object();
+    Ok(())
 }
 
-/// Writes suggestions as a complete list: the client need not request them again while the user types. `has_snippets`
-/// says whether the client supports snippets.
-pub(crate) fn write_suggestions(
-    alloc: Global,
-    out: &mut Writer,
-    table: &PositionTable<'_>,
-    suggestions: &[Suggestion],
-    has_snippets: bool,
+/// Writes a list of completion items.
+pub(crate) fn write_items(
+    request: &Request<'_, '_, '_>,
+    made: &Completion,
+    out: &mut Json,
 ) -> Result<(), AllocError> {
-    out.begin_object()?;
-    flag(out, "isIncomplete", false)?;
-    out.key("items")?;
-    out.begin_array()?;
-    for (position, suggestion) in suggestions.iter().enumerate() {
-        write_suggestion(alloc, out, table, suggestion, position, has_snippets)?;
+    out.begin_object();
+    out.flag("isIncomplete", made.is_incomplete);
+    out.array("items");
+    for (position, suggestion) in made.suggestions.iter().enumerate() {
+        write_suggestion(request, suggestion, position, out)?;
     }
-    out.end_array()?;
-    out.end_object()
+    out.end_array();
+    out.end_object();
+    Ok(())
 }

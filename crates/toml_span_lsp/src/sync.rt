@@ -1,6 +1,6 @@
 //! Keeps the open documents as they are in the editor.
 use crate::incoming::{member, range_of, text_in};
-use crate::outgoing::log_message;
+use crate::outgoing::{Outbox, log_message};
 use crate::publish::{publish, published};
 use crate::state::{Open, State};
 use crate::uris::name_of;
@@ -59,7 +59,7 @@ fn check_and_publish<D: Disk>(
     state: &mut State,
     disk: &mut D,
     uri: &str,
-    out: &mut Vec<Vec<u8>>,
+    out: &mut Outbox,
 ) -> Result<(), AllocError> {
     read_schema(alloc, state, disk, uri)?;
     publish(alloc, state, uri, out)
@@ -72,15 +72,15 @@ pub(crate) fn open<D: Disk>(
     state: &mut State,
     disk: &mut D,
     params: &Value<'_>,
-    out: &mut Vec<Vec<u8>>,
+    out: &mut Outbox,
 ) -> Result<(), AllocError> {
     let uri = text_in(params, &["textDocument", "uri"]);
     let text = text_in(params, &["textDocument", "text"]);
     let (Some(uri), Some(text)) = (uri, text) else {
-        out.push(log_message(
+        out.add(log_message(
             alloc,
             "didOpen: `textDocument` must have a `uri` and a `text`",
-        )?)?;
+        ));
         return Ok(());
     };
     store(
@@ -148,16 +148,16 @@ pub(crate) fn change(
     alloc: Global,
     state: &mut State,
     params: &Value<'_>,
-    out: &mut Vec<Vec<u8>>,
+    out: &mut Outbox,
 ) -> Result<(), AllocError> {
     let Some(uri) = text_in(params, &["textDocument", "uri"]) else {
-        out.push(log_message(alloc, "didChange: `textDocument` must have a `uri`")?)?;
+        out.add(log_message(alloc, "didChange: `textDocument` must have a `uri`"));
         return Ok(());
     };
     let new = new_text(alloc, state, uri, params)?;
     let (Some(open), Some(text)) = (state.documents.get_mut(uri), new) else {
         let message = "didChange: the document is not open, or a change is not valid";
-        out.push(log_message(alloc, message)?)?;
+        out.add(log_message(alloc, message));
         return Ok(());
     };
     open.text = text;
@@ -172,7 +172,7 @@ pub(crate) fn save<D: Disk>(
     state: &mut State,
     disk: &mut D,
     params: &Value<'_>,
-    out: &mut Vec<Vec<u8>>,
+    out: &mut Outbox,
 ) -> Result<(), AllocError> {
     match text_in(params, &["textDocument", "uri"]) {
         Some(uri) => check_and_publish(alloc, state, disk, uri, out),
@@ -182,17 +182,11 @@ pub(crate) fn save<D: Disk>(
 
 /// Closes a document. If the document was open and the client does not request diagnostics itself, appends the
 /// notification that there are no diagnostics.
-pub(crate) fn close(
-    alloc: Global,
-    state: &mut State,
-    params: &Value<'_>,
-    out: &mut Vec<Vec<u8>>,
-) -> Result<(), AllocError> {
+pub(crate) fn close(alloc: Global, state: &mut State, params: &Value<'_>, out: &mut Outbox) {
     let Some(uri) = text_in(params, &["textDocument", "uri"]) else {
-        return Ok(());
+        return;
     };
     if state.documents.remove(uri).is_some() && !state.client.asks_diagnostics {
-        out.push(published(alloc, uri, None, &[])?)?;
+        out.add(published(alloc, uri, None, &[]));
     }
-    Ok(())
 }
