@@ -9,6 +9,7 @@ use Rattle.toml_span_commands.specs.Say.{Prints, Warns}
 use Rattle.toml_span_commands.specs.Show.{PerformsShow}
 use Rattle.toml_span_commands.specs.Start.{Starts}
 use Rattle.toml_span_commands.specs.Words.{is_file, is_help, is_version}
+use Rattle.toml_span_commands.specs.declared.colours.Screen.{Screen}
 use Rattle.toml_span_commands.specs.declared.commands.Command.{Command}
 use Rattle.toml_span_commands.specs.declared.commands.Command.TheVariants as commands
 use Rattle.toml_span_cli.specs.declared.dispatch.Request.{Request}
@@ -29,51 +30,47 @@ request_of word exists =
     else if is_version word then requests.Version
     else named (command_named word) (is_file word || exists)
 
--- What a command does. `words` are the name of the command, or of the program, and the arguments. `is_coloured` says
--- whether `--color auto` means colors, and `is_watched` whether standard error is a terminal. `stdout` and `stdout'`
--- are the texts on standard output before and after, and `out_failed` says whether a write to it failed. `stderr`,
--- `stderr'` and `err_failed` are the same for standard error. `status` is the exit status. For commands other than
--- `check`, `get` and `show`, only its range is stated.
-abbrev pub Performs : Command → List (List ℕ) → Bool → Bool → Option (List ℕ) → Option (List ℕ) → Bool → Option (List ℕ)
+-- What a command does. `words` are the name of the command, or of the program, and the arguments. `stdout` and
+-- `stdout'` are the texts on standard output before and after, and `out_failed` says whether a write to it failed.
+-- `stderr`, `stderr'` and `err_failed` are the same for standard error. `status` is the exit status. For commands other
+-- than `check`, `get` and `show`, only its range is stated.
+abbrev pub Performs : Command → List (List ℕ) → Screen → Option (List ℕ) → Option (List ℕ) → Bool → Option (List ℕ)
     → Option (List ℕ) → Bool → ℕ → Type 0
-Performs commands.Check words is_coloured is_watched stdout stdout' out_failed stderr stderr' err_failed status =
-    PerformsCheck words is_coloured is_watched stdout stdout' out_failed stderr stderr' err_failed status
-Performs commands.Get words is_coloured is_watched stdout stdout' out_failed stderr stderr' err_failed status =
-    Starts no_schema queries.Get words is_coloured is_watched None None stdout stdout' out_failed stderr stderr'
-    err_failed status
-Performs commands.Show words is_coloured is_watched stdout stdout' out_failed stderr stderr' err_failed status =
+Performs commands.Check words screen stdout stdout' out_failed stderr stderr' err_failed status =
+    PerformsCheck words screen stdout stdout' out_failed stderr stderr' err_failed status
+Performs commands.Get words screen stdout stdout' out_failed stderr stderr' err_failed status =
+    Starts no_schema queries.Get words screen None None stdout stdout' out_failed stderr stderr' err_failed status
+Performs commands.Show words screen stdout stdout' out_failed stderr stderr' err_failed status =
     PerformsShow words stdout stdout' out_failed stderr stderr' err_failed status
-Performs command words is_coloured is_watched stdout stdout' out_failed stderr stderr' err_failed status = status ≤ 4
+Performs command words screen stdout stdout' out_failed stderr stderr' err_failed status = status ≤ 4
 
 -- How a request is carried out. A command gets `words` without the program's name, a check of files gets all of
 -- `words`.
-abbrev pub Answers : Request → List (List ℕ) → Bool → Bool → Option (List ℕ) → Option (List ℕ) → Bool → Option (List ℕ)
+abbrev pub Answers : Request → List (List ℕ) → Screen → Option (List ℕ) → Option (List ℕ) → Bool → Option (List ℕ)
     → Option (List ℕ) → Bool → ℕ → Type 0
-Answers (requests.Command c) words is_coloured is_watched stdout stdout' out_failed stderr stderr' err_failed status =
-    Performs c (drop 1 words) is_coloured is_watched stdout stdout' out_failed stderr stderr' err_failed status
-Answers requests.Files words is_coloured is_watched stdout stdout' out_failed stderr stderr' err_failed status =
-    Performs commands.Check words is_coloured is_watched stdout stdout' out_failed stderr stderr' err_failed status
-Answers requests.Help words is_coloured is_watched stdout stdout' out_failed stderr stderr' err_failed status =
+Answers (requests.Command c) words screen stdout stdout' out_failed stderr stderr' err_failed status =
+    Performs c (drop 1 words) screen stdout stdout' out_failed stderr stderr' err_failed status
+Answers requests.Files words screen stdout stdout' out_failed stderr stderr' err_failed status =
+    Performs commands.Check words screen stdout stdout' out_failed stderr stderr' err_failed status
+Answers requests.Help words screen stdout stdout' out_failed stderr stderr' err_failed status =
     Prints stdout stdout' out_failed HELP.now 0 status × Keeps stderr stderr'
-Answers requests.Version words is_coloured is_watched stdout stdout' out_failed stderr stderr' err_failed status =
+Answers requests.Version words screen stdout stdout' out_failed stderr stderr' err_failed status =
     Prints stdout stdout' out_failed VERSION.now 0 status × Keeps stderr stderr'
-Answers requests.Unknown words is_coloured is_watched stdout stdout' out_failed stderr stderr' err_failed status =
+Answers requests.Unknown words screen stdout stdout' out_failed stderr stderr' err_failed status =
     Keeps stdout stdout' × Warns stderr stderr' err_failed 2 status
 
 -- How the request of the first argument is carried out. Without an argument, the help is printed to standard error,
 -- with status 2.
-abbrev pub AnswersFirst : Option (List ℕ) → List (List ℕ) → Bool → Bool → Option (List ℕ) → Option (List ℕ) → Bool
+abbrev pub AnswersFirst : Option (List ℕ) → List (List ℕ) → Screen → Option (List ℕ) → Option (List ℕ) → Bool
     → Option (List ℕ) → Option (List ℕ) → Bool → ℕ → Type 0
-AnswersFirst None words is_coloured is_watched stdout stdout' out_failed stderr stderr' err_failed status =
+AnswersFirst None words screen stdout stdout' out_failed stderr stderr' err_failed status =
     Keeps stdout stdout' × Prints stderr stderr' err_failed HELP.now 2 status
-AnswersFirst (Some word) words is_coloured is_watched stdout stdout' out_failed stderr stderr' err_failed status =
+AnswersFirst (Some word) words screen stdout stdout' out_failed stderr stderr' err_failed status =
     (exists : Bool)
-    × Answers (request_of word exists) words is_coloured is_watched stdout stdout' out_failed stderr stderr' err_failed
-    status
+    × Answers (request_of word exists) words screen stdout stdout' out_failed stderr stderr' err_failed status
 
 -- How the command line is carried out. The first of `words` is the program's name.
-abbrev pub Dispatches : List (List ℕ) → Bool → Bool → Option (List ℕ) → Option (List ℕ) → Bool → Option (List ℕ)
+abbrev pub Dispatches : List (List ℕ) → Screen → Option (List ℕ) → Option (List ℕ) → Bool → Option (List ℕ)
     → Option (List ℕ) → Bool → ℕ → Type 0
-Dispatches words is_coloured is_watched stdout stdout' out_failed stderr stderr' err_failed status =
-    AnswersFirst (slice_get words 1) words is_coloured is_watched stdout stdout' out_failed stderr stderr' err_failed
-    status
+Dispatches words screen stdout stdout' out_failed stderr stderr' err_failed status =
+    AnswersFirst (slice_get words 1) words screen stdout stdout' out_failed stderr stderr' err_failed status

@@ -7,18 +7,17 @@ use crate::lsp::lsp;
 use std::alloc::{AllocError, Global};
 use std::fs;
 use toml_span_check::input::Host;
-use toml_span_check::schemas::NoSchemas;
 use toml_span_commands::check::check;
+use toml_span_commands::colours::Screen;
 use toml_span_commands::commands::{Command, command_named};
 use toml_span_commands::edit::edit;
 use toml_span_commands::explain::explain;
 use toml_span_commands::fmt::fmt;
 use toml_span_commands::help::{HELP, VERSION};
 use toml_span_commands::helping::{help, say_unknown};
-use toml_span_commands::options::Query;
 use toml_span_commands::say::say;
 use toml_span_commands::show::show;
-use toml_span_commands::start::start;
+use toml_span_commands::start::get;
 use toml_span_commands::words::{is_file, is_help, is_version};
 use toml_span_lines::sink::Sink;
 
@@ -58,37 +57,24 @@ fn request_of(word: &str, exists: bool) -> Request
 
 /// Carries out a command, and returns the exit status. `words` are the name of the command, or of the program, and the
 /// arguments.
-///
-/// `is_coloured` says whether `--color auto` means colors, and `is_watched` whether standard error is a terminal.
 fn perform<O: Sink, E: Sink>(
     alloc: Global,
     command: Command,
     words: &[String],
-    is_coloured: bool,
-    is_watched: bool,
+    screen: Screen,
     host: &mut Host,
     out: &mut O,
     errors: &mut E,
 ) -> Result<u8, AllocError>
     requires out { O.failed out.old ≡ false }
     requires errors { E.failed errors.old ≡ false }
-    ensures { IfOk result (λ status. Performs command (map (λ w. string_bytes w) words.now) is_coloured is_watched
+    ensures { IfOk result (λ status. Performs command (map (λ w. string_bytes w) words.now) screen
         (O.contents out.old) (O.contents out.new) (O.failed out.new)
         (E.contents errors.old) (E.contents errors.new) (E.failed errors.new) status) }
 {
     match command {
-        Command::Check => check(alloc, words, is_coloured, is_watched, host, out, errors),
-        Command::Get => Ok(start(
-            alloc,
-            Query::Get,
-            words,
-            is_coloured,
-            is_watched,
-            host,
-            &mut NoSchemas,
-            out,
-            errors,
-        )),
+        Command::Check => check(alloc, words, screen, host, out, errors),
+        Command::Get => Ok(get(alloc, words, screen, host, out, errors)),
         Command::Fmt => fmt(alloc, words, host, out, errors),
         Command::Show => show(alloc, words, host, out, errors),
         Command::Lsp => lsp(alloc, words, host, out, errors),
@@ -106,8 +92,7 @@ fn perform<O: Sink, E: Sink>(
 }
 
 /// Carries out the command that the arguments name. Without arguments, prints the help of the program to `errors`.
-/// `words` are the name of the program and its arguments. `is_coloured` says whether `--color auto` means colors, and
-/// `is_watched` whether standard error is a terminal.
+/// `words` are the name of the program and its arguments.
 ///
 /// Returns the exit status: 0 for success; 1 for an error in a file, a path of `get` without a value, a refused edit,
 /// or a file that `fmt` can't format, or would change with `--check` or `--diff`; 2 if a file can't be read, its schema
@@ -117,15 +102,14 @@ fn perform<O: Sink, E: Sink>(
 pub(crate) fn dispatch<O: Sink, E: Sink>(
     alloc: Global,
     words: &[String],
-    is_coloured: bool,
-    is_watched: bool,
+    screen: Screen,
     host: &mut Host,
     out: &mut O,
     errors: &mut E,
 ) -> Result<u8, AllocError>
     requires out { O.failed out.old ≡ false }
     requires errors { E.failed errors.old ≡ false }
-    ensures { IfOk result (λ status. Dispatches (map (λ w. string_bytes w) words.now) is_coloured is_watched
+    ensures { IfOk result (λ status. Dispatches (map (λ w. string_bytes w) words.now) screen
         (O.contents out.old) (O.contents out.new) (O.failed out.new)
         (E.contents errors.old) (E.contents errors.new) (E.failed errors.new) status) }
 {
@@ -136,29 +120,11 @@ pub(crate) fn dispatch<O: Sink, E: Sink>(
     match request_of(word, fs::symlink_metadata(&host.rt, word).is_ok()) {
         Request::Command(command) => {
             let words = &words[1..];
-            perform(
-                alloc,
-                command,
-                words,
-                is_coloured,
-                is_watched,
-                host,
-                out,
-                errors,
-            )
+            perform(alloc, command, words, screen, host, out, errors)
         }
         Request::Files => {
             let command = Command::Check;
-            perform(
-                alloc,
-                command,
-                words,
-                is_coloured,
-                is_watched,
-                host,
-                out,
-                errors,
-            )
+            perform(alloc, command, words, screen, host, out, errors)
         }
         Request::Help => Ok(say(out, HELP, 0)),
         Request::Version => Ok(say(out, VERSION, 0)),

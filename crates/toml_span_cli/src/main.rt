@@ -11,7 +11,7 @@ use std::alloc::AllocError;
 use std::io::IsTerminal;
 use std::process::ExitCode;
 use toml_span_check::input::Host;
-use toml_span_commands::colours::wants_colours;
+use toml_span_commands::colours::{Screen, wants_colours};
 use toml_span_commands::words::given_words;
 use toml_span_lines::tracked::Tracked;
 
@@ -25,18 +25,14 @@ fn status_of(rt: HostRuntime) -> Result<u8, AllocError>
     let is_coloured = wants_colours(&rt, out.is_terminal())?;
     let mut out = Tracked::new(out);
     let errors = rt.stderr();
-    let is_watched = errors.is_terminal();
+    let screen = Screen {
+        is_coloured,
+        is_watched: errors.is_terminal(),
+    };
     let mut errors = Tracked::new(errors);
     let mut host = Host { rt };
-    dispatch(
-        alloc,
-        words.as_slice(),
-        is_coloured,
-        is_watched,
-        &mut host,
-        &mut out,
-        &mut errors,
-    )
+    let words = words.as_slice();
+    dispatch(alloc, words, screen, &mut host, &mut out, &mut errors)
 }
 
 /// Runs the program. Exits with the status that `status_of` returns, or with 4 if an allocation fails.

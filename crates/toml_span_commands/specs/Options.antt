@@ -1,6 +1,6 @@
 -- The arguments of `check` and `get`. The crate `clap` parses them, as its definitions `matches_of` and `fault_of`
 -- state.
-use Rattle.std.specs.Prelude.{◌≡◌, ◌==◌, ◌&&◌, ◌||◌, not, ℕ, Bool, true, false, List, [], ◌∷◌, length, Option, Some, None, codes}
+use Rattle.std.specs.Prelude.{map, ◌≡◌, ◌==◌, ◌&&◌, ◌||◌, not, ℕ, Bool, true, false, List, [], ◌∷◌, length, Option, Some, None, codes}
 use Rattle.std.specs.Prelude.{unwrap_or, if◌then◌else◌, Result, Ok, Err}
 use Rattle.std.specs.Str.{bytes_eq}
 use Rattle.clap.specs.Lexer.{usize_max}
@@ -22,6 +22,8 @@ use Rattle.toml_span_check.specs.declared.newer.Version.{Version}
 use Rattle.toml_span_check.specs.declared.newer.Version.TheVariants as version
 use Rattle.toml_span_check.specs.declared.schemas.Chooser.{Chooser}
 use Rattle.toml_span_check.specs.declared.schemas.Chooser.TheVariants.{Files, Arguments}
+use Rattle.toml_span_check.specs.declared.request.Request.{Request}
+use Rattle.toml_span_commands.specs.declared.colours.Screen.{Screen}
 use Rattle.toml_span_commands.specs.declared.options.Fixing.{Fixing}
 use Rattle.toml_span_commands.specs.declared.options.Fixing.TheVariants as fixings
 use Rattle.toml_span_commands.specs.declared.options.Mistake.{Mistake}
@@ -236,15 +238,17 @@ asked query rows auto_is_coloured = with_style (style_named (value_of rows (code
 unfoldable pub options : Query → List (List ℕ) → List Row
 options query words = matches_of (program query) words
 
--- What the arguments `words` mean, if they are right: the format and the task, the path of the value to print, the
--- patterns of files to leave out, the names of the files, whether to print nothing, and what to do with fixes.
-pub record Asks (query : Query) (words : List (List ℕ)) (auto_is_coloured : Bool) (format : Format) (task : Task)
-    (pointer : List ℕ) (excludes names : List (List ℕ)) (is_quiet : Bool) (fixing : Fixing) : Type 0 where
-  pub what : asked query (options query words) auto_is_coloured ≡ Ok (format, task)
-  pub place : pointer ≡ value_of (options query words) (codes "PATH")
-  pub left_out : excludes ≡ unwrap_or (all_of (codes "exclude") (options query words)) []
-  pub files : names ≡ unwrap_or (all_of (codes "FILE") (options query words)) []
-  pub quiet : is_quiet ≡ is_given (options query words) (codes "quiet")
+-- What the arguments `words` mean, if they are right: what to do with which files, and what to do with fixes.
+pub record Asks (query : Query) (words : List (List ℕ)) (screen : Screen) (request : Request) (fixing : Fixing)
+    : Type 0 where
+  pub what : asked query (options query words) screen.is_coloured ≡ Ok (request.format, request.task)
+  pub place : request.pointer.now ≡ value_of (options query words) (codes "PATH")
+  pub left_out : map (λ pattern. pattern.now) request.excludes.items
+      ≡ unwrap_or (all_of (codes "exclude") (options query words)) []
+  pub files : map (λ name. name.now) request.names.items
+      ≡ unwrap_or (all_of (codes "FILE") (options query words)) []
+  pub quiet : request.is_quiet ≡ is_given (options query words) (codes "quiet")
+  pub watched : request.is_watched ≡ screen.is_watched
   pub fixes : fixing ≡ fixing_of (options query words)
 
 -- ---- mistakes in the options

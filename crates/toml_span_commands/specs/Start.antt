@@ -1,5 +1,5 @@
 -- What `check` and `get` do with their arguments.
-use Rattle.std.specs.Prelude.{◌≡◌, ◌≢◌, ◌⊎◌, ℕ, Bool, true, false, List, [], Option, Some, None, Ok, Err, String}
+use Rattle.std.specs.Prelude.{map, ◌≡◌, ◌≢◌, ◌⊎◌, ℕ, Bool, true, false, List, [], Option, Some, None, Ok, Err, String}
 use Rattle.std.specs.Prelude.{string_bytes}
 use Rattle.std.specs.Global.{Global}
 use Rattle.std.specs.Io.KnownBytes.{Keeps}
@@ -13,12 +13,12 @@ use Rattle.toml_span_check.specs.Run.{Asked, Runs}
 use Rattle.toml_span_check.specs.Schemas.{Says}
 use Rattle.toml_span_places.specs.Dotted.{IsPath}
 use Rattle.toml_span_places.specs.declared.dotted.PathError.{PathError}
+use Rattle.toml_span_commands.specs.declared.colours.Screen.{Screen}
 use Rattle.toml_span_commands.specs.declared.help.TheConstants.{CHECK, GET, VERSION}
 use Rattle.toml_span_commands.specs.declared.options.Fixing.{Fixing}
 use Rattle.toml_span_commands.specs.declared.options.Query.{Query}
 use Rattle.toml_span_commands.specs.declared.options.Query.TheVariants as queries
-use Rattle.toml_span_check.specs.declared.answer.Task.{Task}
-use Rattle.toml_span_check.specs.declared.formats.Format.{Format}
+use Rattle.toml_span_check.specs.declared.request.Request.{Request}
 
 abbrev pub help_of : Query → List ℕ
 help_of queries.Check = CHECK.now
@@ -41,24 +41,33 @@ SaysOfPath path None = (segments : List (List ℕ)) × IsPath path (Ok segments)
 SaysOfPath path (Some text) =
     (e : PathError) × IsPath path (Err e) × ((message : List ℕ) × (string_bytes text ≡ visible_lines message))
 
--- How a command with the arguments `words` is carried out. `says` is the relation between documents and the reports of
--- their schemas. If the arguments are right, and the path can be read, the command runs on the files that they name.
--- Otherwise no file is read. If an allocation fails, the status is 4.
-abbrev pub Starts : Says → Query → List (List ℕ) → Bool → Bool → Option Asked → Option Asked
-    → Option (List ℕ) → Option (List ℕ) → Bool → Option (List ℕ) → Option (List ℕ) → Bool → ℕ → Type 0
-Starts says query words auto_is_coloured is_watched old new stdout stdout' out_failed stderr stderr' err_failed status =
-    ((format : Format) × (task : Task) × (pointer : List ℕ) × (excludes names : List (List ℕ))
-    × (is_quiet : Bool) × (fixing : Fixing)
-    × (faults query words auto_is_coloured ≡ [])
-    × Asks query words auto_is_coloured format task pointer excludes names is_quiet fixing
-    × ((segments : List (List ℕ)) × IsPath pointer (Ok segments))
-    × Runs says format task pointer excludes names is_watched is_quiet old new stdout stdout' out_failed stderr stderr'
-    err_failed status)
-    ⊎ ((kind : ErrorKind) × ((kind ≡ OutOfMemory) ⊎ IsAmong kind (faults query words auto_is_coloured)) × (new ≡ old)
-    × Refuses query kind stdout stdout' out_failed stderr stderr' err_failed status)
-    ⊎ ((format : Format) × (task : Task) × (pointer : List ℕ) × (excludes names : List (List ℕ))
-    × (is_quiet : Bool) × (fixing : Fixing)
-    × (faults query words auto_is_coloured ≡ [])
-    × Asks query words auto_is_coloured format task pointer excludes names is_quiet fixing
-    × ((e : PathError) × IsPath pointer (Err e)) × (new ≡ old) × Keeps stdout stdout'
+-- What a command does with right arguments, which make this request. `says` is the relation between documents and the
+-- reports of their schemas. If the path can be read, the command runs on the files that the arguments name. Otherwise
+-- no file is read. If an allocation fails before that, nothing is printed, and the status is 4.
+abbrev pub RunsWith : Says → Request → Option Asked → Option Asked → Option (List ℕ) → Option (List ℕ) → Bool
+    → Option (List ℕ) → Option (List ℕ) → Bool → ℕ → Type 0
+RunsWith says request old new stdout stdout' out_failed stderr stderr' err_failed status =
+    (((segments : List (List ℕ)) × IsPath request.pointer.now (Ok segments))
+    × Runs says request.format request.task request.pointer.now (map (λ pattern. pattern.now) request.excludes.items)
+    (map (λ name. name.now) request.names.items) request.is_watched request.is_quiet old new stdout stdout' out_failed
+    stderr stderr' err_failed status)
+    ⊎ (((e : PathError) × IsPath request.pointer.now (Err e)) × (new ≡ old) × Keeps stdout stdout'
     × ((message : List ℕ) × Prints stderr stderr' err_failed (visible_lines message) 2 status))
+    ⊎ ((status ≡ 4) × (new ≡ old) × Keeps stdout stdout' × Keeps stderr stderr')
+
+-- The arguments `words` are wrong, or ask for the help or the version, or an allocation fails. No file is read.
+abbrev pub Declines : Query → List (List ℕ) → Bool → Option (List ℕ) → Option (List ℕ) → Bool → Option (List ℕ)
+    → Option (List ℕ) → Bool → ℕ → Type 0
+Declines query words auto_is_coloured stdout stdout' out_failed stderr stderr' err_failed status =
+    (kind : ErrorKind) × ((kind ≡ OutOfMemory) ⊎ IsAmong kind (faults query words auto_is_coloured))
+    × Refuses query kind stdout stdout' out_failed stderr stderr' err_failed status
+
+-- How a command with the arguments `words` is carried out.
+abbrev pub Starts : Says → Query → List (List ℕ) → Screen → Option Asked → Option Asked
+    → Option (List ℕ) → Option (List ℕ) → Bool → Option (List ℕ) → Option (List ℕ) → Bool → ℕ → Type 0
+Starts says query words screen old new stdout stdout' out_failed stderr stderr' err_failed status =
+    ((request : Request) × (fixing : Fixing) × (faults query words screen.is_coloured ≡ [])
+    × Asks query words screen request fixing
+    × RunsWith says request old new stdout stdout' out_failed stderr stderr' err_failed status)
+    ⊎ ((new ≡ old)
+    × Declines query words screen.is_coloured stdout stdout' out_failed stderr stderr' err_failed status)

@@ -1,20 +1,24 @@
 //! The command `check`.
-ghost use Rattle.std.specs.Prelude.{◌≡◌, ◌≤◌, ⊤, IfOk, MatchOption, None, false, map, string_bytes};
-ghost use Rattle.toml_span_commands.specs.Check.{AsksForFixing, ChecksFixed, PerformsCheck, ShowsChanges};
+ghost use Rattle.std.specs.Prelude.{◌≡◌, ◌≤◌, IfOk, None, false, map, string_bytes};
+ghost use Rattle.toml_span_commands.specs.Check.{ChecksFixed, ChecksWith, PerformsCheck, ShowsChanges};
+ghost use Rattle.toml_span_commands.specs.Start.{RunsWith};
+ghost use Rattle.toml_span_lookup.specs.Findings.{file_says};
 
 use crate::answers::{Answer, failed};
+use crate::colours::Screen;
 use crate::edit::escaped;
 use crate::files::{read_file, replace};
 use crate::options::{Fixing, Options, Query, options_of};
 use crate::say::say;
 use crate::schemas::FileSchemas;
-use crate::start::start;
+use crate::start::{refuse, run_with};
 use std::alloc::{AllocError, Global};
 use std::io::IsTerminal;
 use toml_span_check::answer::Task;
 use toml_span_check::fixing::{FixLevel, Fixed, with_fixes};
 use toml_span_check::input::{Host, Inputs};
 use toml_span_check::newer::with_older_forms;
+use toml_span_check::request::Request;
 use toml_span_check::words::shown_word;
 use toml_span_files::unified;
 use toml_span_lines::run::BOUND;
@@ -150,7 +154,7 @@ impl Fixes {
         options: &Options<'_>,
         name: &str,
     ) -> Result<(), AllocError> {
-        let files = host.find(alloc, options.excludes.as_slice(), name)?;
+        let files = host.find(alloc, options.request.excludes.as_slice(), name)?;
         for file in &files {
             let file = file.as_str();
             let shown = if file == "-" {
@@ -158,7 +162,7 @@ impl Fixes {
             } else {
                 file
             };
-            self.add_file(alloc, host, options.task, file, shown)?;
+            self.add_file(alloc, host, options.request.task, file, shown)?;
         }
         Ok(())
     }
@@ -203,11 +207,11 @@ fn fix_files(
         lines: String::new(alloc),
         status: 0,
     };
-    for name in options.names.as_slice() {
+    for name in options.request.names.as_slice() {
         fixes.add_named(alloc, host, options, *name)?;
     }
     fixes.add_total(alloc)?;
-    if options.is_quiet {
+    if options.request.is_quiet {
         fixes.silence(alloc);
     }
     Ok(fixes)
@@ -250,53 +254,6 @@ impl Inputs for NamedInputs {
     }
 }
 
-/// Returns the `FileSchemas` for the options about schemas in `words`. If the arguments `words` are wrong, returns the
-/// `FileSchemas` without options.
-fn file_schemas(alloc: Global, words: &[String], host: &Host) -> Result<FileSchemas, AllocError> {
-    match options_of(alloc, Query::Check, words, false) {
-        Ok(options) => FileSchemas::new(alloc, host.rt, &options.schemas),
-        Err(error) if error.kind() == clap::error::ErrorKind::OutOfMemory => Err(AllocError),
-        Err(_) => Ok(FileSchemas::without_options(alloc, host.rt)),
-    }
-}
-
-/// Returns the name that the arguments `words` give standard input: `-` if they give none, or are wrong.
-fn stdin_name(alloc: Global, words: &[String]) -> Result<String, AllocError> {
-    match options_of(alloc, Query::Check, words, false) {
-        Ok(options) => String::from_str(alloc, options.stdin_name),
-        Err(error) if error.kind() == clap::error::ErrorKind::OutOfMemory => Err(AllocError),
-        Err(_) => String::from_str(alloc, "-"),
-    }
-}
-
-/// Carries out `--fix`. Returns the fixes, and whether `--diff` is given. Returns `None` if the arguments don't have the
-/// option `--fix`, or are wrong. `words` are the name of the command, or of the program, and the arguments.
-fn fix(
-    alloc: Global,
-    words: &[String],
-    is_coloured: bool,
-    host: &mut Host,
-) -> Result<Option<(bool, Fixes)>, AllocError>
-    ensures { IfOk result (λ made. MatchOption made ⊤ (λ fixes.
-        AsksForFixing (map (λ w. string_bytes w) words.now) is_coloured fixes.0)) }
-{
-    match options_of(alloc, Query::Check, words, is_coloured) {
-        Ok(options) => match options.fixing {
-            Fixing::No => Ok(None),
-            Fixing::Write(level) => {
-                let fixes = fix_files(alloc, &options, level, false, host)?;
-                Ok(Some((false, fixes)))
-            }
-            Fixing::Diff(level) => {
-                let fixes = fix_files(alloc, &options, level, true, host)?;
-                Ok(Some((true, fixes)))
-            }
-        },
-        Err(error) if error.kind() == clap::error::ErrorKind::OutOfMemory => Err(AllocError),
-        Err(_) => Ok(None),
-    }
-}
-
 /// Prints the lines of `fixes`, and then what they would change. Returns the exit status.
 fn show_changes<O: Sink, E: Sink>(
     alloc: Global,
@@ -327,125 +284,121 @@ fn show_changes<O: Sink, E: Sink>(
     }
 }
 
-/// Prints the lines of `fixes`, and then checks the files. Returns the exit status of the check, but at least the
-/// status of `fixes`, and 3 if the lines can't be written.
-fn check_fixed<O: Sink, E: Sink>(
+/// Where files and their schemas come from.
+#[derive(Drop)]
+struct Files {
+    inputs: NamedInputs,
+    schemas: FileSchemas,
+}
+
+impl Files {
+    /// Returns the files and the schemas for `options`. Reads nothing yet.
+    fn of(alloc: Global, options: &Options<'_>, host: &Host) -> Result<Files, AllocError> {
+        Ok(Files {
+            inputs: NamedInputs {
+                host: Host { rt: host.rt },
+                stdin_name: String::from_str(alloc, options.stdin_name)?,
+                is_waiting: false,
+            },
+            schemas: FileSchemas::new(alloc, host.rt, &options.schemas)?,
+        })
+    }
+}
+
+/// Checks the files that `request` names. Returns the exit status of `run_with`.
+fn check_files<O: Sink, E: Sink>(
     alloc: Global,
-    fixes: &Fixes,
-    words: &[String],
-    is_coloured: bool,
-    is_watched: bool,
-    inputs: &mut NamedInputs,
-    schemas: &mut FileSchemas,
+    request: &Request<'_>,
+    files: &mut Files,
     out: &mut O,
     errors: &mut E,
 ) -> u8
     requires out { O.failed out.old ≡ false }
     requires errors { E.failed errors.old ≡ false }
-    ensures { ChecksFixed (map (λ w. string_bytes w) words.now) is_coloured is_watched
-        (O.contents out.old) (O.contents out.new) (O.failed out.new)
+    ensures { RunsWith file_says request.now None None (O.contents out.old) (O.contents out.new) (O.failed out.new)
+        (E.contents errors.old) (E.contents errors.new) (E.failed errors.new) result }
+{
+    run_with(
+        alloc,
+        request,
+        &mut files.inputs,
+        &mut files.schemas,
+        out,
+        errors,
+    )
+}
+
+/// Prints the lines of `fixes`, and then checks the files. Returns the exit status of the check, but at least the
+/// status of `fixes`, and 3 if the lines can't be written.
+fn check_fixed<O: Sink, E: Sink>(
+    alloc: Global,
+    fixes: &Fixes,
+    request: &Request<'_>,
+    files: &mut Files,
+    out: &mut O,
+    errors: &mut E,
+) -> u8
+    requires out { O.failed out.old ≡ false }
+    requires errors { E.failed errors.old ≡ false }
+    ensures { ChecksFixed request.now (O.contents out.old) (O.contents out.new) (O.failed out.new)
         (E.contents errors.old) (E.contents errors.new) (E.failed errors.new) result }
 {
     match say(errors, fixes.lines.as_str(), 0) {
         0 => {
-            let checked = start(
-                alloc,
-                Query::Check,
-                words,
-                is_coloured,
-                is_watched,
-                inputs,
-                schemas,
-                out,
-                errors,
-            );
+            let checked = check_files(alloc, request, files, out, errors);
             checked.max(fixes.status)
         }
         _ => 3,
     }
 }
 
-/// Carries out `check` with these schemas, and returns the exit status. The other parameters are those of the function
-/// `check`.
+/// Carries out `check` with these options, and returns the exit status.
 fn check_with<O: Sink, E: Sink>(
     alloc: Global,
-    words: &[String],
-    is_coloured: bool,
-    is_watched: bool,
+    options: &Options<'_>,
     host: &mut Host,
-    inputs: &mut NamedInputs,
-    schemas: &mut FileSchemas,
     out: &mut O,
     errors: &mut E,
 ) -> Result<u8, AllocError>
     requires out { O.failed out.old ≡ false }
     requires errors { E.failed errors.old ≡ false }
-    ensures { IfOk result (λ status. PerformsCheck (map (λ w. string_bytes w) words.now) is_coloured is_watched
+    ensures { IfOk result (λ status. ChecksWith options.now.fixing options.now.request
         (O.contents out.old) (O.contents out.new) (O.failed out.new)
         (E.contents errors.old) (E.contents errors.new) (E.failed errors.new) status) }
 {
-    match fix(alloc, words, is_coloured, host)? {
-        Some((true, fixes)) => show_changes(alloc, fixes, host, out, errors),
-        Some((false, fixes)) => Ok(check_fixed(
-            alloc,
-            &fixes,
-            words,
-            is_coloured,
-            is_watched,
-            inputs,
-            schemas,
-            out,
-            errors,
-        )),
-        None => Ok(start(
-            alloc,
-            Query::Check,
-            words,
-            is_coloured,
-            is_watched,
-            inputs,
-            schemas,
-            out,
-            errors,
-        )),
+    let mut files = Files::of(alloc, options, host)?;
+    let request = &options.request;
+    match options.fixing {
+        Fixing::No => Ok(check_files(alloc, request, &mut files, out, errors)),
+        Fixing::Write(level) => {
+            let fixes = fix_files(alloc, options, level, false, host)?;
+            Ok(check_fixed(alloc, &fixes, request, &mut files, out, errors))
+        }
+        Fixing::Diff(level) => {
+            let fixes = fix_files(alloc, options, level, true, host)?;
+            show_changes(alloc, fixes, host, out, errors)
+        }
     }
 }
 
 /// Checks files. With `--fix`, first fixes their errors, or prints with `--diff` what this would change, and checks
-/// nothing. Returns the exit status.
-///
-/// `words` are the name of the command, or of the program, and the arguments. `is_coloured` says whether `--color auto`
-/// means colors, and `is_watched` whether standard error is a terminal.
+/// nothing. Returns the exit status. `words` are the name of the command, or of the program, and the arguments.
 pub fn check<O: Sink, E: Sink>(
     alloc: Global,
     words: &[String],
-    is_coloured: bool,
-    is_watched: bool,
+    screen: Screen,
     host: &mut Host,
     out: &mut O,
     errors: &mut E,
 ) -> Result<u8, AllocError>
     requires out { O.failed out.old ≡ false }
     requires errors { E.failed errors.old ≡ false }
-    ensures { IfOk result (λ status. PerformsCheck (map (λ w. string_bytes w) words.now) is_coloured is_watched
+    ensures { IfOk result (λ status. PerformsCheck (map (λ w. string_bytes w) words.now) screen
         (O.contents out.old) (O.contents out.new) (O.failed out.new)
         (E.contents errors.old) (E.contents errors.new) (E.failed errors.new) status) }
 {
-    let mut schemas = file_schemas(alloc, words, host)?;
-    let mut inputs = NamedInputs {
-        host: Host { rt: host.rt },
-        stdin_name: stdin_name(alloc, words)?,
-        is_waiting: false,
-    };
-    check_with(
-        alloc,
-        words,
-        is_coloured,
-        is_watched,
-        host,
-        &mut inputs,
-        &mut schemas,
-        out,
-        errors,
-    )
+    match options_of(alloc, Query::Check, words, screen) {
+        Ok(options) => check_with(alloc, &options, host, out, errors),
+        Err(error) => Ok(refuse(alloc, Query::Check, words, &error, out, errors)),
+    }
 }

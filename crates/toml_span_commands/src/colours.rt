@@ -6,6 +6,23 @@ use std::alloc::AllocError;
 use std::env;
 use std::env::VarError;
 
+/// What commands know about standard output and standard error.
+#[derive(Clone, Copy)]
+pub struct Screen {
+    /// Whether reports on standard output have colors with `--color auto`.
+    pub is_coloured: bool,
+    /// Whether standard error is a terminal.
+    pub is_watched: bool,
+}
+
+impl Screen {
+    /// No colors, and no terminal.
+    pub(crate) const PLAIN: Screen = Screen {
+        is_coloured: false,
+        is_watched: false,
+    };
+}
+
 /// Returns whether reports have colors. They have none if `no_color` is not empty. Otherwise they have colors if
 /// `force` is neither empty nor `0`, or if `is_terminal` and `term` is not `dumb`.
 ///

@@ -4,12 +4,12 @@ ghost use Rattle.toml_span_commands.specs.Explain as spec;
 
 use crate::commands::Command;
 use crate::help::EXPLAIN;
-use crate::say::{quoted_word, say, say_misuse};
+use crate::say::{quoted_word, say, say_misuse, similar_line};
 use crate::schema_pages::{SCHEMA_CODES, schema_page};
 use crate::words::is_help;
 use std::alloc::{AllocError, Global};
 use toml_span_lines::sink::Sink;
-use toml_span_report::{CODES, explain as page_of_error, nearest};
+use toml_span_report::{CODES, explain as page_of_error};
 
 /// The codes of `check` and `get` that are neither in `CODES` nor in `SCHEMA_CODES`.
 const OWN_CODES: [&str; 4] = ["too-many-errors", "not-utf-8", "too-long", "nothing-there"];
@@ -103,16 +103,13 @@ fn say_unknown<E: Sink>(alloc: Global, code: &str, errors: &mut E) -> Result<u8,
     ensures { IfOk result (λ status. status ≤ 4) }
 {
     let shown = quoted_word(alloc, code)?;
-    let mut text = format!(in alloc; "error: no such code: {shown}\n")?;
     let mut all = Vec::from_slice(alloc, &CODES)?;
     all.extend_from_slice(&OWN_CODES)?;
     all.extend_from_slice(&SCHEMA_CODES)?;
-    if let Some(name) = nearest(alloc, code, all.as_slice())? {
-        text.push_str("help: a code with a similar name exists: `")?;
-        text.push_str(name)?;
-        text.push_str("`\n")?;
-    }
-    text.push_str("help: `toml-span explain` lists the codes\n")?;
+    let similar = similar_line(alloc, "code", code, all.as_slice())?;
+    let text = format!(in alloc;
+        "error: no such code: {shown}\n{similar}help: `toml-span explain` lists the codes\n"
+    )?;
     Ok(say(errors, text.as_str(), 2))
 }
 

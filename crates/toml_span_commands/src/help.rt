@@ -253,7 +253,8 @@ Usage: toml-span remove [OPTION].. FILE PATH
 
 PATH is a dotted key such as server.ports[0], or a pointer such as
 /server/ports/0; positions in arrays count from 0. A table is removed with all
-its sections.
+its sections. The comment lines directly above a value are removed with it, and
+so is the comment at the end of its line.
 
   toml-span remove Cargo.toml dependencies.serde
 ";
@@ -303,7 +304,7 @@ Usage: toml-span move [OPTION].. FILE PATH PATH
 
 A PATH is a dotted key such as server.ports[0], or a pointer such as
 /server/ports/0; positions in arrays count from 0. There must be no value at the
-second PATH yet, unless both are elements of one array.
+second PATH yet; at the position of an element, the value is inserted before it.
 
   toml-span move Cargo.toml dependencies.log dev-dependencies.log
 ";

@@ -5,11 +5,10 @@ ghost use Rattle.toml_span_commands.specs.Say.{Warns};
 use crate::commands::{Command, NAMES, command_named, help_of};
 use crate::edit::edit_help;
 use crate::help::HELP;
-use crate::say::{quoted_word, say, say_misuse};
+use crate::say::{quoted_word, say, say_misuse, similar_line};
 use crate::words::is_help;
 use std::alloc::{AllocError, Global};
 use toml_span_lines::sink::Sink;
-use toml_span_report::nearest;
 
 /// Prints to `errors` that an argument is neither a command nor a file, and the most similar command, if one is
 /// similar. Returns status 2, or 3 if the write fails.
@@ -19,13 +18,10 @@ pub fn say_unknown<E: Sink>(alloc: Global, word: &str, errors: &mut E) -> Result
         Warns (E.contents errors.old) (E.contents errors.new) (E.failed errors.new) 2 status) }
 {
     let shown = quoted_word(alloc, word)?;
-    let mut text = format!(in alloc; "error: no such command or file: {shown}\n")?;
-    if let Some(name) = nearest(alloc, word, &NAMES)? {
-        text.push_str("help: a command with a similar name exists: `")?;
-        text.push_str(name)?;
-        text.push_str("`\n")?;
-    }
-    text.push_str("help: `toml-span --help` lists the commands\n")?;
+    let similar = similar_line(alloc, "command", word, &NAMES)?;
+    let text = format!(in alloc;
+        "error: no such command or file: {shown}\n{similar}help: `toml-span --help` lists the commands\n"
+    )?;
     Ok(say(errors, text.as_str(), 2))
 }
 

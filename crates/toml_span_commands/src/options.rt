@@ -4,6 +4,7 @@ ghost use Rattle.clap.specs.Kinds.{FailsBy};
 ghost use Rattle.clap.specs.Words.{app_of, found_of, rows_of, rule_of};
 ghost use Rattle.toml_span_commands.specs.Options as spec;
 
+use crate::colours::Screen;
 use crate::help::{CHECK, GET, VERSION};
 use crate::schemas::SchemaOptions;
 use crate::words::has;
@@ -14,6 +15,7 @@ use toml_span_check::answer::{Form, Task};
 use toml_span_check::fixing::FixLevel;
 use toml_span_check::formats::Format;
 use toml_span_check::newer::Version;
+use toml_span_check::request::Request;
 use toml_span_check::schemas::Chooser;
 use toml_span_check::words::is_bytes;
 use toml_span_report::Style;
@@ -41,17 +43,10 @@ pub(crate) enum Fixing {
 /// The parsed arguments of `check` or `get`.
 #[derive(Drop)]
 pub(crate) struct Options<'w> {
-    pub(crate) format: Format,
-    pub(crate) task: Task,
-    /// For `get`, the path of the value to print, which is empty for the whole document. Empty for `check`.
-    pub(crate) pointer: &'w str,
-    /// The patterns of files and directories to leave out of a search.
-    pub(crate) excludes: Vec<&'w str>,
-    pub(crate) names: Vec<&'w str>,
+    /// What to check or print. For `check`, the path is empty.
+    pub(crate) request: Request<'w>,
     /// The name of standard input in reports. For `get`, it is empty.
     pub(crate) stdin_name: &'w str,
-    /// Whether to print nothing.
-    pub(crate) is_quiet: bool,
     pub(crate) fixing: Fixing,
     /// How fixed files are written.
     pub(crate) writing: toml_span_files::Options,
@@ -448,30 +443,32 @@ fn message_of(mistake: Mistake) -> &'static str {
 }
 
 /// Parses the arguments of a command. `words` are the name of the command, or of the program, and the arguments.
-/// `auto_is_coloured` says whether `--color auto` means colors. Fails with clap's error, which may also be a request
-/// for the help or the version. If an allocation fails, the error has the kind `OutOfMemory`.
+/// Fails with clap's error, which may also be a request for the help or the version. If an allocation fails, the error
+/// has the kind `OutOfMemory`.
 pub(crate) fn options_of<'w>(
     alloc: Global,
     query: Query,
     words: &'w [String],
-    auto_is_coloured: bool,
+    screen: Screen,
 ) -> Result<Options<'w>, Error>
-    ensures ok { IfOk result (λ o. spec.Asks query (map (λ w. string_bytes w) words.entry.now) auto_is_coloured
-        o.format o.task o.pointer.now (map (λ pattern. pattern.now) o.excludes.items)
-        (map (λ name. name.now) o.names.items) o.is_quiet o.fixing) }
-    ensures fails { FailsBy (spec.faults query (map (λ w. string_bytes w) words.entry.now) auto_is_coloured) result }
+    ensures ok { IfOk result (λ o.
+        spec.Asks query (map (λ w. string_bytes w) words.entry.now) screen o.request o.fixing) }
+    ensures fails { FailsBy (spec.faults query (map (λ w. string_bytes w) words.entry.now) screen.is_coloured) result }
 {
     let mut command = command(alloc, query)?;
     let matches = command.try_get_matches_from_mut(words)?;
-    match asked(query, &matches, auto_is_coloured) {
+    match asked(query, &matches, screen.is_coloured) {
         Ok((format, task)) => Ok(Options {
-            format,
-            task,
-            pointer: value_of(&matches, "PATH"),
-            excludes: Vec::from_slice(alloc, matches.get_strs("exclude").unwrap_or(&[]))?,
-            names: Vec::from_slice(alloc, matches.get_strs("FILE").unwrap_or(&[]))?,
+            request: Request {
+                format,
+                task,
+                pointer: value_of(&matches, "PATH"),
+                excludes: Vec::from_slice(alloc, matches.get_strs("exclude").unwrap_or(&[]))?,
+                names: Vec::from_slice(alloc, matches.get_strs("FILE").unwrap_or(&[]))?,
+                is_watched: screen.is_watched,
+                is_quiet: is_given(&matches, "quiet"),
+            },
             stdin_name: value_of(&matches, "stdin-name"),
-            is_quiet: is_given(&matches, "quiet"),
             fixing: fixing_of(&matches),
             writing: writing_of(&matches),
             schemas: SchemaOptions {

@@ -32,6 +32,20 @@ pub(crate) fn quoted_word(alloc: Global, word: &str) -> Result<String, AllocErro
     Ok(out)
 }
 
+/// Returns the line that names the most similar of `names`, or an empty text if none is similar. `kind` says what has
+/// these names.
+pub(crate) fn similar_line(
+    alloc: Global,
+    kind: &str,
+    word: &str,
+    names: &[&str],
+) -> Result<String, AllocError> {
+    match nearest(alloc, word, names)? {
+        Some(name) => format!(in alloc; "help: a {kind} with a similar name exists: `{name}`\n"),
+        None => Ok(String::new(alloc)),
+    }
+}
+
 /// Returns the message that an argument is unexpected, followed by `note` and, if one of the options `names` is similar,
 /// by a line that names it.
 pub(crate) fn unexpected(

@@ -55,21 +55,10 @@ impl FileSchemas {
         rt: HostRuntime,
         options: &SchemaOptions<'_>,
     ) -> Result<FileSchemas, AllocError> {
-        let options = options.options(alloc)?;
-        Ok(FileSchemas::with(alloc, rt, options))
-    }
-
-    /// Returns a source of the schemas that are named by files. Reads nothing yet.
-    pub(crate) fn without_options(alloc: Global, rt: HostRuntime) -> FileSchemas {
-        FileSchemas::with(alloc, rt, Options::new(alloc, Place::Arguments))
-    }
-
-    /// Does the same as `new` with options for `Lookup`.
-    fn with(alloc: Global, rt: HostRuntime, options: Options) -> FileSchemas {
-        FileSchemas {
+        Ok(FileSchemas {
             host: Host { rt },
-            lookup: Lookup::new(alloc, options),
-        }
+            lookup: Lookup::new(alloc, options.options(alloc)?),
+        })
     }
 }
 

@@ -1,10 +1,13 @@
 //! Carries out the commands `check` and `get`.
-ghost use Rattle.std.specs.Prelude.{◌≡◌, IfOk, List, ℕ, false, map, string_bytes};
+ghost use Rattle.std.specs.Prelude.{◌≡◌, IfOk, List, ℕ, None, false, map, string_bytes};
 ghost use Rattle.clap.specs.Values.{kind_of};
 ghost use Rattle.toml_span_report.specs.Visible.{visible_lines};
-ghost use Rattle.toml_span_commands.specs.Start.{Refuses, Starts};
+ghost use Rattle.toml_span_check.specs.Schemas.{no_schema};
+ghost use Rattle.toml_span_commands.specs.Start.{Refuses, RunsWith, Starts};
 ghost use Rattle.toml_span_commands.specs.Start as spec;
+ghost use Rattle.toml_span_commands.specs.declared.options.Query.TheVariants as queries;
 
+use crate::colours::Screen;
 use crate::commands::Command;
 use crate::help::{CHECK, GET, VERSION};
 use crate::options::{Query, options_of};
@@ -13,9 +16,10 @@ use crate::say::{misuse_text, say};
 use clap::Error;
 use clap::error::ErrorKind;
 use std::alloc::{AllocError, Global};
-use toml_span_check::input::Inputs;
+use toml_span_check::input::{Host, Inputs};
+use toml_span_check::request::Request;
 use toml_span_check::run::run;
-use toml_span_check::schemas::Schemas;
+use toml_span_check::schemas::{NoSchemas, Schemas};
 use toml_span_check::words::shown_word;
 use toml_span_lines::sink::Sink;
 use toml_span_report::visible::{visible, visible_lines};
@@ -33,9 +37,9 @@ fn help_of(query: Query) -> &'static str
 /// Returns the message about wrong arguments. `words` are the arguments, escaped for a terminal. If the escaped
 /// arguments are right, the mistake is that the path is not valid UTF-8.
 fn message_of(alloc: Global, query: Query, words: &[String]) -> Result<String, AllocError> {
-    match options_of(alloc, query, words, false) {
+    match options_of(alloc, query, words, Screen::PLAIN) {
         Ok(options) => {
-            let path = options.pointer;
+            let path = options.request.pointer;
             format!(in alloc; "error: the path `{path}` is not valid UTF-8\n")
         }
         Err(error) => {
@@ -74,7 +78,7 @@ fn path_mistake(alloc: Global, path: &str) -> Result<Option<String>, AllocError>
 /// Prints the help or the version if the arguments ask for one of them, otherwise the message about wrong arguments.
 /// `error` is clap's error for `words`. Returns the exit status: 0 for the help or version, 2 for wrong arguments, 3 if
 /// a write fails, 4 if an allocation fails.
-fn refuse<O: Sink, E: Sink>(
+pub(crate) fn refuse<O: Sink, E: Sink>(
     alloc: Global,
     query: Query,
     words: &[String],
@@ -98,18 +102,12 @@ fn refuse<O: Sink, E: Sink>(
     }
 }
 
-/// Carries out `check` or `get`. If the arguments are right, calls `toml_span_check::run::run`, and returns its exit
-/// status. Otherwise prints the help or version with status 0, or the message about wrong arguments with status 2. The
-/// status is 3 if a write fails, and 4 if an allocation fails.
-///
-/// `words` are the name of the command, or of the program, and the arguments. `auto_is_coloured` says whether
-/// `--color auto` means colors, and `is_watched` whether standard error is a terminal.
-pub fn start<I: Inputs, S: Schemas, O: Sink, E: Sink>(
+/// Carries out `check` or `get` with a request: calls `toml_span_check::run::run`, and returns its exit status. If the
+/// path in `request` can't be read, only prints why, with status 2, or 3 if the write fails. The status is 4 if an
+/// allocation fails.
+pub(crate) fn run_with<I: Inputs, S: Schemas, O: Sink, E: Sink>(
     alloc: Global,
-    query: Query,
-    words: &[String],
-    auto_is_coloured: bool,
-    is_watched: bool,
+    request: &Request<'_>,
     inputs: &mut I,
     schemas: &mut S,
     out: &mut O,
@@ -117,30 +115,35 @@ pub fn start<I: Inputs, S: Schemas, O: Sink, E: Sink>(
 ) -> u8
     requires out { O.failed out.old ≡ false }
     requires errors { E.failed errors.old ≡ false }
-    ensures { Starts S.says query (map (λ w. string_bytes w) words.now) auto_is_coloured is_watched
-        (I.log inputs.old) (I.log inputs.new)
+    ensures { RunsWith S.says request.now (I.log inputs.old) (I.log inputs.new)
         (O.contents out.old) (O.contents out.new) (O.failed out.new)
         (E.contents errors.old) (E.contents errors.new) (E.failed errors.new) result }
 {
-    match options_of(alloc, query, words, auto_is_coloured) {
-        Ok(options) => match path_mistake(alloc, options.pointer) {
-            Ok(None) => run(
-                alloc,
-                options.format,
-                options.task,
-                options.pointer,
-                options.excludes.as_slice(),
-                options.names.as_slice(),
-                is_watched,
-                options.is_quiet,
-                inputs,
-                schemas,
-                out,
-                errors,
-            ),
-            Ok(Some(message)) => say(errors, message.as_str(), 2),
-            Err(_) => 4,
-        },
-        Err(error) => refuse(alloc, query, words, &error, out, errors),
+    match path_mistake(alloc, request.pointer) {
+        Ok(None) => run(alloc, request, inputs, schemas, out, errors),
+        Ok(Some(message)) => say(errors, message.as_str(), 2),
+        Err(_) => 4,
+    }
+}
+
+/// Carries out `get`. If the arguments are wrong, or ask for the help or version, returns the status of `refuse`.
+/// Otherwise returns that of `run_with`. `words` are the name of the command and its arguments.
+pub fn get<O: Sink, E: Sink>(
+    alloc: Global,
+    words: &[String],
+    screen: Screen,
+    host: &mut Host,
+    out: &mut O,
+    errors: &mut E,
+) -> u8
+    requires out { O.failed out.old ≡ false }
+    requires errors { E.failed errors.old ≡ false }
+    ensures { Starts no_schema queries.Get (map (λ w. string_bytes w) words.now) screen None None
+        (O.contents out.old) (O.contents out.new) (O.failed out.new)
+        (E.contents errors.old) (E.contents errors.new) (E.failed errors.new) result }
+{
+    match options_of(alloc, Query::Get, words, screen) {
+        Ok(options) => run_with(alloc, &options.request, host, &mut NoSchemas, out, errors),
+        Err(error) => refuse(alloc, Query::Get, words, &error, out, errors),
     }
 }

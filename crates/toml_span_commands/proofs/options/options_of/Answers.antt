@@ -58,7 +58,7 @@ pub returns-in-Ok-clause-ok : goal.returns-in-Ok-clause-ok
 returns-in-Ok-clause-ok c =
     let these = rows _ _ _ c.in_ok-matches.matches c.in_ok-command.ensures c.in_ok-matches.ensures.ok.2 in
     record {
-      what = ap (λ rs. asked c.args.query rs c.args.auto_is_coloured) (sym these) ∙ sym c.asked.ensures ∙ c.in-Ok.is;
+      what = ap (λ rs. asked c.args.query rs c.args.screen.is_coloured) (sym these) ∙ sym c.asked.ensures ∙ c.in-Ok.is;
       place = c.value_of.ensures ∙ ap (λ rs. value_of rs (80 ∷ 65 ∷ 84 ∷ 72 ∷ [])) these;
       left_out =
           ap (map (λ name. name.now)) (c.in_ok-from_slice-in-Ok.ensures.items ∙ ap (λ s. s.now) c.unwrap_or.ensures)
@@ -68,6 +68,7 @@ returns-in-Ok-clause-ok c =
           ap (map (λ name. name.now)) (c.in_ok-from_slice-in-Ok-2.ensures.items ∙ ap (λ s. s.now) c.unwrap_or-in-Ok.ensures)
           ∙ or-none c.get_strs-in-Ok.result _ refl
           ∙ ap (λ (o : Option (List (List ℕ))). unwrap_or o []) (c.get_strs-in-Ok.ensures ∙ all-row c.in_ok-matches.matches _ ∙ ap (all_of (70 ∷ 73 ∷ 76 ∷ 69 ∷ [])) these);
+      watched = refl;
       quiet = c.is_given.ensures ∙ ap (λ rs. is_given rs (113 ∷ 117 ∷ 105 ∷ 101 ∷ 116 ∷ [])) these;
       fixes = c.fixing_of.ensures ∙ ap fixing_of these;
     }
@@ -76,11 +77,11 @@ pub returns-in-Ok-clause-fails : goal.returns-in-Ok-clause-fails
 returns-in-Ok-clause-fails c =
     let these = rows _ _ _ c.in_ok-matches.matches c.in_ok-command.ensures c.in_ok-matches.ensures.ok.2 in
     let fine = taken _ _ _ c.in_ok-command.ensures c.in_ok-matches.ensures.kinds in
-    rw (fine, ap (λ rs. asked c.args.query rs c.args.auto_is_coloured) (sym these) ∙ sym c.asked.ensures ∙ c.in-Ok.is) refl
+    rw (fine, ap (λ rs. asked c.args.query rs c.args.screen.is_coloured) (sym these) ∙ sym c.asked.ensures ∙ c.in-Ok.is) refl
 
 pub returns-clause-fails : goal.returns-clause-fails
 returns-clause-fails c =
     let these = rows _ _ _ c.in_ok-matches.matches c.in_ok-command.ensures c.in_ok-matches.ensures.ok.2 in
     let fine = taken _ _ _ c.in_ok-command.ensures c.in_ok-matches.ensures.kinds in
-    mistaken _ _ _ c.in-Err.mistake c.in_ok-error-in-Err.field-0 fine (ap (λ rs. asked c.args.query rs c.args.auto_is_coloured) (sym these) ∙ sym c.asked.ensures ∙ c.in-Err.is)
+    mistaken _ _ _ c.in-Err.mistake c.in_ok-error-in-Err.field-0 fine (ap (λ rs. asked c.args.query rs c.args.screen.is_coloured) (sym these) ∙ sym c.asked.ensures ∙ c.in-Err.is)
     (c.in_ok-error-in-Err.ensures.kind ∙ c.kind_of.ensures)
