@@ -1,11 +1,11 @@
 -- What follows a value in a document does not continue it.
-use Rattle.toml_span_lex.proofs.Common.{◌≡◌, ◌≢◌, ℕ, ◌+◌, ◌<◌, ◌≤◌, Bool, true, false, not, ◌||◌, ◌==◌, List, [], ◌∷◌, length, get_or, drop, arith, inl, inr, refl, sym, ap, ◌∙◌, subst, cases_lt, get_or_past, nat_tests, common_steps, ◌⊎◌}
+use Rattle.toml_span_lex.proofs.Common.{◌≡◌, ℕ, ◌+◌, true, false, List, [], ◌∷◌, length, get_or, drop, arith, inl, inr, refl, sym, ◌∙◌, cases_lt, get_or_past, nat_tests, common_steps, ◌⊎◌}
 use Rattle.std.proofs.lemmas.List.{get_or-drop}
 use Rattle.toml_span_lex.specs.Bytes.{is_blank, MaximalRun}
 use Rattle.toml_span_lex.specs.Text.{LineEnd}
 use Rattle.toml_span_read.specs.Again.{may_follow}
-use Rattle.toml_span_read.specs.Dates.{is_date_byte, continues_date}
-use Rattle.toml_span_read.specs.Gaps.{GapPiece, GapBy, MaximalGap, Separator, Closes, Tail, Skipped}
+use Rattle.toml_span_read.specs.Dates.{is_date_byte}
+use Rattle.toml_span_read.specs.Gaps.{GapPiece, GapBy, MaximalGap, Separator, Closes, Tail}
 use Rattle.toml_span_read.specs.Keys.{opens_string}
 
 -- the byte does not continue a value

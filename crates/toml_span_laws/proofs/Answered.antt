@@ -2,7 +2,6 @@
 use Rattle.toml_span_lex.proofs.Common.{◌≡◌, ℕ, ◌≤◌, arith, List, Some, None, Result, Ok, Err, sym, ap, ◌∙◌, subst, ◌⊎◌, inl, inr, none-some, nat_tests, common_steps}
 use Rattle.toml_span_lex.specs.declared.stop.Stop.{Stop}
 use Rattle.toml_span_lex.specs.declared.stop.Stop.TheVariants as stops
-use Rattle.toml_span_tree.specs.Error as tree
 use Rattle.toml_span_tree.specs.Error.{content_of}
 use Rattle.toml_span_tree.specs.Value.{view}
 use Rattle.toml_span_tree.specs.declared.error.Error.{Error}

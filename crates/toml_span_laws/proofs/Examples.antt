@@ -1,6 +1,6 @@
 -- A worked example, by evaluation: the claims of a document, that they do not clash, the places at its paths, and its
 -- tree.
-use Rattle.toml_span_lex.proofs.Common.{◌≡◌, refl, ⊤, ℕ, ◌+◌, Bool, false, List, [], ◌∷◌, map, length, Option, Some, None, codes, pos, find}
+use Rattle.toml_span_lex.proofs.Common.{◌≡◌, refl, ⊤, ℕ, ◌+◌, Bool, false, List, [], ◌∷◌, map, length, Option, Some, None, codes, pos}
 use Rattle.toml_span_lex.specs.declared.span.Span.{Span}
 use Rattle.toml_span_tree.specs.Node as tree
 use Rattle.toml_span_tree.specs.Node.{integer}

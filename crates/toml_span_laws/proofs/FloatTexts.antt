@@ -1,18 +1,19 @@
 -- In the tree of a document, the text of each float is itself a spelling of that float.
-use Rattle.toml_span_lex.proofs.Common.{◌≡◌, ℕ, suc, true, cond, List, [], ◌∷◌, Option, Some, None, option_map, refl, sym, ap, ◌∙◌, inl, inr, option_and_then, bytes_eq, cases_Bool, none-some, same_Some, arith, nat_tests, common_steps}
+use Rattle.toml_span_lex.proofs.Common.{◌≡◌, ℕ, suc, cond, List, [], ◌∷◌, Option, Some, None, option_map, refl, sym, ap, ◌∙◌, inl, inr, option_and_then, bytes_eq, cases_Bool, none-some, same_Some, arith, nat_tests, common_steps}
 use Rattle.toml_span_lex.specs.declared.span.Span.{Span}
 use Rattle.toml_span_tree.specs.Node.{Scalar, Node, node, taken, scalar, array, table, Items, no_items, item, Members, no_members, member, entry_at, element_at}
-use Rattle.toml_span_tree.specs.Path.{Path, Step, key, position, Place, shape_scalar, shape_of, reached, place_of, place_at}
+use Rattle.toml_span_tree.specs.Path.{Path, key, position, Place, shape_scalar, shape_of, reached, place_of, place_at}
 use Rattle.toml_span_tree.specs.Value.{view}
 use Rattle.toml_span_tree.specs.declared.value.Value.{Value}
 use Rattle.toml_span.specs.Ordered.{HasOneEach, ItemsHaveOneEach, MembersHaveOneEach}
 use Rattle.toml_span.specs.Parsing.{IsTree}
-use Rattle.toml_span_read.proofs.PathLemmas.{same_step-eq, same_step-self}
+use Rattle.toml_span_read.proofs.PathLemmas.{same_step-self}
 use Rattle.toml_span.proofs.Ordered.{one-each}
 use Rattle.toml_span_read.specs.Again.{IsScalarText, HasFloatTexts, ItemsHaveFloatTexts, MembersHaveFloatTexts}
 use Rattle.toml_span_laws.proofs.CleanedFloats.{cleaned_spells}
 use Rattle.toml_span_read.specs.Data.{ParsedSection}
 use Rattle.toml_span_laws.proofs.ReadAgain.{HasScalar, tree-scalar}
+use Rattle.toml_span_tree.proofs.Paths.{bytes_same}
 
 -- ---- a property that no path contradicts holds for the tree
 
@@ -26,18 +27,11 @@ IsSpelledBelow o = (p : Path) (x : Place) (s : Scalar) → option_map place_of (
 abbrev IsSpelled : Node → Type 0
 IsSpelled n = (p : Path) (x : Place) (s : Scalar) → place_at p n ≡ Some x → x.shape ≡ shape_scalar s → IsScalarText s
 
-same-key : (a b : List ℕ) → bytes_eq a b ≡ true → a ≡ b
-same-key a b h = ap name (same_step-eq (key a) (key b) h)
-  where
-    name : Step → List ℕ
-    name (key k) = k
-    name (position i) = []
-
 -- the other entries
 others : (name : List ℕ) (at : Span) (n : Node) (ms : Members) → entry_at name ms ≡ None → ((k : List ℕ) → IsSpelledBelow (entry_at k (member name at n ms))) → (k : List ℕ) → IsSpelledBelow (entry_at k ms)
 others name at n ms once h k p x s is = elim (cases_Bool (bytes_eq k name)) [
   | inl same ↦ absurd (none-some x
-      (sym (ap (λ j. option_map place_of (option_and_then (reached p) (entry_at j ms))) (same-key k name same) ∙ ap (λ o. option_map place_of (option_and_then (reached p) o)) once) ∙ is))
+      (sym (ap (λ j. option_map place_of (option_and_then (reached p) (entry_at j ms))) (bytes_same k name same) ∙ ap (λ o. option_map place_of (option_and_then (reached p) o)) once) ∙ is))
   | inr off ↦ h k p x s (ap (λ b. option_map place_of (option_and_then (reached p) (cond b (Some (Some at, n)) (entry_at k ms)))) off ∙ is)
 ]
 

@@ -1,6 +1,6 @@
 -- A text and another one whose first bytes are the same: the tokens that end before the last of these bytes are the same
 -- in both, and so are the faults, but some take a byte more.
-use Rattle.toml_span_lex.proofs.Common.{◌≡◌, ℕ, ◌+◌, ◌-◌, ◌<◌, ◌≤◌, Bool, true, false, List, [], ◌∷◌, ◌++◌, length, get_or, take, drop, arith, inl, inr, refl, sym, ◌∙◌, ◌==◌, slice_range, ext_get_or, length-take, length-drop, get_or-take, get_or-drop, take-append-drop, take-append-le, take_all, drop-drop, encode_utf8, len_utf8, length-encode, len_utf8_bounds, cases_lt, false≢true, min, prefix_len, prefix_len-le-length, prefix_len_passes, prefix_len_stops}
+use Rattle.toml_span_lex.proofs.Common.{◌≡◌, ℕ, ◌+◌, ◌-◌, ◌<◌, ◌≤◌, Bool, true, false, List, [], ◌∷◌, ◌++◌, length, get_or, take, drop, arith, inl, inr, refl, sym, ◌∙◌, ◌==◌, slice_range, ext_get_or, length-take, length-drop, get_or-take, get_or-drop, take-append-drop, take-append-le, take_all, drop-drop, encode_utf8, len_utf8, length-encode, len_utf8_bounds, cases_lt, false≢true, min, prefix_len}
 use Rattle.std.proofs.lemmas.Bool.{ne_eqb}
 use Rattle.toml_span_lex.specs.declared.pieces.Piece.{Piece}
 use Rattle.toml_span_lex.specs.declared.pieces.Piece.TheVariants as pieces
@@ -16,6 +16,7 @@ use Rattle.toml_span_lex.specs.Tokens.{Lexeme, whitespace, newline, comment, pun
 use Rattle.toml_span_lex.proofs.PieceLemmas.{line_forward, piece_forward, Cut-forward, closing}
 use Rattle.toml_span_lex.proofs.Copies.{content_fits}
 use Rattle.toml_span_lex.proofs.MadeStrings.{content_from_after}
+use Rattle.toml_span_read.proofs.NumberLemmas.{run_found}
 
 -- Both texts are at least n bytes long, and their first n bytes are the same.
 pub record Same (a b : List ℕ) (n : ℕ) : Type 0 where
@@ -31,20 +32,6 @@ first_char : (text rest : List ℕ) (i j c : ℕ) → j ≡ i + len_utf8 c → d
 first_char text rest i j c e d =
     let n : j - i ≡ length (encode_utf8 c) = omega (arith, length-encode c) in
     rw (n, d, take-append-le (length (encode_utf8 c)) (encode_utf8 c) rest (omega arith)) (take_all (length (encode_utf8 c)) (encode_utf8 c) (omega arith))
-
--- the run of bytes that pass
-run_found : (p : ℕ → Bool) (text : List ℕ) (i : ℕ) → i ≤ length text → MaximalRun p text i (i + prefix_len p (drop i text))
-run_found p text i w =
-    let l = prefix_len-le-length p (drop i text) in
-    record {
-      forward = omega arith;
-      within = omega (arith, l, length-drop i text);
-      passes = λ k a b. (
-          let e : i + (k - i) ≡ k = omega arith in
-          let g : get_or (drop i text) (k - i) 0 ≡ get_or text k 0 = get_or-drop i text (k - i) 0 ∙ (rw e refl) in
-          rw (← g) (prefix_len_passes p (drop i text) (k - i) 0 (omega arith)));
-      stops = λ s. rw (← get_or-drop i text (prefix_len p (drop i text)) 0) (prefix_len_stops p (drop i text) 0 (omega (arith, length-drop i text)));
-    }
 
 hex_forward : (start : ℕ) (text : List ℕ) (i m j : ℕ) (e : Error) → i < length text → 0 < m → IsHexFault start text i m j e → i < j
 hex_forward start text i m j (errors.UnterminatedString s) l some h = omega (arith, h.1)

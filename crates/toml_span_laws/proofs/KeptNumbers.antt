@@ -12,8 +12,8 @@ use Rattle.toml_span_read.specs.Numbers.{Digits, UnsignedDecimal, Exponent, Frac
 use Rattle.toml_span_read.specs.Numerals as spec
 use Rattle.toml_span_read.specs.Numerals.{◌>>=◌, invalid_number, is_digit_in, is_figure, magnitude, run_end, figures_end, are_digits, digits_end, after_sign, is_negative, radix_at, integer_part, signed, radix_integer, is_exponent, exponent_digits, exponent, fraction, decimal, special, special_end, unsigned, numeral, cleaned, scalar_of, number}
 use Rattle.toml_span_read.proofs.NumberLemmas.{run_found, digits_on, sign_on, figure_keylike}
-use Rattle.toml_span_read.proofs.NumberReads.{zero_first}
 use Rattle.toml_span_laws.proofs.KeptBytes.{Same, test, run, range}
+use Rattle.toml_span_laws.proofs.DateBytes.{keylike_dated, exponent_byte, prefix_dated}
 
 -- ---- a number that is read
 
@@ -126,8 +126,9 @@ all_same p q i (suc n) h = let first = h i (omega arith) (omega arith) in let mo
 figure_date : (radix c : ℕ) → is_figure radix c ≡ true → is_date_byte c ≡ true
 figure_date radix c h = let k = figure_keylike radix c h in rw k refl
 
-keylike_date : (c : ℕ) → is_keylike c ≡ true → is_date_byte c ≡ true
-keylike_date c h = rw h refl
+pub bind_given : {A B : Type 0} (r : Result A Fault) (f : A → Result B Fault) (y : B) → (r >>= f) ≡ Ok y → (x : A) × (r ≡ Ok x) × (f x ≡ Ok y)
+bind_given (Ok x) f y h = (x, refl, h)
+bind_given (Err x) f y h = absurd cc
 
 module _ (a : List ℕ) (i J : ℕ) (whole : MaximalRun is_date_byte a i J) where
   -- the fault of a number that starts in i..J
@@ -149,10 +150,6 @@ module _ (a : List ℕ) (i J : ℕ) (whole : MaximalRun is_date_byte a i J) wher
   bind_same : {A B : Type 0} (r q : Result A Fault) (f g : A → Result B Fault) → q ≡ r → ((x : A) → r ≡ Ok x → f x ≡ g x) → (q >>= f) ≡ (r >>= g)
   bind_same (Ok x) q f g e h = rw e (h x refl)
   bind_same (Err x) q f g e h = rw e refl
-
-  bind_given : {A B : Type 0} (r : Result A Fault) (f : A → Result B Fault) (y : B) → (r >>= f) ≡ Ok y → (x : A) × (r ≡ Ok x) × (f x ≡ Ok y)
-  bind_given (Ok x) f y h = (x, refl, h)
-  bind_given (Err x) f y h = absurd cc
 
   bind_told : {A B : Type 0} (r : Result A Fault) (f : A → Result B Fault) (e : Fault) → (r >>= f) ≡ Err e → (r ≡ Err e) ⊎ ((x : A) × (r ≡ Ok x) × (f x ≡ Err e))
   bind_told (Ok x) f e h = inr (x, refl, h)
@@ -228,11 +225,11 @@ module _ (a : List ℕ) (i J : ℕ) (whole : MaximalRun is_date_byte a i J) wher
 
   run_in : (x : ℕ) → x ≤ J → (x ≤ run_end a x) × (run_end a x ≤ J)
   unfolding run_end
-  run_in x l = end_of is_keylike keylike_date x l
+  run_in x l = end_of is_keylike keylike_dated x l
 
   run_same : (x : ℕ) → x ≤ J → (b : List ℕ) → Same a b (J + 2) → run_end b x ≡ run_end a x
   unfolding run_end
-  run_same x l = end_same is_keylike keylike_date x l
+  run_same x l = end_same is_keylike keylike_dated x l
 
   figures_in : (radix x : ℕ) → x ≤ J → (x ≤ figures_end radix a x) × (figures_end radix a x ≤ J)
   unfolding figures_end
@@ -303,9 +300,6 @@ module _ (a : List ℕ) (i J : ℕ) (whole : MaximalRun is_date_byte a i J) wher
       plus_date : (x : ℕ) → not (get_or a x 0 == 43) ≡ false → is_date_byte (get_or a x 0) ≡ true
       plus_date x h = grind (arith, nat_tests)
 
-  exponent_date : (c : ℕ) → is_exponent c ≡ true → is_date_byte c ≡ true
-  exponent_date c h = grind (arith, nat_tests)
-
   period_date : (c : ℕ) → (c == 46) ≡ true → is_date_byte c ≡ true
   period_date c h = grind (arith, nat_tests)
 
@@ -318,7 +312,7 @@ module _ (a : List ℕ) (i J : ℕ) (whole : MaximalRun is_date_byte a i J) wher
       (λ c. walk_bind (digits_walk 10 (y + 1) (y + 1) (run_end a (y + 1)) (omega arith) (omega arith) (omega arith))
       (λ z u. walk_if (λ b. z == run_end a (y + 1)) (λ b. Ok z) _ (λ b w. refl) (λ d. walk_ok z u.1)
       (λ d. walk_if (λ b. is_exponent (get_or b z 0)) _ (λ b. Err (invalid_number x y)) (byte_same is_exponent z (omega (arith, u.1)))
-      (λ f. exponent_walk x y z (run_end a (y + 1)) q (omega (arith, u.0)) (before z u.1 (exponent_date (get_or a z 0) f)) (omega (arith, r.0), r.1))
+      (λ f. exponent_walk x y z (run_end a (y + 1)) q (omega (arith, u.0)) (before z u.1 (exponent_byte (get_or a z 0) f)) (omega (arith, r.0), r.1))
       (λ f. walk_err x y q.0 q.1)))))
 
   -- ---- integers
@@ -354,7 +348,7 @@ module _ (a : List ℕ) (i J : ℕ) (whole : MaximalRun is_date_byte a i J) wher
       (walk_bind (part_walk x (after_sign a x) y q.0 o.0 o.1)
       (λ m u. walk_if (λ b. nat_lt m y) _ _ (λ b w. refl)
       (λ c. walk_if (λ b. is_exponent (get_or b m 0)) _ (λ b. Err (invalid_number x y)) (byte_same is_exponent m (omega (arith, u.1)))
-      (λ f. finite_walk _ (exponent_walk x y m y q (omega (arith, o.0, u.0, q.0)) (before m u.1 (exponent_date (get_or a m 0) f)) r))
+      (λ f. finite_walk _ (exponent_walk x y m y q (omega (arith, o.0, u.0, q.0)) (before m u.1 (exponent_byte (get_or a m 0) f)) r))
       (λ f. walk_err x y q.0 q.1))
       (λ c. walk_if (λ b. get_or b y 0 == 46) _ _ (byte_same (λ c. c == 46) y (omega (arith, r.1)))
       (λ f. finite_walk _ (fraction_walk s x y p q r.0 (before y r.1 (period_date (get_or a y 0) f))))
@@ -374,10 +368,7 @@ module _ (a : List ℕ) (i J : ℕ) (whole : MaximalRun is_date_byte a i J) wher
   radix_same x l b w = rw (w.byte x (omega arith), w.byte (x + 1) (omega arith)) refl
 
   prefix_dates : (x radix : ℕ) → radix_at a x ≡ Some radix → (is_date_byte (get_or a x 0) ≡ true) × (is_date_byte (get_or a (x + 1) 0) ≡ true)
-  prefix_dates x radix h = (let z = zero_first a x radix h in rw z refl, letter (get_or a (x + 1) 0) (grind (arith, nat_tests, common_steps)))
-    where
-      letter : (c : ℕ) → (c ≡ 120) ⊎ (c ≡ 111) ⊎ (c ≡ 98) → is_date_byte c ≡ true
-      letter c h = grind (arith, nat_tests, common_steps)
+  prefix_dates x radix h = let d = prefix_dated a x radix h in (d x (omega arith) (omega arith), d (x + 1) (omega arith) (omega arith))
 
   unsigned_walk : (s x y : ℕ) → Inside s → Inside x → Inside y → Walk (λ b. unsigned b s x y) EndsInside
   unfolding unsigned

@@ -1,5 +1,5 @@
 -- A value without brackets and quotes depends only on its bytes and the two after it.
-use Rattle.toml_span_lex.proofs.Common.{◌≡◌, ℕ, ◌+◌, ◌-◌, ◌<◌, ◌≤◌, ◌⊎◌, Bool, true, false, List, length, get_or, drop, arith, inl, inr, refl, sym, ◌∙◌, ◌==◌, ◌||◌, Result, Ok, Err, is_some, if◌then◌else◌, slice_range, codes, prefix_len, and-false, get_or_past, nat_tests, cases_lt, false≢true, bytes_eq, or_parts}
+use Rattle.toml_span_lex.proofs.Common.{◌≡◌, ℕ, ◌+◌, ◌<◌, ◌≤◌, ◌⊎◌, Bool, true, false, List, length, get_or, drop, arith, inl, inr, refl, sym, ◌∙◌, ◌==◌, ◌||◌, Result, Ok, Err, is_some, if◌then◌else◌, slice_range, codes, prefix_len, and-false, get_or_past, nat_tests, cases_lt, false≢true, bytes_eq, or_parts}
 use Rattle.toml_span_lex.specs.Bytes.{is_keylike, MaximalRun}
 use Rattle.toml_span_tree.specs.Node.{Scalar, text as text_scalar, integer, float, boolean, datetime, finite, infinite, not_a_number}
 use Rattle.toml_span_read.specs.declared.fault.Fault.{Fault}
@@ -27,7 +27,7 @@ abbrev pub ScalarTold : List ℕ → Result (Scalar × ℕ) Fault → ℕ → Ty
 ScalarTold text (Ok (s, m)) j = j ≡ m
 ScalarTold text (Err e) j = EndsReported text e j
 
-stops_with : (p : ℕ → Bool) (text : List ℕ) (i j : ℕ) → p 0 ≡ false → MaximalRun p text i j → p (get_or text j 0) ≡ false
+pub stops_with : (p : ℕ → Bool) (text : List ℕ) (i j : ℕ) → p 0 ≡ false → MaximalRun p text i j → p (get_or text j 0) ≡ false
 stops_with p text i j z r = grind (arith, get_or_past)
 
 no_date_keylike : (c : ℕ) → is_date_byte c ≡ false → is_keylike c ≡ false
@@ -39,7 +39,7 @@ keylike_digit c h = grind (arith, nat_tests)
 goes_keylike : (c : ℕ) → (is_keylike c || c == 46) ≡ false → is_keylike c ≡ false
 goes_keylike c h = (or_parts (is_keylike c) (c == 46) h).0
 
-number_stops : (s : Scalar) (text : List ℕ) (i j : ℕ) → IsNumber s text i j → is_keylike (get_or text j 0) ≡ false
+pub number_stops : (s : Scalar) (text : List ℕ) (i j : ℕ) → IsNumber s text i j → is_keylike (get_or text j 0) ≡ false
 number_stops (integer m) text i j (inl d) = goes_keylike (get_or text j 0) d.ends
 number_stops (integer m) text i j (inr x) = x.ends
 number_stops (float (finite ds)) text i j (f, e) = f.ends
@@ -99,7 +99,7 @@ module _ {a b : List ℕ} {n : ℕ} (w : Same a b n) where
   word_same : (i : ℕ) → i ≤ length a → run_end a i < n → word b i ≡ word a i
   word_same i l m = rw (runs_same i l m, ends_same i l m) refl
 
-run_on : (text : List ℕ) (i : ℕ) → i ≤ length text → MaximalRun is_keylike text i (run_end text i)
+pub run_on : (text : List ℕ) (i : ℕ) → i ≤ length text → MaximalRun is_keylike text i (run_end text i)
 unfolding run_end
 run_on text i l = run_found is_keylike text i l
 

@@ -51,3 +51,9 @@ pub mod KeptScalars
 pub mod KeptReading
 pub mod SameFault
 pub mod NumberRows
+pub mod Pieced
+pub mod Going
+pub mod DateBytes
+pub mod Words
+pub mod Goes
+pub mod StatementLaws

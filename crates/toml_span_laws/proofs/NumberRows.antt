@@ -1,5 +1,5 @@
 -- The fault that reading a number has is one of the table.
-use Rattle.toml_span_lex.proofs.Common.{◌≡◌, ℕ, ℤ, ◌+◌, ◌<◌, ◌≤◌, ◌⊎◌, Bool, true, false, not, List, length, get_or, arith, inl, inr, refl, sym, ◌∙◌, ◌==◌, ◌&&◌, ◌||◌, nat_lt, Option, Some, None, Result, Ok, Err, is_some, option_map_or, ok_or, if◌then◌else◌, slice_range, get_or_past, nat_tests, common_steps, cases_lt, false≢true, and_parts, ltb-true, ltb-false, not-true, not-false, eqb-false}
+use Rattle.toml_span_lex.proofs.Common.{◌≡◌, ℕ, ℤ, ◌+◌, ◌<◌, ◌⊎◌, Bool, true, false, not, List, length, get_or, arith, inl, inr, refl, sym, ◌∙◌, ◌==◌, ◌&&◌, ◌||◌, nat_lt, Option, Some, None, Result, Ok, Err, is_some, option_map_or, ok_or, if◌then◌else◌, slice_range, get_or_past, nat_tests, common_steps, cases_lt, false≢true, and_parts, ltb-true, ltb-false, not-true, not-false, eqb-false}
 use Rattle.toml_span_lex.specs.Bytes.{is_keylike, MaximalRun}
 use Rattle.toml_span_read.specs.declared.fault.Fault.{Fault}
 use Rattle.toml_span_read.specs.declared.numbers.Numeral.{Numeral}
@@ -8,18 +8,13 @@ use Rattle.toml_span_read.specs.Numbers.{Digits}
 use Rattle.toml_span_read.specs.Numerals as spec
 use Rattle.toml_span_read.specs.Numerals.{◌>>=◌, invalid_number, run_end, figures_end, are_digits, digits_end, after_sign, is_negative, radix_at, magnitude, integer_part, signed, radix_integer, is_exponent, exponent_digits, decimal, special, special_end, unsigned, numeral, number}
 use Rattle.toml_span_read.specs.code.Numbers.{IsRun}
-use Rattle.toml_span_read.proofs.NumberLemmas.{byte_is, here, run_found, digits_sound, digits_complete, digits_on, sign_on}
+use Rattle.toml_span_read.proofs.NumberLemmas.{byte_is, here, digits_sound, digits_complete, digits_on, sign_on}
 use Rattle.toml_span_read.proofs.NumberReads.{digits_to, prefix_some, Starts}
 use Rattle.toml_span_laws.specs.NumberFaults.{FirstRun, AfterDot, Letter, ExponentPart, in_its_run, after_its_plus, DigitPart, in_first_run, after_prefix, after_dot, of_exponent, NumberFault, lone_plus, plus_before, no_digits, underscore_first, leading_zero, other_character, other_in_exponent, lone_letter, other_after_prefix, fraction_of_word, nothing_after_dot, out_of_range, IsNumberFault}
+use Rattle.toml_span_laws.proofs.KeptNumbers.{bind_given}
+use Rattle.toml_span_laws.proofs.KeptScalars.{stops_with, run_on}
 
 -- ---- runs
-
-stops_with : (p : ℕ → Bool) (text : List ℕ) (i j : ℕ) → p 0 ≡ false → MaximalRun p text i j → p (get_or text j 0) ≡ false
-stops_with p text i j z r = grind (arith, get_or_past)
-
-run_on : (text : List ℕ) (i : ℕ) → i ≤ length text → MaximalRun is_keylike text i (run_end text i)
-unfolding run_end
-run_on text i l = run_found is_keylike text i l
 
 -- the run after this byte
 next_run : (text : List ℕ) (k c : ℕ) → 0 < c → get_or text k 0 ≡ c → MaximalRun is_keylike text (k + 1) (run_end text (k + 1))
@@ -41,10 +36,6 @@ none_read radix text start from end j c d ds =
 if_ok : (c : Bool) (e : Fault) (x m : ℕ) → ◌≡◌ {A = Result ℕ Fault} (if c then Err e else Ok x) (Ok m) → x ≡ m
 if_ok true e x m h = absurd cc
 if_ok false e x m h = cc
-
-bind_given : {A B : Type 0} (r : Result A Fault) (f : A → Result B Fault) (y : B) → (r >>= f) ≡ Ok y → (x : A) × (r ≡ Ok x) × (f x ≡ Ok y)
-bind_given (Ok x) f y h = (x, refl, h)
-bind_given (Err x) f y h = absurd cc
 
 part_sound : (text : List ℕ) (start from end m : ℕ) → integer_part text start from end ≡ Ok m → Digits 10 text from m
 unfolding integer_part

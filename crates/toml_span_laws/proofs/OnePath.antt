@@ -1,6 +1,6 @@
 -- Reading a path has at most one result.
-use Rattle.toml_span_lex.proofs.Common.{◌≡◌, ℕ, ◌+◌, ◌<◌, ◌≤◌, ◌⊎◌, Bool, true, false, List, length, get_or, slice_range, Option, Some, None, Result, Ok, Err, inl, inr, refl, sym, ap, ◌∙◌, ◌==◌, arith, nat_tests, common_steps}
-use Rattle.toml_span_lex.specs.Bytes.{MaximalRun, is_keylike, left_bracket, period}
+use Rattle.toml_span_lex.proofs.Common.{◌≡◌, ℕ, ◌+◌, ◌<◌, ◌⊎◌, true, false, List, get_or, slice_range, Option, Some, None, Result, Ok, Err, inl, inr, refl, sym, ap, ◌∙◌, ◌==◌, arith, nat_tests}
+use Rattle.toml_span_lex.specs.Bytes.{MaximalRun, is_keylike, left_bracket}
 use Rattle.toml_span_lex.specs.Tokens.{string}
 use Rattle.toml_span_lex.proofs.One.{Choice, One, err_same, ok_same, one_choice, one_either, one_given, one_is, one_through, one_where}
 use Rattle.toml_span_lex.proofs.OneFault as lex
@@ -11,6 +11,7 @@ use Rattle.toml_span_tree.specs.Pointer.{pointer_segments}
 use Rattle.toml_span_places.specs.Dotted.{IsDotted, IsKey, IsPath, IsPathOf, IsPosition, IsStep, NoKey, NoPosition, NoStep, Outcome, Steps, ends, error, goes_on, is_closed, onto, stops, string_error}
 use Rattle.toml_span_places.specs.declared.dotted.PathError.{PathError}
 use Rattle.toml_span_places.specs.declared.dotted.PathFault.TheVariants as faults
+use Rattle.toml_span_laws.proofs.OneReading.{dot_or_none}
 
 -- a segment and the offset after it, or an error
 abbrev Reads : Type 0
@@ -87,9 +88,6 @@ dot_one text i j k a b =
     let same = run_unique _ text i a.at b.at a.before b.before in
     run_unique _ text (b.at + 1) j k (rw same at a.after) b.after
 
-dot_not : (text : List ℕ) (i j : ℕ) → Dot text i j → NoDot text i → ⊥
-dot_not text i j a b = let same = run_unique _ text i a.at b.at a.before b.before in grind (arith, nat_tests)
-
 abbrev Step : List ℕ → ℕ → Reads → Type 0
 Step text i = Gives (IsStep text i) (NoStep text i)
 
@@ -102,7 +100,7 @@ step_form text i (Err e) h = h
 
 step_one : (text : List ℕ) (i : ℕ) → One (Step text i)
 step_one text i = one_through (step_form text i) (one_either (one_given (dot_one text i) (key_one text)) (one_where (position_one text i))
-    (λ r s a b. dot_not text i a.0 a.1 b.0))
+    (λ r s a b. dot_or_none text i a.0 a.1 b.0))
 
 ok_err : {A E : Type 0} {a : A} {e : E} → ◌≡◌ {A = Result A E} (Ok a) (Err e) → ⊥
 ok_err h = cc

@@ -15,9 +15,9 @@ use Rattle.toml_span_read.specs.Gaps.{GapPiece, begins_gap, GapBy, MaximalGap, D
 use Rattle.toml_span_read.specs.Data.{SimpleKey}
 use Rattle.toml_span_read.specs.Read as read
 use Rattle.toml_span_read.proofs.NumberLemmas.{same_byte}
-use Rattle.toml_span_lex.specs.Text.{LineEnd, NoLineEnd, CharAt}
+use Rattle.toml_span_lex.specs.Text.{LineEnd, CharAt}
 use Rattle.toml_span_lex.specs.Text.{FirstPlace}
-use Rattle.toml_span_lex.proofs.Unique.{run_unique, line_unique}
+use Rattle.toml_span_lex.proofs.Unique.{run_unique, line_unique, line_not}
 use Rattle.toml_span_read.specs.declared.fault.ExpectedToken.{ExpectedToken}
 use Rattle.toml_span_read.specs.Dates.{is_date_byte, continues_date}
 
@@ -90,7 +90,7 @@ gap_unique text i j k a b = gap_by_unique text i j k a.ends b.ends a.pieces b.pi
 
 -- ---- dots
 
-dot_or_none : (text : List ℕ) (i j : ℕ) → Dot text i j → NoDot text i → ⊥
+pub dot_or_none : (text : List ℕ) (i j : ℕ) → Dot text i j → NoDot text i → ⊥
 dot_or_none text i j a b = grind (arith, nat_tests, common_steps)
 
 -- ---- keys
@@ -117,9 +117,6 @@ skipped_one text i j k a b = one_given (run_unique is_blank text i) (comment_one
 line_within : (text : List ℕ) (i j : ℕ) → LineEnd text i j → i < length text
 line_within text i j h = grind (arith, nat_tests, common_steps)
 
-line_or_none : (text : List ℕ) (i j : ℕ) → LineEnd text i j → NoLineEnd text i → ⊥
-line_or_none text i j h n = grind (arith, nat_tests, common_steps)
-
 -- the rest of a line has one end
 rest_one : (text : List ℕ) (i : ℕ) → One (Tail text i)
 rest_one text i = one_given (skipped_one text i) (λ m. one_either (line_unique text m) (one_where one_is) (λ j k line end. omega (arith, line_within text m j line, end.0)))
@@ -127,7 +124,7 @@ rest_one text i = one_given (skipped_one text i) (λ m. one_either (line_unique 
 rest_or_none : (text : List ℕ) (i j k : ℕ) → Tail text i j → NoTail text i k → ⊥
 rest_or_none text i j k (m, a, c) (b, l, n) =
     let e : m ≡ k = skipped_one text i m k a b in
-    elim c [ inl line ↦ line_or_none text k j (rw e at line) n | inr end ↦ omega (arith, e, end.0, l) ]
+    elim c [ inl line ↦ line_not text k j (rw e at line) n | inr end ↦ omega (arith, e, end.0, l) ]
 
 first_or : (text : List ℕ) (i j : ℕ) → CharAt text 0 65279 i → (j ≡ 0) × ((length text ≡ 0) ⊎ ((c : ℕ) × (k : ℕ) × CharAt text 0 c k × (c ≡ 65279 → ⊥))) → ⊥
 first_or text i j a (z, inl e) = let l = char_within text 0 65279 i a in omega (arith, l, e)

@@ -1,5 +1,5 @@
 -- Places have at most one output.
-use Rattle.toml_span_lex.proofs.Common.{common_steps, ◌≡◌, ◌<◌, ℕ, List, [], ◌∷◌, Option, flat_map, refl, sym, ap, subst, ◌∙◌, inl, inr, arith, AllByRecursion, nat_list_cmp_total, false≢true, is_lt}
+use Rattle.toml_span_lex.proofs.Common.{common_steps, ◌≡◌, ℕ, List, [], ◌∷◌, Option, flat_map, refl, sym, ap, subst, ◌∙◌, inl, inr, arith, AllByRecursion, nat_list_cmp_total, false≢true, is_lt}
 use Rattle.toml_span_tree.specs.Path.{Path, Step, key, position, Place}
 use Rattle.std.specs.Ordering.{ordering_reverse}
 use Rattle.toml_span_lines.specs.Shown.{PlaceAt, entry_line, PathsAscend, HasPlaces, IsIn, IsPathBefore, IsStepBefore, ShowsPlaces}

@@ -1,9 +1,9 @@
 -- What is around a scalar that is replaced: with what is written in its place it is a document again.
-use Rattle.toml_span_lex.proofs.Common.{◌≡◌, ℕ, ◌+◌, ◌-◌, ◌<◌, ◌≤◌, ◌⊎◌, true, false, None, List, [], ◌∷◌, ◌++◌, map, length, get_or, arith, inl, inr, refl, sym, ap, ◌∙◌, false≢true, get_or_past, map-append, nat_tests, common_steps}
+use Rattle.toml_span_lex.proofs.Common.{◌≡◌, ℕ, ◌+◌, ◌<◌, ◌≤◌, ◌⊎◌, true, None, List, [], ◌∷◌, ◌++◌, map, length, get_or, arith, inl, inr, refl, sym, ap, ◌∙◌, false≢true, get_or_past, map-append, nat_tests, common_steps}
 use Rattle.toml_span_lex.specs.declared.span.Span.{Span}
 use Rattle.toml_span_lex.specs.Bytes.{is_printed}
 use Rattle.toml_span_lex.specs.Text.{FirstPlace}
-use Rattle.toml_span_read.specs.Data.{SimpleKey, ParsedValue, parsed, scalar, array, inline, ParsedItems, no_items, item, ParsedPairs, no_pairs, pair, ParsedAssignment, ParsedSection, from_to, last_end, headerless_section}
+use Rattle.toml_span_read.specs.Data.{SimpleKey, ParsedValue, parsed, array, inline, ParsedItems, no_items, item, ParsedPairs, no_pairs, pair, ParsedAssignment, ParsedSection, from_to, last_end, headerless_section}
 use Rattle.toml_span_read.specs.Earlier.{crossing}
 use Rattle.toml_span_read.specs.Gaps.{GapBy, MaximalGap, Separator, Closes, Tail}
 use Rattle.toml_span_read.specs.Grammar.{Spells, SpellsScalar, ItemsWith, PairsWith, AssignmentWith, AssignmentsWith, SectionWith, SectionsWith, SpellsDocument}

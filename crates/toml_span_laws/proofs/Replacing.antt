@@ -10,11 +10,10 @@ use Rattle.toml_span_read.specs.Read as read
 use Rattle.toml_span_read.proofs.GapStarts.{no_gap_is, value_starts}
 use Rattle.toml_span_read.proofs.KeyLemmas.{key_sound}
 use Rattle.toml_span_read.proofs.KeyOrder.{dotted_ascend}
-use Rattle.toml_span_read.proofs.Moves.{Copied, At, given}
+use Rattle.toml_span_read.proofs.Moves.{Copied, At}
 use Rattle.toml_span_read.proofs.NumberLemmas.{run_found}
 use Rattle.toml_span_read.proofs.ReadSound.{SpellsPair, assignment_sound, value_sound, header_sound, section_sound}
 use Rattle.toml_span_laws.specs.Again.{with_part}
-use Rattle.toml_span_laws.proofs.AgainStrings.{sign}
 use Rattle.toml_span_laws.proofs.Complete.{few, scalar_byte, key_complete, value_complete, pair_given, assignment_complete, header_byte, header_complete, section_complete}
 use Rattle.toml_span_laws.proofs.KeptBytes.{Same, test, run, line}
 use Rattle.toml_span_laws.proofs.KeptForms.{Past, past_less, past_blanks, gap, pieces_forward}

@@ -1,5 +1,5 @@
 -- The text of a scalar is read as that scalar wherever it occurs.
-use Rattle.toml_span_lex.proofs.Common.{◌≡◌, ℕ, ◌+◌, ◌-◌, ◌<◌, ◌≤◌, Bool, true, false, ◌==◌, List, [], ◌∷◌, ◌++◌, length, drop, get_or, arith, inl, inr, refl, sym, ◌∙◌, subst, slice_range, list_all, cases_lt, false≢true, ne_eqb, get_or_past, append_assoc, length-append, get_or_append_left, get_or-append-add, get_or-append_right, get_or-take, get_or-drop, take_all, length-take-le, length-drop, and-false, nat_tests, common_steps}
+use Rattle.toml_span_lex.proofs.Common.{◌≡◌, ℕ, ◌+◌, ◌-◌, ◌<◌, ◌≤◌, Bool, true, false, ◌==◌, List, [], ◌∷◌, ◌++◌, length, drop, get_or, arith, inl, inr, refl, sym, ◌∙◌, subst, slice_range, cases_lt, false≢true, ne_eqb, get_or_past, append_assoc, length-append, get_or_append_left, get_or-append-add, get_or-append_right, get_or-take, get_or-drop, take_all, length-take-le, length-drop, and-false, nat_tests, common_steps}
 use Rattle.std.proofs.lemmas.List.{drop-append-le}
 use Rattle.toml_span_lex.specs.declared.span.Span.{Span}
 use Rattle.toml_span_lex.specs.declared.pieces.Piece.{Piece}
@@ -12,7 +12,7 @@ use Rattle.toml_span_lex.proofs.PieceLemmas.{piece_forward, Cut-forward, closing
 use Rattle.toml_span_tree.specs.Node.{Scalar, text as text_scalar, integer, float, boolean, datetime}
 use Rattle.toml_span_read.specs.Again.{may_follow}
 use Rattle.toml_span_read.specs.Dates.{continues_date, is_date_byte}
-use Rattle.toml_span_read.specs.Grammar.{SpellsScalar, truth_text}
+use Rattle.toml_span_read.specs.Grammar.{SpellsScalar}
 use Rattle.toml_span_read.specs.Keys.{opens_string}
 use Rattle.toml_span_read.proofs.Moves.{Copied, At, run, same_range}
 use Rattle.toml_span_read.proofs.NumbersMove.{off_bytes, number}
@@ -133,9 +133,6 @@ extended_copied a after =
 
 next_is : (a after : List ℕ) → get_or (a ++ after) (length a) 0 ≡ get_or after 0 0
 next_is a after = (extended_copied a after).next
-
-word_some : (b : Bool) → (0 < length (truth_text b)) × (list_all is_keylike (truth_text b) ≡ true)
-word_some b = grind (arith, nat_tests, common_steps)
 
 here : {n i : ℕ} → i ≤ n → At 0 0 n 0 i i
 here l = record { after = omega arith; moved = omega arith; inside = omega arith }

@@ -12,7 +12,7 @@ use Rattle.toml_span.specs.Flat.{by_header}
 use Rattle.toml_span_read.specs.Paths.{with_key, with_position, enter, elements_added, opened_by, section_path}
 use Rattle.toml_span_tree.specs.Node.{Scalar}
 use Rattle.toml_span_read.specs.Grammar.{Spells, SpellsDocument, ItemsWith, PairsWith, AssignmentsWith, SectionsWith, SpellsScalar}
-use Rattle.toml_span.proofs.Grafts.{followed-assoc}
+use Rattle.toml_span.proofs.Grafts.{followed-assoc, followed-none}
 use Rattle.toml_span.proofs.EachClaim.{Each}
 use Rattle.toml_span_laws.proofs.AfterValues.{after_closes, after_separator, after_tail}
 use Rattle.toml_span_laws.proofs.Literal.{NoQuoteBefore, after_gap, after_blanks}
@@ -80,12 +80,6 @@ AllSpelled text limit bs no_claims = ⊤
 AllSpelled text limit bs (claimed c cs) =
     (((a : Assigns text limit bs c) × (rest : Claims) × (cs ≡ followed (value_claims a.value c.path) rest)) ⊎ Makes c) × AllSpelled text limit bs cs
 AllSpelled text limit bs (scope inner cs) = AllSpelled text limit bs inner × AllSpelled text limit bs cs
-
-pub followed-none : (xs : Claims) → followed xs no_claims ≡ xs
-unfolding followed
-followed-none no_claims = refl
-followed-none (claimed c xs) = ap (claimed c) (followed-none xs)
-followed-none (scope inner xs) = ap (scope inner) (followed-none xs)
 
 spelled-followed : (text : List ℕ) (limit : ℕ) (bs : List ParsedSection) (xs ys : Claims) → AllSpelled text limit bs xs → AllSpelled text limit bs ys → AllSpelled text limit bs (followed xs ys)
 unfolding followed

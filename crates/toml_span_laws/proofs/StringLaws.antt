@@ -1,6 +1,5 @@
 -- The span of a string is its content.
-use Rattle.toml_span_lex.proofs.Common.{◌≡◌, ℕ, ◌+◌, ◌-◌, ◌<◌, ◌≤◌, ◌⊎◌, Bool, List, [], ◌∷◌, ◌++◌, length, drop, get_or, arith, refl, ◌∙◌, inl, inr, ap, length-append, length-take, length-drop, slice_range, drop-drop, length-take-le, cases_lt, nat_tests, common_steps}
-use Rattle.std.proofs.Math.Seq.{take-add}
+use Rattle.toml_span_lex.proofs.Common.{◌≡◌, ℕ, ◌+◌, ◌-◌, ◌<◌, ◌≤◌, ◌⊎◌, Bool, List, [], ◌∷◌, ◌++◌, length, drop, get_or, arith, refl, ◌∙◌, inl, inr, ap, length-append, length-take, length-drop, slice_range, length-take-le, cases_lt, nat_tests, common_steps}
 use Rattle.toml_span_lex.specs.declared.pieces.Piece.{Piece}
 use Rattle.toml_span_lex.specs.declared.pieces.Piece.TheVariants as pieces
 use Rattle.toml_span_lex.specs.declared.span.Span.{Span}
@@ -8,7 +7,7 @@ use Rattle.toml_span_lex.specs.Pieces.{IsPiece, piece_value}
 use Rattle.toml_span_lex.specs.Strings.{Cut, content, content_end, content_span, ContentFrom, HasChange, IsString, IsEmptyOnOneLine}
 use Rattle.toml_span_lex.proofs.Copies.{content_fits}
 use Rattle.toml_span_lex.proofs.MadeStrings.{content_from_after}
-use Rattle.toml_span_lex.proofs.PieceLemmas.{line_forward, piece_forward, Cut-forward, closing, escape_shorter, dropped_shorter}
+use Rattle.toml_span_lex.proofs.PieceLemmas.{line_forward, piece_forward, Cut-forward, closing, escape_shorter, dropped_shorter, slice_join}
 use Rattle.toml_span_laws.specs.Places.{CutsContent}
 
 span_is_content : (multi : Bool) (text : List ℕ) (i from to j : ℕ) → ContentFrom multi text i from → to ≡ content_end multi j → i < j → (IsEmptyOnOneLine i j → ⊥)
@@ -25,12 +24,6 @@ span_cuts text i j span source value multi h other =
 
 -- ---- strings that are equal to their text
 
-joined : (text : List ℕ) (a b c : ℕ) → a ≤ b → b ≤ c → slice_range text a b ++ slice_range text b c ≡ slice_range text a c
-joined text a b c l m =
-    let e : c - a ≡ (b - a) + (c - b) = omega arith in
-    let back : a + (b - a) ≡ b = omega arith in
-    rw (e, take-add, drop-drop, back) refl
-
 no_change : (q : ℕ) (text : List ℕ) (i a b j : ℕ) → i ≤ a → b ≤ j → (HasChange q text i j → ⊥) → HasChange q text a b → ⊥
 no_change q text i a b j l m none (k, from, to, is) = none (k, omega (arith, l, from), omega (arith, to, m), is)
 
@@ -44,7 +37,7 @@ cut_same q m text i j (p ∷ ps) c none =
     let g = Cut-forward q m text p.1 j ps c.1 in
     let here = piece_same q m text i p.1 p.0 c.0 (no_change q text i i p.1 j (omega arith) g none) in
     let more = cut_same q m text p.1 j ps c.1 (no_change q text i p.1 j j (omega (arith, f)) (omega arith) none) in
-    rw (here, more) (joined text i p.1 j (omega (arith, f)) g)
+    rw (here, more) (slice_join text i p.1 j (omega (arith, f)) g)
 
 pub unchanged : (text : List ℕ) (i j : ℕ) (span : Span) (source value : List ℕ) (multi : Bool) → IsString text i j span source value multi → (IsEmptyOnOneLine i j → ⊥)
     → (HasChange (get_or text i 0) text span.start span.end → ⊥) → value ≡ slice_range text span.start span.end
@@ -56,7 +49,7 @@ unchanged text i j span source value multi h other none =
     let on : c.at ≤ span.end = omega (arith, close.on, c.to_is) in
     let f = Cut-forward q multi text span.start c.at c.pieces c.cut in
     let same = cut_same q multi text span.start c.at c.pieces c.cut (no_change q text span.start span.start c.at span.end (omega arith) on none) in
-    c.value_is ∙ (rw same (joined text span.start c.at span.end f on))
+    c.value_is ∙ (rw same (slice_join text span.start c.at span.end f on))
 
 -- ---- strings that are not
 

@@ -35,7 +35,7 @@ use Rattle.toml_span_laws.specs.Outcomes.{HasOutcome, resolved}
 use Rattle.toml_span_laws.proofs.Pointed.{tree-value}
 use Rattle.toml_span_laws.specs.Document.{subtree, without_key}
 use Rattle.toml_span_laws.proofs.OneSpelled.{document_unique}
-use Rattle.toml_span_laws.proofs.SpelledClaims.{followed-none}
+use Rattle.toml_span.proofs.Grafts.{followed-none}
 
 -- ---- if no two claims clash, a claim that assigns in brackets is alone on its path, with its value's claims below it
 

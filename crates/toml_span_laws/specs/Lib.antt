@@ -11,4 +11,5 @@ pub mod Helpers
 pub mod Moved
 pub mod Reported
 pub mod NumberFaults
+pub mod Statements
 pub mod code

@@ -24,6 +24,7 @@ pub fn spelled_again()
 
 /// In a document, the text at the span of each number, boolean, date, time, array and inline table, at any depth,
 /// spells that value again: `x = ` followed by this text is a document with one assignment of that value.
+#[tactic(auto, using(crate::proofs::AgainLaws::parsed_sections_again))]
 pub fn values_read_again()
     ensures { (text : List ℕ) (limit : ℕ) (sections : List ParsedSection) → SpellsDocument sections text limit
         → SectionsReadAgain text limit sections }
@@ -68,6 +69,7 @@ pub fn scalar_replaced()
 /// one assignment, of that value to that name. The same holds for any two texts that are read as this key and this
 /// value wherever they occur. The value must be whole and within the depth limit `limit`, and the texts of its floats
 /// must be valid.
+#[tactic(auto, using(crate::proofs::SpelledLine::line_spelled))]
 pub fn spelled_assignment()
     ensures { (limit : ℕ) (name key : List ℕ) (n : Node) (value : List ℕ) → ReadsAsKey name key → ReadsAsValue n value
         → is_whole n ≡ true → IsWithin limit 1 n → HasFloatTexts n

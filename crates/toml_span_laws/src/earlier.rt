@@ -6,6 +6,7 @@ ghost use Rattle.toml_span_read.specs.Data.{ParsedAssignment, SimpleKey, parsed_
 ghost use Rattle.toml_span_read.specs.Earlier.{crossing, last_span, part_names};
 
 /// If the key of `next` goes through no earlier value, no proper prefix of its parts has the names of an earlier key.
+#[tactic(auto, using(crate::proofs::EarlierLaws::clear_keys))]
 pub fn clear_keys_pass_no_value()
     ensures { (earlier : List ParsedAssignment) (next : ParsedAssignment) (outer rest : List SimpleKey)
         (part more : SimpleKey)
@@ -17,6 +18,7 @@ pub fn clear_keys_pass_no_value()
 /// value before the last part of the prefix. Then the fault is `DottedKeyInvalidType`, and its `first` is the span of
 /// the last part of the first earlier key with these names. The fault spans from the last part of the prefix to the end
 /// of the assigned value's span.
+#[tactic(auto, using(crate::proofs::EarlierLaws::first_met))]
 pub fn first_value_met_is_the_fault()
     ensures { (before after : List ParsedAssignment) (found next : ParsedAssignment) (outer rest : List SimpleKey)
         (part more : SimpleKey)

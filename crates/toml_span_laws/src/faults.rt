@@ -10,6 +10,7 @@ ghost use Rattle.toml_span_laws.specs.Reported.{EndsReported, ahead};
 /// (`EndsReported`), and up to two more, depending on the kind of the fault (`ahead`). Every other text that begins
 /// with these bytes has the same fault. If the text ends before the last of these bytes, the law says nothing about
 /// other texts.
+#[tactic(auto, using(crate::proofs::SameFault::same_fault))]
 pub fn nothing_after_a_fault_matters()
     ensures { (text : List ℕ) (limit : ℕ) (fault : Fault) → document text limit (Err fault)
         → (end : ℕ) × EndsReported text fault end
@@ -19,6 +20,7 @@ pub fn nothing_after_a_fault_matters()
 
 /// A text has a fault only if no document within the depth limit `limit` begins with the same bytes as the text. These
 /// are the bytes up to the end of those that the fault reports (`EndsReported`), and up to two more (`ahead`).
+#[tactic(auto, using(crate::proofs::SameFault::none_goes_on))]
 pub fn no_document_goes_on_after_a_fault()
     ensures { (text : List ℕ) (limit : ℕ) (fault : Fault) → document text limit (Err fault)
         → (end : ℕ) × EndsReported text fault end

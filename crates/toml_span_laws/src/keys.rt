@@ -23,6 +23,7 @@ pub fn one_key()
 {}
 
 /// At most one key is spelled at an offset.
+#[tactic(auto, using(crate::proofs::OneSpelled::key_unique))]
 pub fn one_dotted_key()
     ensures { (text : List ℕ) (i j k : ℕ) (ps qs : List SimpleKey) → SpellsKey ps text i j → SpellsKey qs text i k
         → (ps ≡ qs) × (j ≡ k) }

@@ -19,6 +19,7 @@ pub mod paths;
 pub mod reading;
 pub mod shown;
 pub mod starts;
+pub mod statements;
 pub mod strings;
 pub mod undated;
 pub mod values;

@@ -52,6 +52,7 @@ pub fn document_or_fault()
 {}
 
 /// A text that spells a document within the depth limit `limit` is read as that document, unless an allocation fails.
+#[tactic(auto, using(crate::proofs::OneSpelled::document_read))]
 pub fn read_where_spelled()
     ensures { (text : List ℕ) (limit : ℕ) (result : Result (Vec Section Global) (Stop Error))
         (sections : List ParsedSection)

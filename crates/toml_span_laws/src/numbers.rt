@@ -24,6 +24,7 @@ pub fn number_ends(text: &str)
 {}
 
 /// At most one number is spelled at an offset.
+#[tactic(auto, using(crate::proofs::OneSpelled::number_unique))]
 pub fn one_number()
     ensures { (text : List ℕ) (i j k : ℕ) (s t : Scalar) → IsNumber s text i j → IsNumber t text i k
         → (s ≡ t) × (j ≡ k) }

@@ -41,6 +41,7 @@ use toml_span_typed::Deserialize;
 
 /// Unless an allocation fails, all results of `parse_with_limit` for the same text and limit agree: either all are
 /// trees, which are equal as data, or all are errors, with the same contents.
+#[tactic(auto, using(crate::proofs::Answered::alike))]
 pub fn one_answer()
     ensures { (text : List ℕ) (limit : ℕ) (result other : Result Value (Stop Error)) → IsParseResult text limit result
         → IsParseResult text limit other → IsAlike result other }
@@ -68,6 +69,7 @@ pub fn outcome_within_wider()
 
 /// The outcome of a text determines what `parse_with_limit` returns, unless an allocation fails: the tree of the
 /// outcome's sections, or the error for its clash or fault.
+#[tactic(auto, using(crate::proofs::Answered::decides))]
 pub fn outcome_decides()
     ensures { (text : List ℕ) (limit : ℕ) (outcome : Outcome) (result : Result Value (Stop Error))
         → HasOutcome text limit outcome → IsParseResult text limit result → IsAnswerOf text outcome result }

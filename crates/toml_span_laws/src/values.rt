@@ -14,12 +14,14 @@ pub fn values_are_read()
 {}
 
 /// At most one value is spelled at an offset.
+#[tactic(auto, using(crate::proofs::OneSpelled::value_unique))]
 pub fn one_value()
     ensures { (text : List ℕ) (limit depth i j k : ℕ) (v w : ParsedValue) → Spells v text limit depth i j
         → Spells w text limit depth i k → (v ≡ w) × (j ≡ k) }
 {}
 
 /// A value that is spelled within the depth limit `limit` is spelled within any higher limit.
+#[tactic(auto, using(crate::proofs::WiderDocument::value_wider))]
 pub fn wider_limit()
     ensures { (text : List ℕ) (limit wider depth i j : ℕ) (v : ParsedValue) → limit ≤ wider
         → Spells v text limit depth i j
@@ -28,6 +30,7 @@ pub fn wider_limit()
 
 /// The spans of a value, and of all values and keys in it, are inside the text that spells it, in the order of the
 /// text.
+#[tactic(auto, using(toml_span_read::proofs::SpanLaws::value_lies))]
 pub fn spans_within()
     ensures { (text : List ℕ) (limit depth i j : ℕ) (v : ParsedValue) → Spells v text limit depth i j
         → Inside v i j × (i ≤ j) × (j ≤ length text) }
@@ -35,6 +38,7 @@ pub fn spans_within()
 
 /// If a value at depth `depth` is spelled within the depth limit `limit`, then its depth and that of each value in it
 /// are at most `limit`, and each key in it has at most `limit` parts.
+#[tactic(auto, using(crate::proofs::DepthLaws::value_within))]
 pub fn depth_within()
     ensures { (text : List ℕ) (limit depth i j : ℕ) (v : ParsedValue) → Spells v text limit depth i j
         → Within limit depth v }
