@@ -131,12 +131,15 @@ uint32_t toml_span_check(const char *text, size_t length);
  * fits, without a zero byte at the end, and sets `needed` to the length of the whole name. */
 void toml_span_code(uint32_t code, char *out, size_t room, size_t *needed);
 
-/* Writes the message of a text's fault, such as "duplicate key: `port`", as toml_span_code writes a name. It parses the
- * text again, and returns the status; it writes `out` and `needed` only if the status is INVALID. */
+/* Writes the headline of a text's report, such as "duplicate key: `port`". It parses the text again, and returns the
+ * status; it writes `out` and `needed` only if the status is INVALID or UNREAD. If `needed` is more than `room`, `out`
+ * is not the headline: call again with that much room, which sets `needed` to the headline's length. */
 uint32_t toml_span_message(const char *text, size_t length, char *out, size_t room, size_t *needed);
 
-/* Writes the report of a text's fault, as toml_span_message writes the message: source lines with marks, and the name
- * of the file. The status is UNREAD also if the name is not UTF-8. */
+/* Writes the report of a text's fault, as toml_span_code writes a name: the name of the file, and the source lines with
+ * marks, as `toml-span check` prints them. If the status is UNREAD, the report says why: a line of other characters
+ * than those of ASCII is then left out. The status is UNREAD also if the name is not UTF-8: then nothing is written if
+ * the text is, and otherwise the file is called `?`. */
 uint32_t toml_span_report(const char *text, size_t length, const char *name, size_t name_length, char *out, size_t room,
                           size_t *needed);
 
@@ -166,7 +169,7 @@ typedef struct {
 } toml_span_change;
 
 /* Makes changes, one after the other, and leaves all other bytes as they are. UNMADE means that a change was refused:
- * then `refused` is its index, counted from 0, and the reason is written as toml_span_message writes its text. */
+ * then `refused` is its index, counted from 0, and the reason is written as toml_span_code writes a name. */
 uint32_t toml_span_edit(const char *text, size_t length, const toml_span_change *changes, size_t count, char *out,
                         size_t room, size_t *needed, size_t *refused, toml_span_fault *fault);
 

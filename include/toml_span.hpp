@@ -12,13 +12,16 @@
  *     auto edited = toml_span::edit(text, {{TOML_SPAN_SET, "server.port", "8080"}}, &why);
  *     if (!edited) std::cerr << why << '\n';
  *
- * Nothing throws, except that std::vector and std::string may if memory runs out. Offsets, lines and columns
- * are those of toml_span.h: in bytes, counted from 0. */
+ * A look-up by name, by position or of a place takes time logarithmic in the size of the document; `find` looks at each
+ * name on its way. Nothing throws, except that std::vector and std::string may if memory runs out. Offsets, lines and
+ * columns are those of toml_span.h: in bytes, counted from 0. */
 #ifndef TOML_SPAN_HPP
 #define TOML_SPAN_HPP
 
 #include "toml_span.h"
 
+#include <algorithm>
+#include <cstring>
 #include <iterator>
 #include <optional>
 #include <string>
@@ -35,8 +38,11 @@ template <typename Write> std::string written(size_t room, Write write) {
     std::string out(room, '\0');
     size_t needed = 0;
     write(out.data(), room, &needed);
+    if (needed > room) {
+        out.resize(room = needed);
+        write(out.data(), room, &needed);
+    }
     out.resize(needed);
-    if (needed > room) write(out.data(), needed, &needed);
     return out;
 }
 
@@ -51,8 +57,7 @@ std::optional<std::string> made(std::string_view text, std::string *why, Write w
     });
     if (status == TOML_SPAN_READ) return made;
     if (status == TOML_SPAN_MEMORY) made = "out of memory";
-    if (status == TOML_SPAN_UNREAD) made = "the text is not UTF-8, or longer than 16 MiB";
-    if (status == TOML_SPAN_INVALID)
+    if (status == TOML_SPAN_INVALID || status == TOML_SPAN_UNREAD)
         made = written(512, [&](char *out, size_t room, size_t *needed) {
             toml_span_message(from, text.size(), out, room, needed);
         });
@@ -101,8 +106,8 @@ public:
             if (counts.nodes <= nodes.size()) break;
             nodes.resize(counts.nodes);
         }
-        nodes_.resize(counts.nodes);
-        toml_span_sort(nodes.data(), counts.nodes, nodes_.data());
+        nodes.resize(counts.nodes);
+        make_index(nodes);
     }
     document(const document &) = delete;
     document &operator=(const document &) = delete;
@@ -113,9 +118,14 @@ public:
     const std::vector<toml_span_node> &nodes() const { return nodes_; }
     const char *const *sources() const { return sources_; }
     std::string_view text(const toml_span_text &part) const { return {sources_[part.source] + part.at, part.length}; }
-    toml_span_place place(size_t offset) const { return toml_span_line_column(sources_[0], length_, offset); }
+    toml_span_place place(size_t offset) const {
+        if (lines_.empty()) return toml_span_line_column(sources_[0], length_, offset);
+        size_t line = size_t(std::upper_bound(lines_.begin(), lines_.end(), offset) - lines_.begin()) - 1;
+        return {line, std::min(offset, length_) - lines_[line]};
+    }
 
-    /* If the text is not valid: the name of the fault's kind, its message, and its report with source lines. */
+    /* If the text is not valid: the name of the fault's kind, the headline of its report, and the report with source
+     * lines. If it is not UTF-8 or too long, the code is empty. */
     std::string code() const {
         return detail::written(512, [this](char *out, size_t room, size_t *needed) {
             toml_span_code(fault_.code, out, room, needed);
@@ -137,12 +147,43 @@ public:
     inline value find(const char *pointer) const; /* by a path, as toml_span_find does */
 
 private:
+    friend class value;
+
+    /* Sorts the records, and makes the index. Before that, the entries of a table are in the order of their names. */
+    void make_index(std::vector<toml_span_node> &nodes) {
+        size_t count = nodes.size(), length = 0;
+        nodes_.resize(count);
+        /* (the fields `boolean` take the old positions along) */
+        for (size_t at = 0; at < count; at++) nodes[at].boolean |= uint32_t(at << 1);
+        toml_span_sort(nodes.data(), count, nodes_.data());
+        std::vector<uint32_t> moved(count);
+        for (size_t at = 0; at < count; at++) {
+            moved[nodes_[at].boolean >> 1] = uint32_t(at);
+            nodes_[at].boolean &= 1;
+        }
+        first_.resize(count);
+        children_.resize(count);
+        for (size_t at = 0; at < count; at++) {
+            first_[moved[at]] = uint32_t(length);
+            TOML_SPAN_EACH(nodes, at, child) children_[length++] = moved[child];
+        }
+        const char *text = sources_[0], *end = text + length_;
+        for (const char *line = count ? text : nullptr; line;) {
+            lines_.push_back(uint32_t(line - text));
+            line = static_cast<const char *>(std::memchr(line, '\n', size_t(end - line)));
+            if (line) line++;
+        }
+    }
+
     const char *sources_[2];
     size_t length_;
     uint32_t status_ = TOML_SPAN_UNREAD;
     toml_span_fault fault_ = {};
     std::string strings_;
     std::vector<toml_span_node> nodes_;
+    std::vector<uint32_t> first_;    /* where the children of each record begin in `children_` */
+    std::vector<uint32_t> children_; /* the entries of a table in the order of their names, the elements of an array */
+    std::vector<uint32_t> lines_;    /* where each line begins */
 };
 
 /* A value of a document, or a missing one. */
@@ -192,22 +233,23 @@ public:
     iterator begin() const { return {of_, *this ? index_ + 1 : 0}; }
     iterator end() const { return {of_, *this ? node().next : 0}; }
     value operator[](std::string_view name) const {
-        if (kind() == TOML_SPAN_TABLE)
-            for (value held : *this)
-                if (held.key() == name) return held;
-        return {of_, TOML_SPAN_NONE};
+        if (kind() != TOML_SPAN_TABLE) return {of_, TOML_SPAN_NONE};
+        const uint32_t *first = children(), *last = first + size();
+        first = std::lower_bound(first, last, name, [this](size_t index, std::string_view wanted) {
+            return value(of_, index).key() < wanted;
+        });
+        return {of_, first < last && value(of_, *first).key() == name ? *first : TOML_SPAN_NONE};
     }
     value operator[](size_t position) const {
-        if (kind() == TOML_SPAN_ARRAY)
-            for (value held : *this)
-                if (held.node().position == position) return held;
-        return {of_, TOML_SPAN_NONE};
+        bool is_element = kind() == TOML_SPAN_ARRAY && position < size();
+        return {of_, is_element ? children()[position] : TOML_SPAN_NONE};
     }
     value find(const char *path) const {
         return {of_, toml_span_find(of_->nodes().data(), of_->nodes().size(), of_->sources(), index_, path)};
     }
 
 private:
+    const uint32_t *children() const { return of_->children_.data() + of_->first_[index_]; }
     static const toml_span_node &none() {
         static const toml_span_node node = {0, 0, {0, 0}, {0, 0}, {0, 0, 0}, {0, 0, 0}, TOML_SPAN_NONE, 0, 0, 0, 0, 0};
         return node;

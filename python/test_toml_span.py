@@ -6,6 +6,7 @@ tagged_NAME has a document in `stdin`, and its values as JSON, each scalar with 
 
 import ast
 import contextlib
+import copy
 import glob
 import io
 import json
@@ -179,7 +180,7 @@ class Loads(unittest.TestCase):
     def test_longest(self):
         text = "#" * 16777216
         self.assertEqual(toml_span.loads(text), {})
-        with self.assertRaises(toml_span.TOMLDecodeError):
+        with self.assertRaisesRegex(toml_span.TOMLDecodeError, "^the file is larger than 16 MiB"):
             toml_span.loads(text + "#")
 
     def test_many_short_values(self):
@@ -240,6 +241,16 @@ class Errors(unittest.TestCase):
             with self.assertRaises(toml_span.TOMLDecodeError) as caught:
                 toml_span.parse("=", name)
             self.assertIn("--> settings.toml:1:1", caught.exception.report)
+
+    def test_a_byte_order_mark_has_no_column(self):
+        for text, place in (("\ufeffa = b", (1, 5)), ("\ufeffa = 1\nb = c", (2, 5)), ("\ufeff=", (1, 1))):
+            error = self.fault(text)
+            self.assertEqual((error.lineno, error.colno), place)
+            self.assertIn(f" --> <string>:{place[0]}:{place[1]}\n", error.report)
+            self.assertEqual(error.char_span[0], error.pos)
+        root = toml_span.parse("\ufeff'\u00e9' = 1\nb = 2")
+        self.assertEqual([(node.line, node.column) for node in root.values()], [(1, 7), (2, 5)])
+        self.assertEqual((root.column, root["\u00e9"].char_span), (1, (7, 8)))
 
     def test_the_message_is_the_headline(self):
         texts = {
@@ -323,9 +334,18 @@ class Nodes(unittest.TestCase):
         self.assertEqual(self.root["item"][1]["n"].value, 2.5)
         self.assertEqual([node.value for node in items[:2]], [1, "x"])
         self.assertEqual(items[::-1][0].path, ("list", 2))
-        for wrong, error in ((3, IndexError), (-4, IndexError), ("x", TypeError)):
+        for wrong, error in ((3, IndexError), (-4, IndexError), (1.5, TypeError)):
             with self.assertRaises(error):
                 items[wrong]
+        with self.assertRaisesRegex(TypeError, "the array at line 1 has positions, but no names such as 'x'"):
+            items["x"]
+
+    def test_copies_and_pickles(self):
+        pair = self.root["list"][0], self.root["server"]["h\u00f6st"]
+        for again in (copy.copy(pair[1]), copy.deepcopy(pair)[1], pickle.loads(pickle.dumps(pair))[1]):
+            self.assertEqual((again.path, again.span, again.value), (pair[1].path, pair[1].span, "a\tb"))
+        again = pickle.loads(pickle.dumps(pair))
+        self.assertEqual(again[0].parent.parent["server"].line, 3)
 
     def test_mappings(self):
         self.assertEqual(list(self.root), ["list", "server", "item"])
@@ -391,6 +411,8 @@ class Nodes(unittest.TestCase):
         with self.assertRaises(toml_span.TOMLDecodeError) as caught:
             toml_span.parse(b"a = 1\n\xc3\xa9\xff")
         self.assertEqual((caught.exception.lineno, caught.exception.colno, caught.exception.span), (2, 2, (8, 9)))
+        self.assertEqual(caught.exception.msg, "the file is not valid UTF-8: byte 0xFF at offset 8")
+        self.assertTrue(caught.exception.report.startswith("error[not-utf-8]: the file is not valid UTF-8"))
         with self.assertRaises(TypeError):
             toml_span.parse(None)
 
@@ -441,8 +463,9 @@ class Dumps(unittest.TestCase):
             ({"a": datetime(1979, 5, 27, tzinfo=timezone(timedelta(seconds=30)))}, ValueError),
             (loop, ValueError),
         ):
-            with self.assertRaises(error, msg=repr(value)[:50]):
+            with self.assertRaises(error, msg=repr(value)[:50]) as caught:
                 toml_span.dumps(value)
+            self.assertTrue(str(caught.exception).encode())
 
 
 class Edits(unittest.TestCase):
@@ -485,9 +508,9 @@ class Edits(unittest.TestCase):
         root = toml_span.parse(text)
         pair = root["a"]["x/y~"]
         for node in (pair[0], pair[1]["\\"], root[""], root["\0\n"], root["t"][1]['\u00e9"']):
-            new = toml_span.edit(text).set(node.path, 77).finish()
             start, end = node.char_span
-            self.assertEqual(new, f"{text[:start]}77{text[end:]}")
+            for path in (node, node.path):
+                self.assertEqual(toml_span.edit(text).set(path, 77).finish(), f"{text[:start]}77{text[end:]}")
 
     def test_every_value_of_the_documents_can_be_set(self):
         def scalars(node):
@@ -565,6 +588,13 @@ class Edits(unittest.TestCase):
 
 
 class Command(unittest.TestCase):
+    def test_help(self):
+        for word in ("-h", "--help"):
+            out = io.StringIO()
+            with contextlib.redirect_stdout(out):
+                self.assertEqual(main([word]), 0)
+            self.assertTrue(out.getvalue().startswith("Checks TOML files: python3 -m toml_span FILE..\n"))
+
     def test_statuses(self):
         with tempfile.TemporaryDirectory() as folder:
             names = {}
@@ -576,7 +606,7 @@ class Command(unittest.TestCase):
             for words, status, said in (
                 (["good"], 0, ""),
                 (["good", "bad"], 1, "error[duplicate-key]: duplicate key: `a`\n --> "),
-                (["latin"], 1, "not UTF-8"),
+                (["latin"], 1, ":1:6\n  |\n1 | a = '\n  |      ^\n  |\n  = help: this looks like Latin-1 (ISO-8859-1)\n"),
                 (["bad", "none"], 2, "No such file or directory"),
                 ([], 2, "usage: python3 -m toml_span FILE..\n"),
             ):

@@ -112,7 +112,7 @@ for language in c:gcc c:clang c++:g++ c++:clang++; do
     command -v "$compiler" >/dev/null || continue
     example keys "$work/keys.$compiler" "$compiler" -x "${language%:*}" "${strict[@]}" examples/c/keys.c \
         -x none "$archive"
-    for file in records edit; do
+    for file in records edit report; do
         told "$file.c with $compiler" "$compiler" -x "${language%:*}" "${strict[@]}" -c "c/$file.c" -o "$work/$file.o"
     done
     told "the example edit" "$compiler" -x "${language%:*}" "${strict[@]}" examples/c/edit.c -x none "$archive" \
@@ -124,6 +124,9 @@ for language in c:gcc c:clang c++:g++ c++:clang++; do
     told "edits.cpp with $compiler" "$compiler" -std=c++17 -pedantic -Wshadow -fno-exceptions -fno-rtti "${strict[@]}" \
         "${sanitize[@]}" "$tests/edits.cpp" "$archive" -o "$work/edits.$compiler"
     told "edits in C++ with $compiler" "$work/edits.$compiler"
+    told "lookups.cpp with $compiler" "$compiler" -std=c++17 -pedantic -Wshadow -fno-exceptions -fno-rtti \
+        "${strict[@]}" "${sanitize[@]}" "$tests/lookups.cpp" "$archive" -o "$work/lookups.$compiler"
+    told "look-ups and reports in C++ with $compiler" "$work/lookups.$compiler" "${documents[@]}"
 done
 
 # packaged, cmade, mesoned: whether programs that are linked as docs/C.md says start without further settings

@@ -1,5 +1,7 @@
 #!/usr/bin/env python3
-"""Checks that the pages agree with the sources, that each edit applies, and that everything that is cited exists:
+"""Checks that the pages agree with the sources, that each edit applies, that everything that is cited exists, and that
+the pictures are as scripts/pictures.py draws them:
+
 pages.py [--items] [PAGE..] (README.md and docs/*.md). With --items it writes docs/public_items.txt: what callers can
 name in each library, one item per line.
 
@@ -17,6 +19,8 @@ A mark says what a block, a list or a table quotes:
     <!-- rules -->      a list of `WORDS. DEFINITIONS; FUNCTIONS; ROWS`: `Module.{A, B}` are in a file Module.antt of
                         specs/, `module::{a, b}` in a file module.rt of src/, and a row is the only one with this text,
                         in which `..` matches anything and `parse 128: ` may be left out; or `none` and a reason
+    <!-- runs -->       a table of edits: the arguments of a run of toml_span_cli, lines of its file before it, and the
+                        lines that the file or the output has afterwards, in code, with `<br>` between them
 
 In all text, paths in code and links must exist, names in code must occur in the sources or in FOREIGN, and a clause
 that is named must belong to its function. docs/LANGUAGE.md has an example of each error that a row of `parse` reports.
@@ -30,6 +34,7 @@ import shlex
 import subprocess
 import sys
 
+import pictures
 from transcripts import all_runs
 
 TOP = os.path.dirname(os.path.dirname(os.path.abspath(__file__)))
@@ -37,8 +42,8 @@ ROWS = "crates/toml_span_rows"
 FIELDS = ("first", "expected", "found", "key", "name")
 # names of the toolchain, of the C library and of other crates
 FOREIGN = """AsRef BuiltModule Comparable DeTable From Given Goals IsSortedBy IsStableBy Lts MALLOC_MMAP_THRESHOLD_
-MALLOC_TRIM_THRESHOLD_ ParsesChar Serialize Tie as_ codespan_reporting deny_unknown_fields from_iter reorder_keys
-table_from_str the_lemmas write_all""".split()
+MALLOC_TRIM_THRESHOLD_ ParsesChar Serialize Tie as_ codespan_reporting column_width deny_unknown_fields from_iter
+indent_string reorder_keys table_from_str the_lemmas write_all""".split()
 # names that only a reader of other papers could look up, and rules cited by their numbers
 THINGS = r"(?:rule|row|rung|table|paper|section|request) (?:\d+|[A-F])"
 CITED = [
@@ -272,13 +277,15 @@ class Page:
 
     def marked(self, at, mark, end):
         kind, _, of = mark.partition(": ")
-        if kind not in ("rules", "rows"):
+        if kind not in ("rules", "rows", "runs"):
             self.fault(at - 1, f"`{mark}` is not a mark: see scripts/pages.py")
         for k in range(at, end):
             line = self.lines[k]
             first, *told = split_outside_code(line.removeprefix("- "), ": ")
             if kind == "rules":
                 self.rule(k, line)
+            elif kind == "runs" and k > at + 1:
+                self.change(k, *line.strip().strip("|").split("|"))
             elif kind == "rows" and line.startswith("- "):
                 said = re.findall(rf"(?:\b({'|'.join(FIELDS)}) )?`([^`]+)`", told[0] if told else "")
                 self.example(k, of or "parse 128", first, said)
@@ -305,6 +312,19 @@ class Page:
         if not told or words[0] == "error" and ("", " ".join(words[1:3])) not in told:
             self.fault(at, f"what this returns is not said in code: {said}")
         self.shown |= {words[1]} if words[0] == "error" else set()
+
+    def change(self, at, command, before, after):
+        """Checks that a run with these arguments turns the lines `before` into the lines `after`."""
+        words = shlex.split(codes_in(command)[0])
+        said = [[line.strip().strip("`") for line in cell.split("<br>") if cell.strip()] for cell in (before, after)]
+        for run in (run for _, run in self.sources.runs if run.get("args", b"").decode().splitlines() == words):
+            path = f"crates/toml_span_cli/runs/data/{words[1]}"
+            old = run.get(f"data/{words[1]}") or (text_of(path).encode() if found(path) else b"")
+            new = run.get(f"after/{words[1]}") or run.get("stdout", b"")
+            texts = old.decode(), new.decode()
+            if all(has_lines(text, lines) for text, lines in zip(texts, said)) and not has_lines(texts[0], said[1]):
+                return
+        self.fault(at, f"no run of toml_span_cli is like this: {words}")
 
     def rule(self, at, line):
         """Checks that the definitions, functions and rows of a line of a list exist."""
@@ -465,6 +485,7 @@ def main(words):
     faults = [fault for page in pages for fault in page.faults]
     if not named:
         faults += [*edits(sources), *citations(), *public_items(words)]
+        faults += [f"{it} is not as scripts/pictures.py draws it" for it in pictures.stale()]
         shown = {code for page in pages if page.path == "docs/LANGUAGE.md" for code in page.shown}
         told = [lines[0].split() for row, lines in sources.answers.items() if row.startswith("parse ")]
         codes = {it[1] for it in told if it[0] == "error"}

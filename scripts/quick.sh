@@ -3,12 +3,13 @@
 # bash scripts/quick.sh [--unchecked] [CRATE..]
 #
 # Each program is built without proofs (scripts/native.sh --checked, which keeps the build while the sources stay the
-# same), or is the proved build if that is up to date. scripts/runs.sh tests it. What passed is not run again until the program or
-# its runs change.
+# same), or is the proved build if that is up to date. scripts/runs.sh tests it. What passed is not run again until the
+# program or its runs change.
 #
 # The builds stop at an index out of range, an overflow or a failed unwrap (status 132; `rt try` says where), so this
 # finds those faults for the stored inputs, and wrong output; what holds for all inputs is proved by scripts/test.sh.
-# With --unchecked, it runs the builds that people get of a commit, without these checks: both kinds must print the same.
+# With --unchecked, it runs the builds that people get of a commit, without these checks: both kinds must print the
+# same.
 # QUICK_JOBS programs are built at a time, by default one for each processor. A line says when a step begins, what it
 # does, and how long it has taken: at least one a minute. The last line has the counts. Status 5: the toolchain's
 # command rt is missing.
@@ -41,6 +42,17 @@ progress() {
     done
 }
 
+# runs CRATE PROGRAM: tests the runs of a program, and prints a line a minute
+runs() {
+    local clock status=0
+    while sleep 60 >/dev/null 2>&1; do echo "$1: running it, $SECONDS s"; done &
+    clock=$!
+    bash scripts/runs.sh "$1" "$2" >"$said" 2>&1 || status=$?
+    kill "$clock"
+    wait "$clock" 2>/dev/null
+    return "$status"
+}
+
 # try CRATE: builds a program, tests its runs, and prints the result
 try() {
     local said program sum passed=crates/$1/out/passed
@@ -52,7 +64,7 @@ try() {
         printf '%s\n%s: NOT BUILT\n' "$(<"$said")" "$1"
     elif sum=$(sum_of_runs "$1" "$program") && [ -f "$passed" ] && [ "$(<"$passed")" = "$sum" ]; then
         echo "$1: right (unchanged since it passed)"
-    elif echo "$1: built, $SECONDS s; running it" && bash scripts/runs.sh "$1" "$program" >"$said" 2>&1; then
+    elif echo "$1: built, $SECONDS s; running it" && runs "$1" "$program"; then
         mkdir -p "crates/$1/out" && echo "$sum" >"$passed"
         echo "$1: right, $SECONDS s"
     else

@@ -29,14 +29,28 @@ refused) echo "error: a type is wrong" && exit 1 ;;
 nothing) exit 0 ;;
 slow) sleep 2 ;;
 esac
-cp src/main.rt "$TMPDIR/module.c"
-"$(dirname "$(dirname "$0")")/toolchain/bin/clang" -c "$TMPDIR/module.c" -o "$TMPDIR/module.o" -O0 -fsanitize=address
+cp src/main.rt "$TMPDIR/module.bc"
+"$(dirname "$(dirname "$0")")/toolchain/bin/clang" -c -x ir "$TMPDIR/module.bc" -o "$TMPDIR/module.o" -O0 \
+    -fsanitize=address
 SCRIPT
 cat >"$work/kit/bin/rattle-link" <<'SCRIPT'
 #!/usr/bin/env bash
 if [ "${FAULT-}" = "${0##*/}" ]; then echo "${0##*/}: out of luck" >&2 && exit 1; fi
 if [ "$1" = --target ]; then shift 4; fi
-for word; do case $word in -[Xmf]*) ;; *) words+=("$word") ;; esac done
+for word; do
+    case $word in
+    *.bc | *.ll) module=${module:-$word} && words+=("$word") ;;
+    -O[0-3]) words+=("$word") && if [ -n "${LEVELS-}" ]; then echo "$word" >>"$LEVELS"; fi ;;
+    ir) words+=(c) ;;
+    -[Xmf]*) ;;
+    *) words+=("$word") ;;
+    esac
+done
+# (C stays C)
+case " $* " in
+*" -S -emit-llvm "*) exec cat "$module" ;;
+*" -emit-llvm "*) exec cp "$module" "${@: -1}" ;;
+esac
 exec cc "${words[@]}"
 SCRIPT
 cp "$work/kit/bin/rattle-link" "$work/kit/toolchain/bin/clang"
@@ -130,6 +144,12 @@ a change is built with them|0|^building toml_span_cli without proofs, with run-t
     echo >>"$crate/src/main.rt"; cli && tries 2
 which --checked takes of a commit too|0|!building|commit && native --checked toml_span_cli && tries 2
 but others do not|0|^building toml_span_cli of commit|cli && tries 3
+the optimizer gets what was merged|0|^-O0 -O3$|
+    fresh; LEVELS=$work/levels native toml_span_cli && xargs <levels
+--debug does not optimize|0|^-O0$|rm levels; LEVELS=$work/levels native --debug toml_span_cli && xargs <levels
+and is a build of its own|0|!building|native --debug toml_span_cli && native toml_span_cli
+with run-time checks, of a commit too|0|^building toml_span_cli without proofs and optimization, with run-time checks|
+    fresh; commit && native --debug toml_span_cli
 a checkout that can't be written|0|/home/.cache/toml_span/toml_span_cli/|fresh; : >"$crate/out"; native toml_span_cli
 nor the cache|5|name another one in XDG_CACHE_HOME|fresh; : >"$crate/out"; : >"$HOME/.cache"; cli
 two runs at once make one build|0|^waiting for another build|fresh; FAULT=slow cli & sleep 0.5; cli && wait && tries 1
@@ -161,6 +181,9 @@ and are the same the next time|0||
     cp -r packages first; sleep 1; SOURCE_DATE_EPOCH=1700000000 package packages && diff -r first packages
 the tarball runs|1|^\[x\]$|tar -xzf packages/*.tar.gz && toml-span-1.2.3-x86_64-linux/bin/toml-span x
 the Debian package installs, runs and goes|0|^toml-span 1.2.3$|debian root/usr/bin/toml-span --version
+lintian finds no error in it|0|!^E:|
+    ! command -v lintian || DEBFULLNAME=n DEBEMAIL=n@debian.org SOURCE_DATE_EPOCH=1700000000 package linted &&
+    lintian --allow-root linted/*.deb
 no package of a dynamic program|5|can't be packaged, since it is dynamically linked|
     fresh; CC=false SOURCE_DATE_EPOCH=1 package packages
 vendor.sh copies what toml_span needs|0|as in `app: toml_span`|
@@ -168,6 +191,14 @@ vendor.sh copies what toml_span needs|0|as in `app: toml_span`|
 beside other lines and crates, in no folder crates|0|/flat/toml_span$|
     mkdir -p flat/app/src && : >flat/app/src/main.rt && echo 'app: io' >flat/crates.txt && vendor flat &&
     grep 'app: io' flat/crates.txt
+the scripts that it copies build a program|3|^building app without proofs and optimization|
+    cd 'the app' && mkdir -p crates/app/src && echo 'int main(void) { return 3; }' >crates/app/src/main.rt &&
+    echo 'app: toml_span' >>crates.txt && "$(bash scripts/toml_span/native.sh --debug app)"
+with run-time checks, even if it is a commit|0|^building app without proofs, with run-time checks|
+    repository='the app' commit && bash 'the app/scripts/toml_span/native.sh' app
+in no folder crates too|4|/flat/app/out/native/debug-|
+    echo 'int main(void) { return 4; }' >flat/app/src/main.rt; program=$(bash flat/scripts/toml_span/native.sh --debug app);
+    echo "$program" && "$program"
 another version stays|1|has toml_span in another version, so nothing was copied|
     echo >>flat/toml_span/src/lib.rt; vendor flat toml_span
 or is replaced, and what was proved stays|0||
@@ -180,6 +211,12 @@ all that load, serde and places need|0||
 the hook of docs/CI.md passes files without errors|0||committed 'a = 1'
 and refuses others|1|^./a b/c.toml:2:1: duplicate-key|committed $'a = 1\na = 2'
 the command for CI|123|^a b/c.toml:2:1: duplicate-key|committed $'a = 1\na = 2'; page xargs | sh
+the main of docs/CALLING.md builds and runs|1|^duplicate name: `a`|
+    PATH=$real_path; bash "$top/scripts/vendor.sh" calls toml_span toml_span_load && cd calls &&
+    echo 'app: toml_span toml_span_typed toml_span_load' >>crates.txt && mkdir -p crates/app/src &&
+    cp "$top/examples/app/main.txt" crates/app/src/main.rt && cp "$top/crates/toml_span_example/stdin" settings.toml &&
+    cp "$top/crates/toml_span_example/src/settings.rt" crates/app/src &&
+    "$(bash scripts/toml_span/native.sh --debug app)" | sed -n 's/^error.duplicate-name.: //p'
 the toolchain that is here builds|7||
     fresh; PATH=$real_path; printf '#![tactic(auto)]\nuse std::process::ExitCode;\n\nfn main(rt: HostRuntime) ->
     ExitCode {\n    let _host = rt;\n    ExitCode::from(7)\n}\n' >"$crate/src/main.rt"; cli

@@ -7,6 +7,9 @@
 # added to DEST/crates.txt. The script prints what it copied, and then what to write in the caller's own line of
 # crates.txt.
 #
+# The scripts that build a program without proofs (native.sh, and what it needs) go to DEST/scripts/toml_span:
+# `bash scripts/toml_span/native.sh --debug APP` builds the program APP of DEST, and prints its path.
+#
 # If another version of a crate is there already, that is an error, and nothing is copied. With --replace it is replaced
 # (its out/ stays). `vendor.sh --list CRATE..` copies nothing: it prints the lines of crates.txt for these crates and
 # those that they use, and `vendor.sh --folders CRATE..` prints their folders src and specs.
@@ -33,7 +36,9 @@ case ${1-} in
 --list) lines_of "${@:2}" && exit ;;
 --folders)
     cd -- "$top"
-    lines_of "${@:2}" | sed -E 's,^(\w+).*,crates/\1/src\ncrates/\1/specs,' | xargs -rd '\n' ls -d 2>/dev/null || true
+    below=crates/
+    if [ ! -d crates ]; then below=; fi
+    lines_of "${@:2}" | sed -E "s,^(\w+).*,$below\1/src\n$below\1/specs," | xargs -rd '\n' ls -d 2>/dev/null || true
     exit
     ;;
 --replace) replace=1 && shift ;;
@@ -90,5 +95,7 @@ for name in "${copied[@]}"; do
     mv -T -- "$work/$name" "$crates/$name" || cannot "$crates/$name"
     echo "$crates/$name"
 done
+mkdir -p -- "$destination/scripts/toml_span" &&
+    cp -- "${script%/*}"/{common,native,vendor}.sh "$destination/scripts/toml_span" || cannot "$destination/scripts"
 cp -- "$work/crates.txt" "$destination/crates.txt" || cannot "$destination/crates.txt"
 echo "To use them, name them in the line of your crate in $destination/crates.txt, as in \`app: ${names[*]}\`."

@@ -19,14 +19,16 @@ int main() {
     tell(set(text, "server.port", value.c_str()), why, "[server]\nport = " + value + " # open\n");
     tell(set(text, "server.host", "8080"), why, "!there is nothing at this path");
     tell(set("a = 1\na = 2", "a", "1"), why, "!duplicate key: `a`");
-    tell(set("\xff", "a", "1"), why, "!the text is not UTF-8, or longer than 16 MiB");
-    tell(toml_span::edit(text, {{TOML_SPAN_ADD, "server.on", "true"}, {TOML_SPAN_REMOVE, "/server/port", nullptr}}), why,
-         "[server]\non = true\n");
+    tell(set("\xff", "a", "1"), why, "!the file is not valid UTF-8: byte 0xFF at offset 0");
+    tell(set(std::string(TOML_SPAN_LONGEST + 1, '#'), "a", "1"), why, "!the file is larger than 16 MiB");
+    tell(set("a = True", "a", "1"), why, "!booleans are lowercase");
+    tell(toml_span::edit(text, {{TOML_SPAN_ADD, "server.on", "true"}, {TOML_SPAN_REMOVE, "/server/port", nullptr}}),
+         why, "[server]\non = true\n");
     tell(toml_span::edit(std::string_view(), {}), why, "");
     if (toml_span::edit(text, {{TOML_SPAN_SET, "none", "1"}})) wrong++;
     tell(toml_span::format("a=[1,2]"), why, "a = [1, 2]\n");
     tell(toml_span::format("a=[1,2]", 5, 2), why, "a = [\n  1,\n  2,\n]\n");
-    tell(toml_span::format("=", 80, 4, &why), why, "!expected a table key, found an equals");
+    tell(toml_span::format("=", 80, 4, &why), why, "!this value has no key");
     tell(toml_span::format(std::string_view()), why, "");
     return wrong;
 }

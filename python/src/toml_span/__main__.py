@@ -11,6 +11,9 @@ from . import TOMLDecodeError, parse
 
 
 def main(names: List[str]) -> int:
+    if names in (["--help"], ["-h"]):
+        print(str(__doc__).strip())
+        return 0
     status = 0 if names else 2
     if not names:
         print("usage: python3 -m toml_span FILE..", file=sys.stderr)

@@ -26,9 +26,10 @@ Moment = Union[datetime, date, time]
 class TOMLDecodeError(_DecodeError):
     """The text is not valid TOML. From Python 3.11 on, it is also a ``tomllib.TOMLDecodeError``.
 
-    msg: the headline of the report. doc: the text. pos: the index of the error in the text. lineno and colno: its line and column,
-    both counted from 1, the column in characters. Three attributes may be None. code: the kind of error, such as
-    ``duplicate-key``. span: the bytes of the error, as (start, end). report: the source lines with marks, to print.
+    msg: the headline of the report. doc: the text. pos: the index of the error in the text. lineno and colno: its line
+    and column, both counted from 1, the column in characters, without a byte order mark. Three attributes may be None.
+    code: the kind of error, such as ``duplicate-key``. span: the bytes of the error, as (start, end). report: the
+    source lines with marks, to print.
     """
 
     def __init__(
@@ -41,7 +42,7 @@ class TOMLDecodeError(_DecodeError):
         report: Optional[str] = None,
     ) -> None:
         lineno = doc.count("\n", 0, pos) + 1
-        colno = pos - doc.rfind("\n", 0, pos)
+        colno = pos - doc.rfind("\n", 0, pos) - (lineno == 1 and pos > 0 and doc[0] == "\ufeff")
         place = "end of document" if pos >= len(doc) else f"line {lineno}, column {colno}"
         ValueError.__init__(self, f"{msg} (at {place})")
         self.msg, self.doc, self.pos, self.lineno, self.colno = msg, doc, pos, lineno, colno
@@ -69,10 +70,9 @@ def _is_too_large(data: bytes, start: int, end: int) -> bool:
     return not -(2**63) <= number < 2**63
 
 
-def _error(text: str, data: bytes, fault: bytearray, name: str) -> TOMLDecodeError:
-    number, _, start, end = native.FAULT.unpack(fault)[:4]
+def error_at(start: int, end: int, code: str, text: str, data: bytes, name: str) -> TOMLDecodeError:
+    """Returns the error at these bytes. Its report is the one of the library."""
     file = name.encode("utf-8", "replace")
-    code = native.text_of(native.lib.toml_span_code, number)
     report = native.text_of(native.lib.toml_span_report, data, len(data), file, len(file))
     if code == "invalid-number" and _is_too_large(data, start, end):
         msg = "integer out of range: it must be from -2**63 to 2**63 - 1"
@@ -124,11 +124,13 @@ class Document:
                 data, size, at + nodes, room, at + strings, size, at, at + _COUNTS.size
             )
             if status == native.INVALID:
-                raise _error(text, data, block[_COUNTS.size : nodes], name)
+                number, _, start, end = native.FAULT.unpack_from(block, _COUNTS.size)[:4]
+                code = native.text_of(native.lib.toml_span_code, number)
+                raise error_at(start, end, code, text, data, name)
             if status == native.MEMORY:
                 raise MemoryError
             if status != native.READ:
-                raise TOMLDecodeError(f"longer than {native.LONGEST} bytes", text, len(text))
+                raise error_at(native.LONGEST, size, "too-long", text, data, name)
             count, length = _COUNTS.unpack_from(block)
             if count <= room:
                 break

@@ -7,9 +7,14 @@ from typing import Any, AnyStr, Callable, Generic, Iterable, List, Optional, Tup
 
 from . import _native as native
 from ._encode import path_text, value_text
-from ._node import parse
+from ._node import Node, parse
 
-Path = Union[str, Iterable[Union[str, int]]]
+Path = Union[str, Node, Iterable[Union[str, int]]]
+
+
+def _path(path: Path) -> str:
+    """Returns a path as it is written."""
+    return path if isinstance(path, str) else path_text(path.path if isinstance(path, Node) else path)
 
 
 class EditError(ValueError):
@@ -60,8 +65,8 @@ class Edits(Generic[AnyStr]):
     """A list of edits of a text, which ``finish`` makes one after the other.
 
     A path is a dotted key with positions, such as ``server.ports[0]``; a JSON Pointer, such as ``/server/ports/0``; or
-    names and positions, such as the ``path`` of a Node: ``("server", "ports", 0)``. Values are written as ``dumps``
-    writes them. Each method except ``finish`` returns the list, so that calls can be chained.
+    names and positions, such as ``("server", "ports", 0)``; or a Node of the text as it is before the edits. Values are
+    written as ``dumps`` writes them. Each method except ``finish`` returns the list, so that calls can be chained.
     """
 
     def __init__(self, text: AnyStr) -> None:
@@ -69,7 +74,7 @@ class Edits(Generic[AnyStr]):
         self._changes: List[Tuple[int, bytes, bytes]] = []
 
     def _add(self, change: int, path: Path, value: Optional[str]) -> Edits[AnyStr]:
-        texts = [path if isinstance(path, str) else path_text(path), "" if value is None else value]
+        texts = [_path(path), "" if value is None else value]
         if not isinstance(texts[1], str):
             raise TypeError(f"a name must be a str, not '{type(value).__qualname__}'")
         if any("\0" in text for text in texts):
@@ -115,7 +120,7 @@ class Edits(Generic[AnyStr]):
 
     def move(self, path: Path, target: Path) -> Edits[AnyStr]:
         """Moves a value to another path. There must be no value at that path, unless the path leads into an array."""
-        return self._add(10, path, target if isinstance(target, str) else path_text(target))
+        return self._add(10, path, _path(target))
 
     def finish(self) -> AnyStr:
         """Makes the edits, and returns the new text.

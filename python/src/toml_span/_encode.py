@@ -114,7 +114,8 @@ def _checked(text: str, plain: Any) -> str:
     try:
         same = _is_same(plain, loads(text))
     except TOMLDecodeError as error:
-        raise ValueError(f"TOML can't hold this: {error.msg}: {text.splitlines()[error.lineno - 1]}") from None
+        line = text.split("\n")[error.lineno - 1].encode("utf-8", "backslashreplace").decode()
+        raise ValueError(f"TOML can't hold this: {error.msg}: {line}") from None
     if not same:
         raise ValueError("TOML can't hold this: it would be read as another value")
     return text

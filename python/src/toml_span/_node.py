@@ -6,7 +6,7 @@ import os
 from bisect import bisect_right
 from typing import Any, Dict, Iterator, List, Optional, Tuple, Union, overload
 
-from ._decode import Document, Span, TOMLDecodeError, encoded
+from ._decode import Document, Span, encoded, error_at
 from ._native import ARRAY, NONE, TABLE, lib
 
 _KINDS = ("string", "integer", "float", "boolean", "datetime", "array", "table")
@@ -54,7 +54,12 @@ class _Source(Document):
             self.starts = bytes_before, chars_before
         line = bisect_right(self.starts[0], offset)
         column = len(self.data[self.starts[0][line - 1] : offset].decode())
-        return line, column + 1, self.starts[1][line - 1] + column
+        # (a byte order mark has no column)
+        mark = line == 1 and column > 0 and self.data.startswith(b"\xef\xbb\xbf")
+        return line, column + 1 - mark, self.starts[1][line - 1] + column
+
+    def __reduce__(self) -> Any:
+        return type(self), (self.text, self.data, "<string>")
 
 
 class Node:
@@ -69,6 +74,9 @@ class Node:
 
     def __init__(self, source: _Source, index: int) -> None:
         self._source, self._index = source, index
+
+    def __reduce__(self) -> Any:
+        return type(self), (self._source, self._index)
 
     @property
     def _record(self) -> Tuple[Any, ...]:
@@ -204,8 +212,10 @@ class Node:
             return Node(self._source, held[item])  # type: ignore[index]
         if isinstance(item, slice):
             return [Node(self._source, held[at]) for at in range(len(held))[item]]
+        if isinstance(item, str):
+            raise TypeError(f"the array at line {self.line} has positions, but no names such as {item!r}")
         try:
-            return Node(self._source, held[range(len(held))[item]])  # type: ignore[index]
+            return Node(self._source, held[range(len(held))[item]])
         except IndexError:
             raise IndexError(f"the array at line {self.line} has {len(held)} elements, none at {item}") from None
 
@@ -246,5 +256,4 @@ def parse(source: Union[str, bytes], name: Union[str, "os.PathLike[str]"] = "<st
         return Node(_Source(source.decode(), source, name), 0)
     except UnicodeDecodeError as error:
         text = source.decode("utf-8", "replace")
-        pos = len(source[: error.start].decode())
-        raise TOMLDecodeError(f"not UTF-8: {error.reason}", text, pos, None, (error.start, error.end)) from None
+        raise error_at(error.start, error.end, "not-utf-8", text, source, name) from None
