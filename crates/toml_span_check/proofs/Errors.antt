@@ -87,7 +87,7 @@ checks_valid text root rs tree nil = subst (λ (x : List ReportContent). Checks 
 -- the report of an error, and the statements that it concerns
 pub error_of : (source : Source) (copy : List ℕ) (from : ℕ) (error : Error) (made report : Report) (ps : List Piece) (ss : List Statement) (clashes : Bool) (e : Extent) → ps ≡ source.pieces → ss ≡ source.statements →
     clashes ≡ is_clash (kind_of error.kind) → e ≡ extent_of source.text ps ss from error.span.start clashes → ReportsError severity.Error copy (content_of error) (report_content made) →
-    IsSettled source.text ps e.statement (report_content made) (report_content report) → IsErrorOf source copy from error (record { report = report; place = error.span.start; is_clash = clashes; extent = e })
+    IsSettled source.text ps ss e.statement (report_content made) (report_content report) → IsErrorOf source copy from error (record { report = report; place = error.span.start; is_clash = clashes; extent = e })
 error_of source copy from error made report ps ss clashes e pieces statements agree is reports settled =
     let same : e ≡ extent source from error =
     is
@@ -98,8 +98,9 @@ error_of source copy from error made report ps ss clashes e pieces statements ag
       report = (
         report_content made,
         reports,
-        subst (λ (x : Extent). IsSettled source.text source.pieces x.statement (report_content made) (report_content report)) same
-            (subst (λ (xs : List Piece). IsSettled source.text xs e.statement (report_content made) (report_content report)) pieces settled),
+        subst (λ (x : Extent). IsSettled source.text source.pieces source.statements x.statement (report_content made) (report_content report)) same
+            (subst (λ (xs : List Statement). IsSettled source.text source.pieces xs e.statement (report_content made) (report_content report)) statements
+            (subst (λ (xs : List Piece). IsSettled source.text xs ss e.statement (report_content made) (report_content report)) pieces settled)),
       );
       place = refl;
       extent = same;

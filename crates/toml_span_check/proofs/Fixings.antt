@@ -1,16 +1,16 @@
 -- One more fix, and one more statement.
-use Rattle.toml_span_lex.proofs.Common.{◌≡◌, ◌<◌, ℕ, List, [], ◌∷◌, ◌++◌, length, take, take_more, get_or, ◌+◌, min, Option, Some, None, Result, Ok, Err, IfOk, AllocError, Global, String, string_bytes, option_map, subst, sym, inl, true}
+use Rattle.toml_span_lex.proofs.Common.{◌≡◌, ◌<◌, ℕ, List, [], ◌∷◌, ◌++◌, length, drop, get_or, ◌+◌, Option, Some, None, Result, Ok, Err, IfOk, AllocError, Global, String, string_bytes, option_map, subst, sym, refl, inl, inr, Bool, true, false}
 use Rattle.toml_span_lex.specs.declared.stop.Stop.TheVariants as stops
 use Rattle.toml_span_read.specs.Data.{depth_limit}
 use Rattle.toml_span_tree.specs.declared.error.Error.{Error}
 use Rattle.toml_span_tree.specs.Error.{content_of}
 use Rattle.toml_span.specs.Parsing.{IsRefusal}
-use Rattle.toml_span_safety.specs.Drafts.{Parts}
 use Rattle.toml_span_syntax.specs.declared.pieces.Piece.{Piece}
 use Rattle.toml_span_syntax.specs.declared.statements.Statement.{Statement}
 use Rattle.toml_span_check.specs.declared.fixing.FixLevel.TheVariants as levels
-use Rattle.toml_span_check.specs.Fixing.{AddsStatement, Checks, Drafts, FixOf, FixesError, HasFix, Leads, Mends, NextFix, another, fix, fixed, one_more, way_of}
-use Rattle.toml_span_check.specs.Safety.{may_fix}
+use Rattle.toml_span_safety.specs.Drafts.{Parts, empty}
+use Rattle.toml_span_check.specs.Fixing.{AddsStatement, AddsUnit, CanFix, Checks, Drafts, FixOf, FixesError, IsUnit, Leads, Mends, NextFix, Progress, another, fix, fixed, nothing, one_more, start, way_of}
+use Rattle.toml_span_check.specs.Safety.{kept, may_fix}
 use Rattle.toml_span_check.specs.Statements.{own_bytes, own_pieces}
 use Rattle.toml_span_check.specs.declared.fixing.Fix.{Fix}
 use Rattle.toml_span_check.specs.declared.fixing.Fixed.{Fixed}
@@ -40,13 +40,25 @@ pub leads_more : (text copy mid : List ℕ) (way : Way) (n : ℕ) (field : Step)
 leads_more text copy mid way n field new before same next is =
     one_more n mid new before (step_of copy mid way field (steps.Fixed new) same next is)
 
+-- no statement yet
+pub drafts_none : (text : List ℕ) (pieces : List Piece) (ss : List Statement) (way : Way) (parts : Parts) → parts ≡ empty →
+    Drafts text pieces ss way 0 (record { parts = parts; count = 0; end = 0; is_fixed = false })
+drafts_none text pieces ss way parts is =
+    subst (λ (q : Parts). Drafts text pieces ss way 0 (record { parts = q; count = 0; end = 0; is_fixed = false })) (sym is) (nothing start refl)
+
+-- a unit that can't be fixed, whose first statement is kept
+pub unit_kept : (text : List ℕ) (pieces : List Piece) (s unit : Statement) (way : Way) (old : Progress) (field : Option Fix) (parts : Parts) →
+    FixOf text pieces unit way (option_map fix field) → field ≡ None → parts ≡ kept old.parts text pieces s →
+    AddsUnit text pieces s unit way old (record { parts = parts; count = old.count; end = unit.end; is_fixed = false })
+unit_kept text pieces s unit way old field parts made is same =
+    let not_fixed : FixOf text pieces unit way None = subst (λ (o : Option Fix). FixOf text pieces unit way (option_map fix o)) is made in
+    subst (λ (q : Parts). AddsUnit text pieces s unit way old (record { parts = q; count = old.count; end = unit.end; is_fixed = false })) (sym same) (inr (not_fixed, refl))
+
 -- one more statement of a list
-pub drafts_more : (text : List ℕ) (pieces : List Piece) (way : Way) (ss : List Statement) (i n m : ℕ) (d : Statement) (old new : Parts) →
-    i < length ss → Drafts text pieces way (take i ss) n old → AddsStatement text pieces (get_or ss i d) way old m new →
-    Drafts text pieces way (take (i + 1) ss) (min (n + m) 18446744073709551615) new
-drafts_more text pieces way ss i n m d old new below before adds =
-    subst (λ (xs : List Statement). Drafts text pieces way xs (min (n + m) 18446744073709551615) new) (sym (take_more ss i d below))
-    (another (take i ss) n old (get_or ss i d) m new before adds)
+pub drafts_more : (text : List ℕ) (pieces : List Piece) (ss rest : List Statement) (way : Way) (i : ℕ) (d : Statement) (p q : Progress) →
+    i < length ss → Drafts text pieces ss way i p → rest ≡ drop i ss → AddsStatement text pieces rest (get_or ss i d) way p q → Drafts text pieces ss way (i + 1) q
+drafts_more text pieces ss rest way i d p q below before is adds =
+    another i p q d before below (subst (λ (xs : List Statement). AddsStatement text pieces xs (get_or ss i d) way p q) is adds)
 
 -- a statement whose new text was checked
 pub fix_checked : (text : List ℕ) (pieces : List Piece) (s : Statement) (way : Way) (old : List ℕ) (own : List Piece) (field : Option Fixed) (made : Fixed) (r : Result (Option Fix) AllocError) →
@@ -62,7 +74,19 @@ fix_checked text pieces s way old own field made (Ok f) same_text same_own mends
       within,
     )
 
--- a statement that safe fixes fix
-pub has_fix : (text : List ℕ) (pieces : List Piece) (s : Statement) (way : Way) (field : Option Fix) (f : Fix) → way ≡ way_of pieces levels.Safe → FixOf text pieces s way (option_map fix field) → field ≡ Some f → HasFix text pieces s
-has_fix text pieces s way field f same made is =
-    (fix f, subst (λ (w : Way). FixOf text pieces s w (Some (fix f))) same (subst (λ (o : Option Fix). FixOf text pieces s way (option_map fix o)) is made))
+-- a unit that safe fixes fix, or not
+pub can_fix : (text : List ℕ) (pieces : List Piece) (ss : List Statement) (s unit : Statement) (way : Way) (field : Option Fix) (f : Fix) (r : Result Bool AllocError) →
+    way ≡ way_of pieces levels.Safe → IsUnit text pieces ss s unit → FixOf text pieces unit way (option_map fix field) → field ≡ Some f → r ≡ Ok true →
+    IfOk r (λ fixes. CanFix text pieces ss s fixes)
+can_fix text pieces ss s unit way field f r same of made is answer =
+    let yes : CanFix text pieces ss s true =
+    (unit, of, (fix f, subst (λ (w : Way). FixOf text pieces unit w (Some (fix f))) same (subst (λ (o : Option Fix). FixOf text pieces unit way (option_map fix o)) is made))) in
+    subst (λ (a : Result Bool AllocError). IfOk a (λ fixes. CanFix text pieces ss s fixes)) (sym answer) yes
+
+pub cannot_fix : (text : List ℕ) (pieces : List Piece) (ss : List Statement) (s unit : Statement) (way : Way) (field : Option Fix) (r : Result Bool AllocError) →
+    way ≡ way_of pieces levels.Safe → IsUnit text pieces ss s unit → FixOf text pieces unit way (option_map fix field) → field ≡ None → r ≡ Ok false →
+    IfOk r (λ fixes. CanFix text pieces ss s fixes)
+cannot_fix text pieces ss s unit way field r same of made is answer =
+    let no : CanFix text pieces ss s false =
+    (unit, of, subst (λ (w : Way). FixOf text pieces unit w None) same (subst (λ (o : Option Fix). FixOf text pieces unit way (option_map fix o)) is made)) in
+    subst (λ (a : Result Bool AllocError). IfOk a (λ fixes. CanFix text pieces ss s fixes)) (sym answer) no

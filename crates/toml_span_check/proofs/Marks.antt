@@ -1,8 +1,8 @@
 -- Marks of the suffixes of a list say where a pattern matches.
-use Rattle.std.proofs.Common.{◌≡◌, ◌==◌, ◌∙◌, sym, ap, ap₂, ℕ, zero, suc, ◌+◌, Bool, true, false, ◌&&◌, ◌||◌, if◌then◌else◌, List, [], ◌∷◌, ◌++◌, append_assoc, length, replicate, get_or, refl, arith, codes, add-one, ◌<◌, drop, drop-cons, inl, inr, ◌⊎◌}
+use Rattle.std.proofs.Common.{◌≡◌, ◌==◌, ◌∙◌, sym, ap, ap₂, ℕ, zero, suc, ◌+◌, Bool, true, false, ◌&&◌, ◌||◌, if◌then◌else◌, List, [], ◌∷◌, ◌++◌, append_assoc, length, replicate, get_or, refl, arith, add-one, ◌<◌, drop, inl, inr, ◌⊎◌, Some, None}
 use Rattle.std.proofs.lemmas.List.{drop_all, length-replicate}
-use Rattle.std.specs.Str.{bytes_eq}
-use Rattle.toml_span_check.specs.Patterns.{after, fits, is_nothing, name_matches, name_step, one_more, path_matches, path_step, some_end, spread}
+use Rattle.toml_span_check.specs.Globs.{Bytes, Element, fits, is_any}
+use Rattle.toml_span_check.specs.Patterns.{after, is_nothing, name_matches, name_step, one_more, path_matches, path_step, some_end, spread}
 
 -- whether `rest` is true for a marked suffix
 abbrev pub holds : {A : Type 0} → (List A → Bool) → List Bool → List A → Bool
@@ -100,28 +100,26 @@ length-first n = ap suc (length-replicate n false) ∙ sym (add-one n)
 
 -- ---- one more byte of a pattern, or one more part
 
-name-spread : (code : ℕ) (rest name : List ℕ) (ms : List Bool) → (code == 42) ≡ true → length ms ≡ length name + 1 →
-    holds (name_matches rest) (spread false ms) name ≡ holds (name_matches (code ∷ rest)) ms name
-name-spread code rest name ms star is =
+name-spread : (rest : List Element) (name : List ℕ) (ms : List Bool) → length ms ≡ length name + 1 →
+    holds (name_matches rest) (spread false ms) name ≡ holds (name_matches (None ∷ rest)) ms name
+name-spread rest name ms is =
     holds-spread (name_matches rest) false ms name is
-    ∙ holds-ext (some_end (name_matches rest)) (name_matches (code ∷ rest))
-    (λ ys. sym (ap (λ b. if b then some_end (name_matches rest) ys else one_more (fits code) (name_matches rest) ys) star)) ms name
+    ∙ holds-ext (some_end (name_matches rest)) (name_matches (None ∷ rest)) (λ ys. refl) ms name
 
-name-after : (code : ℕ) (rest name : List ℕ) (ms : List Bool) → (code == 42) ≡ false → length ms ≡ length name + 1 →
-    holds (name_matches rest) (false ∷ after (fits code) ms name) name ≡ holds (name_matches (code ∷ rest)) ms name
-name-after code rest name ms other is =
-    holds-after (fits code) (name_matches rest) false ms name is
-    ∙ holds-ext (one_more (fits code) (name_matches rest)) (name_matches (code ∷ rest))
-    (λ ys. sym (ap (λ b. if b then some_end (name_matches rest) ys else one_more (fits code) (name_matches rest) ys) other)) ms name
+name-after : (set : Bytes) (rest : List Element) (name : List ℕ) (ms : List Bool) → length ms ≡ length name + 1 →
+    holds (name_matches rest) (false ∷ after (fits set) ms name) name ≡ holds (name_matches (Some set ∷ rest)) ms name
+name-after set rest name ms is =
+    holds-after (fits set) (name_matches rest) false ms name is
+    ∙ holds-ext (one_more (fits set) (name_matches rest)) (name_matches (Some set ∷ rest)) (λ ys. refl) ms name
 
-path-spread : (part : List ℕ) (rest path : List (List ℕ)) (ms : List Bool) → bytes_eq part (codes "**") ≡ true → length ms ≡ length path + 1 →
+path-spread : (part : List Element) (rest : List (List Element)) (path : List (List ℕ)) (ms : List Bool) → is_any part ≡ true → length ms ≡ length path + 1 →
     holds (path_matches rest) (spread false ms) path ≡ holds (path_matches (part ∷ rest)) ms path
 path-spread part rest path ms star is =
     holds-spread (path_matches rest) false ms path is
     ∙ holds-ext (some_end (path_matches rest)) (path_matches (part ∷ rest))
     (λ ys. sym (ap (λ b. if b then some_end (path_matches rest) ys else one_more (name_matches part) (path_matches rest) ys) star)) ms path
 
-path-after : (part : List ℕ) (rest path : List (List ℕ)) (ms : List Bool) → bytes_eq part (codes "**") ≡ false → length ms ≡ length path + 1 →
+path-after : (part : List Element) (rest : List (List Element)) (path : List (List ℕ)) (ms : List Bool) → is_any part ≡ false → length ms ≡ length path + 1 →
     holds (path_matches rest) (false ∷ after (name_matches part) ms path) path ≡ holds (path_matches (part ∷ rest)) ms path
 path-after part rest path ms other is =
     holds-after (name_matches part) (path_matches rest) false ms path is
@@ -135,46 +133,39 @@ length-step : {A : Type 0} (b : Bool) (test : A → Bool) (ms : List Bool) (xs :
 length-step true test ms xs is = length-spread false ms ∙ is
 length-step false test ms xs is = ap suc (length-after test ms xs) ∙ sym (add-one (length xs))
 
-abbrev pub NameMarks : List ℕ → List ℕ → List ℕ → List Bool → Type 0
+abbrev pub NameMarks : List Element → List Element → List ℕ → List Bool → Type 0
 NameMarks pattern rest name ms =
     (holds (name_matches rest) ms name ≡ name_matches pattern name) × (length ms ≡ length name + 1)
 
-pub name-first : (pattern name : List ℕ) → NameMarks pattern pattern name (true ∷ replicate (length name) false)
+pub name-first : (pattern : List Element) (name : List ℕ) → NameMarks pattern pattern name (true ∷ replicate (length name) false)
 name-first pattern name = (holds-first (name_matches pattern) name, length-first (length name))
 
-pub name-step : (pattern name : List ℕ) (i : ℕ) (ms : List Bool) → i < length pattern → NameMarks pattern (drop i pattern) name ms →
-    NameMarks pattern (drop (i + 1) pattern) name (name_step (get_or pattern i 0) ms name)
-name-step pattern name i ms less (is, long) =
-    let code = get_or pattern i 0 in
-    let rest = drop (i + 1) pattern in
-    let more : holds (name_matches (code ∷ rest)) ms name ≡ name_matches pattern name =
-    ap (λ l. holds (name_matches l) ms name) (sym (drop-cons pattern i 0 less ∙ ap (λ j. get_or pattern i 0 ∷ drop j pattern) (sym (add-one i)))) ∙ is in
-    elim (either (code == 42)) [
-      | inl star ↦ (ap (λ b. holds (name_matches rest) (if b then spread false ms else false ∷ after (fits code) ms name) name) star ∙ name-spread code rest name ms star long ∙ more, length-step (code == 42) (fits code) ms name long)
-      | inr other ↦ (ap (λ b. holds (name_matches rest) (if b then spread false ms else false ∷ after (fits code) ms name) name) other ∙ name-after code rest name ms other long ∙ more, length-step (code == 42) (fits code) ms name long)
-    ]
+pub name-step : (pattern rest : List Element) (name : List ℕ) (code : Element) (ms : List Bool) → NameMarks pattern (code ∷ rest) name ms →
+    NameMarks pattern rest name (name_step code ms name)
+name-step pattern rest name None ms (is, long) = (name-spread rest name ms long ∙ is, length-spread false ms ∙ long)
+name-step pattern rest name (Some set) ms (is, long) =
+    (name-after set rest name ms long ∙ is, ap suc (length-after (fits set) ms name) ∙ sym (add-one (length name)))
 
-pub name-end : (pattern name : List ℕ) (i : ℕ) (ms : List Bool) → i ≡ length pattern → NameMarks pattern (drop i pattern) name ms → get_or ms (length name) false ≡ name_matches pattern name
-name-end pattern name i ms all (is, long) =
-    sym (holds-end ms name long) ∙ ap (λ l. holds (name_matches l) ms name) (sym (drop_all i pattern (omega arith))) ∙ is
+pub name-end : (pattern : List Element) (name : List ℕ) (ms : List Bool) → NameMarks pattern [] name ms → get_or ms (length name) false ≡ name_matches pattern name
+name-end pattern name ms (is, long) = sym (holds-end ms name long) ∙ is
 
-abbrev pub PathMarks : List (List ℕ) → List (List ℕ) → List (List ℕ) → List Bool → Type 0
+abbrev pub PathMarks : List (List Element) → List (List Element) → List (List ℕ) → List Bool → Type 0
 PathMarks pattern rest path ms =
     (holds (path_matches rest) ms path ≡ path_matches pattern path) × (length ms ≡ length path + 1)
 
-pub path-first : (pattern path : List (List ℕ)) → PathMarks pattern pattern path (true ∷ replicate (length path) false)
+pub path-first : (pattern : List (List Element)) (path : List (List ℕ)) → PathMarks pattern pattern path (true ∷ replicate (length path) false)
 path-first pattern path = (holds-first (path_matches pattern) path, length-first (length path))
 
-pub path-step : (pattern path rest : List (List ℕ)) (part : List ℕ) (ms : List Bool) → PathMarks pattern (part ∷ rest) path ms →
+pub path-step : (pattern : List (List Element)) (path : List (List ℕ)) (rest : List (List Element)) (part : List Element) (ms : List Bool) → PathMarks pattern (part ∷ rest) path ms →
     PathMarks pattern rest path (path_step part ms path)
 path-step pattern path rest part ms (is, long) =
-    let star = bytes_eq part (codes "**") in
+    let star = is_any part in
     elim (either star) [
       | inl is_star ↦ (ap (λ b. holds (path_matches rest) (if b then spread false ms else false ∷ after (name_matches part) ms path) path) is_star ∙ path-spread part rest path ms is_star long ∙ is, length-step star (name_matches part) ms path long)
       | inr none ↦ (ap (λ b. holds (path_matches rest) (if b then spread false ms else false ∷ after (name_matches part) ms path) path) none ∙ path-after part rest path ms none long ∙ is, length-step star (name_matches part) ms path long)
     ]
 
-pub path-end : (pattern path : List (List ℕ)) (ms : List Bool) → PathMarks pattern [] path ms → get_or ms (length path) false ≡ path_matches pattern path
+pub path-end : (pattern : List (List Element)) (path : List (List ℕ)) (ms : List Bool) → PathMarks pattern [] path ms → get_or ms (length path) false ≡ path_matches pattern path
 path-end pattern path ms (is, long) = sym (holds-end ms path long) ∙ is
 
 -- ---- one more element

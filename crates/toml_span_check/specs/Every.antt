@@ -62,7 +62,7 @@ rest source next = blank 0 (offset_of source.text source.pieces next) source.tex
 abbrev pub ReportsFixable : Source → ℕ → List ℕ → Error → ReportContent → Type 0
 ReportsFixable source from copy error report =
     (made : ReportContent) × ReportsError severity.Error copy (content_of error) made
-    × IsSettled source.text source.pieces (extent source from error).statement made report
+    × IsSettled source.text source.pieces source.statements (extent source from error).statement made report
 
 -- ---- the errors
 

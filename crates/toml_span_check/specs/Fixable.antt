@@ -5,7 +5,7 @@ use Rattle.std.specs.List.{list_all}
 use Rattle.toml_span_report.specs.Report.{Repair, ReportContent}
 use Rattle.toml_span_syntax.specs.declared.pieces.Piece.{Piece}
 use Rattle.toml_span_syntax.specs.declared.statements.Statement.{Statement}
-use Rattle.toml_span_check.specs.Fixing.{HasFix, HasNoFix}
+use Rattle.toml_span_check.specs.Fixing.{CanFix}
 use Rattle.toml_span_check.specs.declared.fixable.Count.{Count}
 use Rattle.toml_span_check.specs.declared.fixing.FixLevel.{FixLevel}
 use Rattle.toml_span_check.specs.declared.fixing.FixLevel.TheVariants.{Safe, Unsafe}
@@ -25,11 +25,11 @@ as_unsafe repair = record repair { is_safe = false }
 
 -- `settled` is the report `made` of an error in a statement. If all its replacements are marked as safe, but safe fixes
 -- don't fix the statement, they are marked as unsafe.
-abbrev pub IsSettled : List ℕ → List Piece → Statement → ReportContent → ReportContent → Type 0
-IsSettled text pieces s made settled =
-    ((settled ≡ made) × ((level_of made.replacements ≢ Some Safe) ⊎ HasFix text pieces s))
+abbrev pub IsSettled : List ℕ → List Piece → List Statement → Statement → ReportContent → ReportContent → Type 0
+IsSettled text pieces ss s made settled =
+    ((settled ≡ made) × ((level_of made.replacements ≢ Some Safe) ⊎ CanFix text pieces ss s true))
     ⊎ ((settled ≡ record made { replacements = map as_unsafe made.replacements })
-    × (level_of made.replacements ≡ Some Safe) × HasNoFix text pieces s)
+    × (level_of made.replacements ≡ Some Safe) × CanFix text pieces ss s false)
 
 -- ---- numbers of errors
 

@@ -1,6 +1,6 @@
 -- How the replacements of reports fix errors.
-use Rattle.std.specs.Prelude.{◌≡◌, ◌<◌, ◌⊎◌, ℕ, ◌+◌, min, Bool, true, false, List, [], ◌∷◌, ◌++◌, map, length}
-use Rattle.std.specs.Prelude.{Option, Some, None, String, string_bytes}
+use Rattle.std.specs.Prelude.{◌≡◌, ◌<◌, ◌≤◌, ◌⊎◌, ℕ, ◌+◌, min, Bool, true, false, List, [], ◌∷◌, ◌++◌, map, length}
+use Rattle.std.specs.Prelude.{drop, get_or, if◌then◌else◌, Option, Some, None, String, string_bytes}
 use Rattle.std.specs.Global.{Global}
 use Rattle.std.specs.Str.{IsUtf8}
 use Rattle.toml_span_lex.specs.declared.stop.Stop.TheVariants as stops
@@ -13,12 +13,12 @@ use Rattle.toml_span_places.specs.Replace.{SpanEdit, replaced}
 use Rattle.toml_span_mistakes.specs.Errors.{ReportsError}
 use Rattle.toml_span_report.specs.Report.{Repair, ReportContent}
 use Rattle.toml_span_report.specs.declared.report.Severity.TheVariants as severity
-use Rattle.toml_span_safety.specs.Drafts.{HasSizes, IsReading, Parts, add, empty}
+use Rattle.toml_span_safety.specs.Drafts.{HasSizes, IsReading, Parts, add, draft, empty}
 use Rattle.toml_span_syntax.specs.declared.pieces.Piece.{Piece}
 use Rattle.toml_span_syntax.specs.declared.statements.Statement.{Statement}
 use Rattle.toml_span_check.specs.Safety as fixes
 use Rattle.toml_span_check.specs.Safety.{all_kept, first_open, kept, may_fix, repaired, same_comments, uses_crlf}
-use Rattle.toml_span_check.specs.Statements.{offset_of, own_bytes, own_pieces}
+use Rattle.toml_span_check.specs.Statements.{is_continued, offset_of, own_bytes, own_pieces, with_continued}
 use Rattle.toml_span_check.specs.declared.fixing.Fix.{Fix}
 use Rattle.toml_span_check.specs.declared.fixing.Fixed.{Fixed}
 use Rattle.toml_span_check.specs.declared.fixing.FixLevel.{FixLevel}
@@ -26,6 +26,7 @@ use Rattle.toml_span_check.specs.declared.fixing.FixLevel.TheVariants as levels
 use Rattle.toml_span_check.specs.declared.fixing.Step.{Step}
 use Rattle.toml_span_check.specs.declared.fixing.Step.TheVariants as steps
 use Rattle.toml_span_check.specs.declared.fixing.Way.{Way}
+use Rattle.toml_span_check.specs.declared.fixing.Work.{Work}
 
 abbrev pub edits : List Repair → List SpanEdit
 edits repairs = map (λ repair. (repair.span, repair.text)) repairs
@@ -104,25 +105,69 @@ FixOf text pieces s way new =
 
 -- ---- a text
 
--- One more statement, which is fixed by this number of fixes, or is as it was.
-abbrev pub AddsStatement : List ℕ → List Piece → Statement → Way → Parts → ℕ → Parts → Type 0
-AddsStatement text pieces s way old n new =
-    ((m : Mended) × FixOf text pieces s way (Some m) × (n ≡ m.count)
-    × (new ≡ mended old m))
-    ⊎ (FixOf text pieces s way None × (n ≡ 0) × (new ≡ kept old text pieces s))
+-- the text of a statement is valid, or not
+abbrev pub Judges : List ℕ → Bool → Type 0
+Judges text true = (root : Value) × IsTree text depth_limit root
+Judges text false = ((error : Error) × IsRefusal text depth_limit (stops.Fault error)) ⊎ ¬ IsUtf8 text
 
--- all of these statements, with this number of fixes
-pub data Drafts (text : List ℕ) (pieces : List Piece) (way : Way) : List Statement → ℕ → Parts → Type 0 where
-  nothing : (parts : Parts) → parts ≡ empty → Drafts text pieces way [] 0 parts
-  another : (ss : List Statement) (n : ℕ) (parts : Parts) (s : Statement) (m : ℕ) (more : Parts)
-      → Drafts text pieces way ss n parts → AddsStatement text pieces s way parts m more
-      → Drafts text pieces way (ss ++ s ∷ []) (min (n + m) 18446744073709551615) more
+-- What is fixed together: a statement or, if it has an error and is continued, the statement and the lines that continue
+-- it, as one. `rest` has the statements after it.
+abbrev pub IsUnit : List ℕ → List Piece → List Statement → Statement → Statement → Type 0
+IsUnit text pieces rest s unit =
+    (((is_continued pieces s ≡ false) ⊎ Judges (own_bytes text pieces s) true) × (unit ≡ s))
+    ⊎ ((is_continued pieces s ≡ true) × Judges (own_bytes text pieces s) false
+    × (unit ≡ with_continued pieces rest s))
+
+-- the new text so far, the number of fixes, the end of what was fixed together last, or could not be, and whether it was
+pub record Progress : Type 0 where
+  pub parts : Parts
+  pub count : ℕ
+  pub end : ℕ
+  pub is_fixed : Bool
+
+abbrev pub work : Work → Progress
+work w = record { parts = draft w.draft; count = w.count; end = w.end; is_fixed = w.is_fixed }
+
+abbrev pub start : Progress
+start = record { parts = empty; count = 0; end = 0; is_fixed = false }
+
+abbrev pub with_fix : Progress → Statement → Mended → Progress
+with_fix p unit m = record {
+  parts = mended p.parts m;
+  count = min (p.count + m.count) 18446744073709551615;
+  end = unit.end;
+  is_fixed = true;
+}
+
+abbrev pub with_kept : List ℕ → List Piece → Progress → Statement → Progress
+with_kept text pieces p s = record p { parts = kept p.parts text pieces s }
+
+-- A unit is fixed, or its first statement is kept.
+abbrev pub AddsUnit : List ℕ → List Piece → Statement → Statement → Way → Progress → Progress → Type 0
+AddsUnit text pieces s unit way old new =
+    ((m : Mended) × FixOf text pieces unit way (Some m) × (new ≡ with_fix old unit m))
+    ⊎ (FixOf text pieces unit way None
+    × (new ≡ with_kept text pieces (record old { end = unit.end; is_fixed = false }) s))
+
+-- One more statement, with which a unit begins. Or it is a part of the last unit, and is kept if that could not be
+-- fixed.
+abbrev pub AddsStatement : List ℕ → List Piece → List Statement → Statement → Way → Progress → Progress → Type 0
+AddsStatement text pieces rest s way old new =
+    ((old.end ≤ s.first)
+    × ((unit : Statement) × IsUnit text pieces rest s unit × AddsUnit text pieces s unit way old new))
+    ⊎ ((s.first < old.end) × (new ≡ if old.is_fixed then old else with_kept text pieces old s))
+
+-- this number of the statements, one after the other
+pub data Drafts (text : List ℕ) (pieces : List Piece) (ss : List Statement) (way : Way) : ℕ → Progress → Type 0 where
+  nothing : (p : Progress) → p ≡ start → Drafts text pieces ss way 0 p
+  another : (i : ℕ) (p q : Progress) (s : Statement) → Drafts text pieces ss way i p → i < length ss
+      → AddsStatement text pieces (drop i ss) (get_or ss i s) way p q → Drafts text pieces ss way (i + 1) q
 
 -- The draft has fixes, and its text has the pieces and statements that it must have.
-abbrev pub Finishes : ℕ → Parts → Option Made → Type 0
-Finishes count parts (Some made) =
-    (0 < count) × HasSizes parts.text parts true × (made.0 ≡ parts.text) × (made.1 ≡ count)
-Finishes count parts None = (count ≡ 0) ⊎ HasSizes parts.text parts false ⊎ ¬ IsUtf8 parts.text
+abbrev pub Finishes : Progress → Option Made → Type 0
+Finishes p (Some made) =
+    (0 < p.count) × HasSizes p.parts.text p.parts true × (made.0 ≡ p.parts.text) × (made.1 ≡ p.count)
+Finishes p None = (p.count ≡ 0) ⊎ HasSizes p.parts.text p.parts false ⊎ ¬ IsUtf8 p.parts.text
 
 -- Lines end as the first one does. Nothing is fixed after a multi-line string that is not closed: any line may then be a
 -- part of the string.
@@ -133,8 +178,8 @@ way_of pieces level = record { level = level; is_crlf = uses_crlf pieces; limit 
 abbrev pub FixesStatements : List ℕ → FixLevel → Option Made → Type 0
 FixesStatements text level made =
     (pieces : List Piece) × (statements : List Statement) × IsReading text pieces statements
-    × ((count : ℕ) × (parts : Parts) × Drafts text pieces (way_of pieces level) statements count parts
-    × Finishes count parts made)
+    × ((p : Progress) × Drafts text pieces statements (way_of pieces level) (length statements) p
+    × Finishes p made)
 
 -- The text with its errors fixed, or as it was: if it is valid, or if its statements have no fixes.
 abbrev pub Fixes : List ℕ → FixLevel → Made → Type 0
@@ -145,12 +190,13 @@ Fixes text level made =
 
 -- ---- one fix
 
--- Safe fixes fix the errors of a statement, or not.
-abbrev pub HasFix : List ℕ → List Piece → Statement → Type 0
-HasFix text pieces s = (m : Mended) × FixOf text pieces s (way_of pieces levels.Safe) (Some m)
-
-abbrev pub HasNoFix : List ℕ → List Piece → Statement → Type 0
-HasNoFix text pieces s = FixOf text pieces s (way_of pieces levels.Safe) None
+-- Safe fixes fix the errors of a statement and of the lines that continue it, or not.
+abbrev pub CanFix : List ℕ → List Piece → List Statement → Statement → Bool → Type 0
+CanFix text pieces ss s true =
+    (unit : Statement) × IsUnit text pieces ss s unit
+    × ((m : Mended) × FixOf text pieces unit (way_of pieces levels.Safe) (Some m))
+CanFix text pieces ss s false =
+    (unit : Statement) × IsUnit text pieces ss s unit × FixOf text pieces unit (way_of pieces levels.Safe) None
 
 -- The statement with these replacements made has no error, and the same comments. It may be fixed.
 abbrev pub IsMade : List ℕ → List Piece → Statement → List Repair → Way → Mended → Type 0

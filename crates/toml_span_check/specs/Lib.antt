@@ -7,6 +7,7 @@ pub mod Fixing
 pub mod Folders
 pub mod Formats
 pub mod Github
+pub mod Globs
 pub mod Lints
 pub mod Newer
 pub mod Patterns

@@ -1,8 +1,8 @@
 -- Which names and paths a pattern matches.
-use Rattle.std.specs.Prelude.{ℕ, Bool, true, false, not, ◌==◌, ◌&&◌, ◌||◌, List, [], ◌∷◌, ◌++◌, codes, drop, map}
-use Rattle.std.specs.Prelude.{Option, None, Some, length, string_bytes, take, ◌-◌, if◌then◌else◌}
+use Rattle.std.specs.Prelude.{ℕ, Bool, true, false, not, ◌==◌, ◌&&◌, ◌||◌, List, [], ◌∷◌, drop, Option, None, Some}
+use Rattle.std.specs.Prelude.{length, option_map, take, ◌-◌, if◌then◌else◌}
 use Rattle.std.specs.List.{list_any, slice_split}
-use Rattle.std.specs.Str.{bytes_eq}
+use Rattle.toml_span_check.specs.Globs.{Element, fits, glob_parts, is_any, parts_of}
 use Rattle.toml_span_check.specs.declared.patterns.Pattern.{Pattern}
 
 abbrev pub is_nothing : {A : Type 0} → List A → Bool
@@ -19,22 +19,18 @@ abbrev pub one_more : {A : Type 0} → (A → Bool) → (List A → Bool) → Li
 one_more fits rest [] = false
 one_more fits rest (x ∷ xs) = fits x && rest xs
 
--- whether a byte of a pattern matches a byte of a name: `?` matches any byte, any other byte itself
-abbrev pub fits : ℕ → ℕ → Bool
-fits code byte = code == 63 || code == byte
-
--- Whether a pattern matches a name: `*` matches any number of bytes.
-abbrev pub name_matches : List ℕ → List ℕ → Bool
+-- Whether a part of a pattern matches a name: `*` matches any number of bytes.
+abbrev pub name_matches : List Element → List ℕ → Bool
 name_matches [] name = is_nothing name
-name_matches (code ∷ codes) name =
-    if code == 42 then some_end (name_matches codes) name else one_more (fits code) (name_matches codes) name
+name_matches (None ∷ rest) name = some_end (name_matches rest) name
+name_matches (Some set ∷ rest) name = one_more (fits set) (name_matches rest) name
 
 -- Whether a pattern matches a path: `**` matches any number of parts, any other part of the pattern one part of the
 -- path.
-abbrev pub path_matches : List (List ℕ) → List (List ℕ) → Bool
+abbrev pub path_matches : List (List Element) → List (List ℕ) → Bool
 path_matches [] path = is_nothing path
 path_matches (first ∷ rest) path =
-    if bytes_eq first (codes "**") then some_end (path_matches rest) path
+    if is_any first then some_end (path_matches rest) path
     else one_more (name_matches first) (path_matches rest) path
 
 -- the parts of a path between slashes
@@ -45,10 +41,10 @@ parts path = slice_split (λ b. b == 47) path
 
 -- The parts of a pattern, whether it deselects what it matches, and whether it matches only directories.
 abbrev pub PatternContent : Type 0
-PatternContent = List (List ℕ) × Bool × Bool
+PatternContent = List (List Element) × Bool × Bool
 
 abbrev pub pattern : Pattern → PatternContent
-pattern p = (map string_bytes p.parts.items, p.is_negated, p.is_directory)
+pattern p = (parts_of p.parts.items, p.is_negated, p.is_directory)
 
 abbrev pub begins : ℕ → List ℕ → Bool
 begins code [] = false
@@ -75,15 +71,16 @@ abbrev pub without_root : List ℕ → List ℕ
 without_root text = if begins 47 text then drop 1 text else text
 
 -- The parts of a pattern: `**` comes first if it has no slash, and so matches names at any depth.
-abbrev pub pattern_parts : List ℕ → List (List ℕ)
-pattern_parts text =
-    (if contains 47 text then [] else codes "**" ∷ []) ++ parts (without_root text)
+abbrev pub pattern_parts : List ℕ → Option (List (List Element))
+pattern_parts text = glob_parts (without_root text) (not (contains 47 text))
 
--- The pattern that a text is; there is none without a part, or with `[` or a backslash.
+abbrev pub with_flags : Bool → Bool → List (List Element) → PatternContent
+with_flags negated directory parts = (parts, negated, directory)
+
+-- The pattern that a text is; there is none without a part.
 abbrev pub supported : Bool → Bool → List ℕ → Option PatternContent
 supported negated directory text =
-    if length text == 0 || contains 91 text || contains 92 text then None
-    else Some (pattern_parts text, negated, directory)
+    if length text == 0 then None else option_map (with_flags negated directory) (pattern_parts text)
 
 abbrev pub pattern_of : List ℕ → Option PatternContent
 pattern_of text =
@@ -112,10 +109,11 @@ after fits marks [] = []
 after fits [] (x ∷ xs) = false ∷ after fits [] xs
 after fits (m ∷ ms) (x ∷ xs) = (m && fits x) ∷ after fits ms xs
 
--- what one more byte, or one more part, of a pattern does with the marks
-abbrev pub name_step : ℕ → List Bool → List ℕ → List Bool
-name_step code marks name = if code == 42 then spread false marks else false ∷ after (fits code) marks name
+-- what one more element, or one more part, of a pattern does with the marks
+abbrev pub name_step : Element → List Bool → List ℕ → List Bool
+name_step None marks name = spread false marks
+name_step (Some set) marks name = false ∷ after (fits set) marks name
 
-abbrev pub path_step : List ℕ → List Bool → List (List ℕ) → List Bool
+abbrev pub path_step : List Element → List Bool → List (List ℕ) → List Bool
 path_step part marks path =
-    if bytes_eq part (codes "**") then spread false marks else false ∷ after (name_matches part) marks path
+    if is_any part then spread false marks else false ∷ after (name_matches part) marks path

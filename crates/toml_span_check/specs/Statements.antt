@@ -114,6 +114,10 @@ continues pieces s next = is_unreadable next.kind && nat_lt (margin pieces s) (m
 abbrev pub found_next : List Piece → List Statement → Statement → Option Statement
 found_next pieces ss s = find (λ next. nat_le s.end next.first && not (continues pieces s next)) ss
 
+-- a statement with an error and the statements that continue it, as one
+abbrev pub with_continued : List Piece → List Statement → Statement → Statement
+with_continued pieces ss s = record s { end = first_of pieces (found_next pieces ss s) }
+
 abbrev pub next_of : List ℕ → List Piece → List Statement → Statement → ℕ
 next_of text pieces ss s = unwrap_or (side_end text pieces ss s) (first_of pieces (found_next pieces ss s))
 

@@ -102,7 +102,7 @@ fn error_at(
     let clash = is_clash(&error.kind);
     let extent = extent_of(text, pieces, statements, from, place, clash);
     let made = error_report(alloc, error, copy)?;
-    let report = settled(alloc, text, pieces, extent.statement, made)?;
+    let report = settled(alloc, text, pieces, statements, extent.statement, made)?;
     Ok(ErrorAt {
         report,
         place,

@@ -100,10 +100,11 @@ pub(crate) fn settled(
     alloc: Global,
     text: &str,
     pieces: &[Piece],
+    statements: &[Statement],
     statement: Statement,
     mut report: Report,
 ) -> Result<Report, AllocError>
-    ensures { IfOk result (λ made. spec.IsSettled text.now pieces.now statement (report_content report)
+    ensures { IfOk result (λ made. spec.IsSettled text.now pieces.now statements.now statement (report_content report)
         (report_content made)) }
 {
     let repairs = report.replacements.as_slice();
@@ -111,7 +112,7 @@ pub(crate) fn settled(
         Some(FixLevel::Safe) => {}
         Some(FixLevel::Unsafe) | None => return Ok(report),
     }
-    if is_fixable(alloc, text, pieces, statement)? {
+    if is_fixable(alloc, text, pieces, statements, statement)? {
         return Ok(report);
     }
     report.replacements = all_unsafe(alloc, repairs)?;

@@ -1,6 +1,6 @@
 //! Fixes errors with the replacements of their reports.
-ghost use Rattle.std.specs.Prelude.{◌≡◌, ◌++◌, IfOk, IfSome, OnOk, map, option_map, position, string_bytes};
-ghost use Rattle.std.specs.Bool.{OnFalse, OnTrue};
+ghost use Rattle.std.specs.Prelude.{◌≡◌, ◌++◌, IfOk, IfSome, OnOk, length, map, option_map, position, string_bytes};
+ghost use Rattle.std.specs.Bool.{OnTrue};
 ghost use Rattle.std.specs.Str.{bytes_eq};
 ghost use Rattle.toml_span_tree.specs.Error.{content_of};
 ghost use Rattle.toml_span_places.specs.Replace.{edit_of};
@@ -9,8 +9,9 @@ ghost use Rattle.toml_span_safety.specs.Drafts as drafts;
 ghost use Rattle.toml_span_syntax.specs.Statements.{is_open_long};
 ghost use Rattle.toml_span_check.specs.Fixing as spec;
 ghost use Rattle.toml_span_check.specs.Safety as safety;
+ghost use Rattle.toml_span_check.specs.Statements.{own_bytes};
 
-use crate::statements::{is_continued, offset_of, own_bytes, own_pieces};
+use crate::statements::{is_continued, offset_of, own_bytes, own_pieces, with_continued};
 use std::alloc::{AllocError, Global};
 use toml_span::de::parse;
 use toml_span::{Error, Stop};
@@ -299,8 +300,8 @@ fn is_item(text: &str, pieces: &[Piece], index: usize) -> bool
         && byte_at(text.as_bytes(), next.saturating_add(1)) == b' '
 }
 
-/// Returns whether a statement may be fixed by itself: it is not after `way.limit`, and what follows is neither an
-/// unreadable line that is indented further nor an item of a YAML list, which may belong to it.
+/// Returns whether a statement may be fixed: it is not after `way.limit`, and what follows is neither an unreadable line
+/// that is indented further nor an item of a YAML list, which may belong to it.
 fn may_fix(text: &str, pieces: &[Piece], statement: Statement, way: Way) -> bool
     ensures { result ≡ safety.may_fix text.now pieces.now statement way.limit }
 {
@@ -408,35 +409,120 @@ fn push_kept(
     )
 }
 
-/// Appends a statement to the draft, with its errors fixed if they can be. Returns the number of errors fixed.
-fn push_fixed(
-    alloc: Global,
-    draft: &mut Draft,
-    text: &str,
-    pieces: &[Piece],
-    statement: Statement,
-    way: Way,
-) -> Result<usize, AllocError>
-    ensures { IfOk result (λ count. spec.AddsStatement text.now pieces.now statement way (drafts.draft draft.old) count
-        (drafts.draft draft.new)) }
+/// Returns whether a text is valid.
+fn is_document(alloc: Global, text: &str) -> Result<bool, AllocError>
+    ensures { IfOk result (spec.Judges text.now) }
 {
-    match fix_of(alloc, text, pieces, statement, way)? {
-        Some(fix) => {
-            push_fix(draft, &fix)?;
-            Ok(fix.new.count)
+    match parse(alloc, text) {
+        Ok(_) => Ok(true),
+        Err(Stop::Fault(error)) => {
+            drop(error);
+            Ok(false)
         }
-        None => {
-            push_kept(draft, text, pieces, statement)?;
-            Ok(0)
-        }
+        Err(Stop::Memory(error)) => Err(error),
     }
 }
 
-/// A new text in the making, with the number of errors fixed.
+/// Returns whether the text of a statement is valid by itself.
+fn is_valid(
+    alloc: Global,
+    text: &str,
+    pieces: &[Piece],
+    statement: Statement,
+) -> Result<bool, AllocError>
+    ensures { IfOk result (spec.Judges (own_bytes text.now pieces.now statement)) }
+{
+    match str::from_utf8(own_bytes(text, pieces, statement)) {
+        Ok(own) => is_document(alloc, own),
+        Err(_) => Ok(false),
+    }
+}
+
+/// Returns what is fixed together: the statement or, if it has an error, the statement and the lines that continue it,
+/// as one. `rest` has the statements after this one, perhaps also earlier ones.
+fn unit_of(
+    alloc: Global,
+    text: &str,
+    pieces: &[Piece],
+    rest: &[Statement],
+    statement: Statement,
+) -> Result<Statement, AllocError>
+    ensures { IfOk result (λ unit. spec.IsUnit text.now pieces.now rest.now statement unit) }
+{
+    if !is_continued(pieces, statement) {
+        return Ok(statement);
+    }
+    if is_valid(alloc, text, pieces, statement)? {
+        Ok(statement)
+    } else {
+        Ok(with_continued(pieces, rest, statement))
+    }
+}
+
+/// A new text in the making.
 #[derive(Drop)]
 struct Work {
     draft: Draft,
+    /// The number of errors fixed.
     count: usize,
+    /// The position after the last piece of the statements that were fixed together last, or could not be fixed
+    /// together.
+    end: usize,
+    /// Whether they were fixed.
+    is_fixed: bool,
+}
+
+/// Appends `unit`, which begins with this statement, with its errors fixed or, if they can't be fixed, only the
+/// statement.
+fn push_unit(
+    alloc: Global,
+    work: &mut Work,
+    text: &str,
+    pieces: &[Piece],
+    statement: Statement,
+    unit: Statement,
+    way: Way,
+) -> Result<(), AllocError>
+    ensures { OnOk result (spec.AddsUnit text.now pieces.now statement unit way (spec.work work.old)
+        (spec.work work.new)) }
+{
+    work.end = unit.end;
+    match fix_of(alloc, text, pieces, unit, way)? {
+        Some(fix) => {
+            push_fix(&mut work.draft, &fix)?;
+            work.count = work.count.saturating_add(fix.new.count);
+            work.is_fixed = true;
+        }
+        None => {
+            push_kept(&mut work.draft, text, pieces, statement)?;
+            work.is_fixed = false;
+        }
+    }
+    Ok(())
+}
+
+/// Appends the statement at the position `at`, unless it has been fixed together with an earlier one. It is fixed if it
+/// can be, and does not continue a statement that can't be fixed.
+fn push_fixed(
+    alloc: Global,
+    work: &mut Work,
+    text: &str,
+    pieces: &[Piece],
+    rest: &[Statement],
+    statement: Statement,
+    way: Way,
+) -> Result<(), AllocError>
+    ensures { OnOk result (spec.AddsStatement text.now pieces.now rest.now statement way (spec.work work.old)
+        (spec.work work.new)) }
+{
+    if work.end <= statement.first {
+        let unit = unit_of(alloc, text, pieces, rest, statement)?;
+        push_unit(alloc, work, text, pieces, statement, unit, way)
+    } else if work.is_fixed {
+        Ok(())
+    } else {
+        push_kept(&mut work.draft, text, pieces, statement)
+    }
 }
 
 /// Returns a draft of all the statements, each with its errors fixed if they can be.
@@ -447,22 +533,33 @@ fn drafted(
     statements: &[Statement],
     way: Way,
 ) -> Result<Work, AllocError>
-    ensures { IfOk result (λ work. spec.Drafts text.now pieces.now way statements.now work.count
-        (drafts.draft work.draft)) }
+    ensures { IfOk result (λ work. spec.Drafts text.now pieces.now statements.now way (length statements.now)
+        (spec.work work)) }
 {
-    let mut draft = empty(alloc);
-    let mut count = 0usize;
-    for statement in statements {
-        let more = push_fixed(alloc, &mut draft, text, pieces, *statement, way)?;
-        count = count.saturating_add(more);
+    let mut work = Work {
+        draft: empty(alloc),
+        count: 0,
+        end: 0,
+        is_fixed: false,
+    };
+    for at in 0..statements.len() {
+        push_fixed(
+            alloc,
+            &mut work,
+            text,
+            pieces,
+            &statements[at..],
+            statements[at],
+            way,
+        )?;
     }
-    Ok(Work { draft, count })
+    Ok(work)
 }
 
 /// Returns the text of the draft if it has the pieces and statements that it must have. Returns `None` if there are no
 /// fixes, or if it has others.
 fn finished(alloc: Global, work: &Work) -> Result<Option<Fixed>, AllocError>
-    ensures { IfOk result (λ made. spec.Finishes work.now.count (drafts.draft work.now.draft)
+    ensures { IfOk result (λ made. spec.Finishes (spec.work work.now)
         (option_map spec.fixed made)) }
 {
     let Ok(new) = str::from_utf8(work.draft.text.as_slice()) else {
@@ -498,12 +595,13 @@ fn with_statements_fixed(
 
 /// Fixes errors of a source. Returns the new source with the number of errors fixed.
 ///
-/// Each statement of the source (a header, an assignment, or a line that is neither) is fixed by itself. As long as it
-/// has an error, the replacements of the first error's report are made. Either all its errors are fixed, at most 100,
-/// or the statement stays as it is. The statements around it stay the same, and are read as before. If the new source
-/// had other statements than these, the source is returned unchanged. Statements after a multi-line string that is not
-/// closed stay as they are, since they may be parts of the string. So does a statement before a line that may belong to
-/// it: an unreadable line that is indented further, or an item of a YAML list.
+/// Each statement of the source (a header, an assignment, or a line that is neither) is fixed by itself, but a statement
+/// with an error together with the lines that continue it: the next lines, as long as they are unreadable and indented
+/// further. As long as there is an error, the replacements of the first error's report are made. Either all errors are
+/// fixed, at most 100, or the statement and these lines stay as they are. The statements around it stay the same, and
+/// are read as before. If the new source had other statements than these, the source is returned unchanged. Statements
+/// after a multi-line string that is not closed stay as they are, since they may be parts of the string. So does a
+/// statement before an item of a YAML list.
 ///
 /// At `FixLevel::Safe`, all replacements are safe, and the quotes that they add enclose a whole value. At either level,
 /// a statement keeps its comments, except that the markers `//` and `;` of comments become `#`. Takes time linear in
@@ -536,21 +634,23 @@ fn position_of(text: &str, pieces: &[Piece], statements: &[Statement], place: us
     found
 }
 
-/// Returns whether `with_fixes` at `FixLevel::Safe` fixes the errors of this statement of a text.
+/// Returns whether `with_fixes` at `FixLevel::Safe` fixes the errors of this statement of a text, which does not continue
+/// another one.
 pub(crate) fn is_fixable(
     alloc: Global,
     text: &str,
     pieces: &[Piece],
+    statements: &[Statement],
     statement: Statement,
 ) -> Result<bool, AllocError>
-    ensures fixable { IfOk result (λ fixes. OnTrue fixes (spec.HasFix text.now pieces.now statement)) }
-    ensures not_fixable { IfOk result (λ fixes. OnFalse fixes (spec.HasNoFix text.now pieces.now statement)) }
+    ensures { IfOk result (λ fixes. spec.CanFix text.now pieces.now statements.now statement fixes) }
 {
+    let unit = unit_of(alloc, text, pieces, statements, statement)?;
     let way = way_of(pieces, FixLevel::Safe);
-    let Some(_) = fix_of(alloc, text, pieces, statement, way)? else {
-        return Ok(false);
-    };
-    Ok(true)
+    match fix_of(alloc, text, pieces, unit, way)? {
+        Some(_) => Ok(true),
+        None => Ok(false),
+    }
 }
 
 /// Appends the statements to the draft as they are.

@@ -14,17 +14,22 @@ use std::{fs, io};
 use toml_span_lines::run::{Cut, read_bytes};
 use toml_span_lines::tracked::Tracked;
 
-/// The name of files that contain patterns of paths to ignore.
-const IGNORE: &str = ".gitignore";
+/// The names of files that contain patterns of paths to ignore. In the same directory, the later one overrides the
+/// earlier one.
+const IGNORES: [&str; 2] = [".gitignore", ".ignore"];
 
-/// The patterns of a `.gitignore` file.
+/// The patterns of an ignore file: `.gitignore`, `.ignore` or `.git/info/exclude`.
 #[derive(Drop)]
 struct Ignore {
     patterns: Vec<Pattern>,
-    /// The length in bytes of the path of the file's directory, including the slash at its end.
+    /// The path of the directory to search, relative to that of the patterns, with a slash at its end. Empty if it is
+    /// not below the directory of the patterns.
+    front: String,
+    /// The length in bytes of the path of the directory of the patterns, or of the directory to search if that is below
+    /// it, including the slash at its end.
     length: usize,
-    /// The position in `Below::ignores` of the nearest `.gitignore` file in a directory above that of this file, if
-    /// there is one.
+    /// The position in `Below::ignores` of the ignore file that applies if no pattern of this file matches, if there is
+    /// one: the nearest one in this directory or above.
     above: Option<usize>,
 }
 
@@ -32,8 +37,7 @@ struct Ignore {
 #[derive(Drop)]
 struct Folder {
     path: String,
-    /// The position in `Below::ignores` of the nearest `.gitignore` file in a directory above this one, if there is
-    /// one.
+    /// The position in `Below::ignores` of the nearest ignore file in a directory above this one, if there is one.
     ignore: Option<usize>,
 }
 
@@ -142,9 +146,51 @@ fn is_passed_over(name: &str) -> bool
     name.starts_with('.') || name == "target" || name == "node_modules"
 }
 
+/// Returns whether there is anything at `path`. Returns `false` if the system reports an error.
+fn exists(rt: &HostRuntime, path: &str) -> bool {
+    fs::symlink_metadata(rt, path).is_ok()
+}
+
+/// Returns the absolute path of a directory, without links. Returns an empty string if the system reports an error.
+fn real_path(rt: &HostRuntime, alloc: Global, folder: &str) -> Result<String, AllocError> {
+    match fs::canonicalize(rt, folder) {
+        Ok(path) => String::from_str(alloc, path.to_string_lossy()),
+        Err(error) if error.kind() == ErrorKind::OutOfMemory => Err(AllocError),
+        Err(_) => Ok(String::new(alloc)),
+    }
+}
+
+/// Returns the length in bytes of the path of the nearest directory that has `.git`: the directory with the absolute
+/// path `folder`, or one above it. Does not count a slash at the end. Returns `None` if there is none.
+fn repository(rt: &HostRuntime, alloc: Global, folder: &str) -> Result<Option<usize>, AllocError> {
+    let mut end = folder.trim_end_matches('/').len();
+    for _ in 0..=folder.len() {
+        let top = folder.get(..end).unwrap_or("");
+        if exists(rt, format!(in alloc; "{top}/.git")?.as_str()) {
+            return Ok(Some(end));
+        }
+        match top.rfind('/') {
+            Some(slash) => end = slash,
+            None => return Ok(None),
+        }
+    }
+    Ok(None)
+}
+
+/// Returns the path of a directory below another one, relative to it, with a slash at its end. `length` is the length in
+/// bytes of the other one's path. Returns an empty string for the other directory itself.
+fn front_of(alloc: Global, folder: &str, length: usize) -> Result<String, AllocError> {
+    let rest = folder.get(length..).unwrap_or("");
+    let rest = rest.strip_prefix('/').unwrap_or(rest);
+    if rest.is_empty() {
+        return Ok(String::new(alloc));
+    }
+    format!(in alloc; "{rest}/")
+}
+
 impl Below {
-    /// Returns whether `.gitignore` files ignore `path`. `ignore` is the position in `ignores` of the nearest such
-    /// file, if there is one. The nearest file with a pattern that matches `path` decides.
+    /// Returns whether ignore files ignore `path`. `ignore` is the position in `ignores` of the nearest such file, if
+    /// there is one. The nearest file with a pattern that matches `path` decides.
     fn is_ignored(
         &self,
         alloc: Global,
@@ -160,9 +206,10 @@ impl Below {
             let Some(ignore) = self.ignores.get(at) else {
                 return Ok(false);
             };
-            let inside = path.get(ignore.length..).unwrap_or(path);
             let patterns = ignore.patterns.as_slice();
-            if let Some(found) = last_match(alloc, patterns, inside, is_directory)? {
+            let mut inside = String::from_str(alloc, ignore.front.as_str())?;
+            inside.push_str(path.get(ignore.length..).unwrap_or(path))?;
+            if let Some(found) = last_match(alloc, patterns, inside.as_str(), is_directory)? {
                 return Ok(found);
             }
             next = ignore.above;
@@ -170,8 +217,8 @@ impl Below {
         Ok(false)
     }
 
-    /// Returns whether to leave out `path`, because of its name, a pattern of `--exclude` or a `.gitignore` file.
-    /// `ignore` is the position in `ignores` of the nearest `.gitignore` file, if there is one.
+    /// Returns whether to leave out `path`, because of its name, a pattern of `--exclude` or an ignore file. `ignore`
+    /// is the position in `ignores` of the nearest ignore file, if there is one.
     fn is_left_out(
         &self,
         alloc: Global,
@@ -191,7 +238,7 @@ impl Below {
     }
 
     /// Adds the directory `path` to the directories to search, unless `is_left_out` returns `true` for it. `ignore` is
-    /// the position in `ignores` of the nearest `.gitignore` file, if there is one.
+    /// the position in `ignores` of the nearest ignore file, if there is one.
     fn push_folder(
         &mut self,
         alloc: Global,
@@ -205,7 +252,7 @@ impl Below {
     }
 
     /// Adds `path` to the files found if it ends in `.toml`, may be a file, and is not left out. `ignore` is the
-    /// position in `ignores` of the nearest `.gitignore` file, if there is one.
+    /// position in `ignores` of the nearest ignore file, if there is one.
     fn push_file(
         &mut self,
         rt: &HostRuntime,
@@ -245,8 +292,68 @@ impl Below {
         }
     }
 
-    /// Reads the `.gitignore` file of `folder`, if it is among `names`, the names in the directory. Returns the
-    /// position in `ignores` of the nearest `.gitignore` file, in the directory or above, if there is one.
+    /// Reads the ignore file at `path`, unless it has no patterns or can't be read. `front` and `length` are those of
+    /// `Ignore`, and `above` is the position in `ignores` of the ignore file that applies if this file does not decide.
+    /// Returns the position of the ignore file that applies first.
+    fn push_ignore(
+        &mut self,
+        rt: &HostRuntime,
+        alloc: Global,
+        path: &str,
+        front: String,
+        length: usize,
+        above: Option<usize>,
+    ) -> Result<Option<usize>, AllocError> {
+        let text = text_of(rt, alloc, path)?;
+        let patterns = ignore_patterns(alloc, text.as_str())?;
+        if patterns.is_empty() {
+            return Ok(above);
+        }
+        let at = self.ignores.len();
+        self.ignores.push(Ignore {
+            patterns,
+            front,
+            length,
+            above,
+        })?;
+        Ok(Some(at))
+    }
+
+    /// Reads the ignore files that apply to `folder`, the directory to search, but are not in it or below it: those of
+    /// the directories above it, up to the one that has `.git`, and `.git/info/exclude`. Reads none if there is no such
+    /// directory. Returns the position in `ignores` of the nearest one, if there is one.
+    fn push_above(
+        &mut self,
+        rt: &HostRuntime,
+        alloc: Global,
+        folder: &str,
+    ) -> Result<Option<usize>, AllocError> {
+        let real = real_path(rt, alloc, folder)?;
+        let real = real.as_str();
+        let Some(top) = repository(rt, alloc, real)? else {
+            return Ok(None);
+        };
+        let length = path_of(alloc, folder, b"")?.len();
+        let root = real.get(..top).unwrap_or("");
+        let exclude = format!(in alloc; "{root}/.git/info/exclude")?;
+        let front = front_of(alloc, real, top)?;
+        let mut ignore = self.push_ignore(rt, alloc, exclude.as_str(), front, length, None)?;
+        for (end, byte) in real.bytes().enumerate() {
+            if byte != b'/' || end < top || end + 1 == real.len() {
+                continue;
+            }
+            let above = real.get(..end).unwrap_or("");
+            for name in IGNORES {
+                let path = format!(in alloc; "{above}/{name}")?;
+                let front = front_of(alloc, real, end)?;
+                ignore = self.push_ignore(rt, alloc, path.as_str(), front, length, ignore)?;
+            }
+        }
+        Ok(ignore)
+    }
+
+    /// Reads the ignore files of `folder` that are among `names`, the names in the directory. Returns the position in
+    /// `ignores` of the nearest ignore file, in the directory or above, if there is one.
     fn ignore_of(
         &mut self,
         rt: &HostRuntime,
@@ -254,21 +361,19 @@ impl Below {
         folder: &Folder,
         names: &[Vec<u8>],
     ) -> Result<Option<usize>, AllocError> {
-        if !names
-            .iter()
-            .any(|name| name.as_slice() == IGNORE.as_bytes())
-        {
-            return Ok(folder.ignore);
+        let length = path_of(alloc, folder.path.as_str(), b"")?.len();
+        let mut ignore = folder.ignore;
+        for name in IGNORES {
+            if names
+                .iter()
+                .any(|other| other.as_slice() == name.as_bytes())
+            {
+                let path = path_of(alloc, folder.path.as_str(), name.as_bytes())?;
+                let front = String::new(alloc);
+                ignore = self.push_ignore(rt, alloc, path.as_str(), front, length, ignore)?;
+            }
         }
-        let path = path_of(alloc, folder.path.as_str(), IGNORE.as_bytes())?;
-        let text = text_of(rt, alloc, path.as_str())?;
-        let at = self.ignores.len();
-        self.ignores.push(Ignore {
-            patterns: ignore_patterns(alloc, text.as_str())?,
-            length: path.len().saturating_sub(IGNORE.len()),
-            above: folder.ignore,
-        })?;
-        Ok(Some(at))
+        Ok(ignore)
     }
 
     /// Adds the files and directories in `folder`. If the directory can't be listed, adds its path to the files found,
@@ -308,8 +413,9 @@ fn patterns_of(alloc: Global, texts: &[&str]) -> Result<Vec<Pattern>, AllocError
 /// Returns the sorted paths of the TOML files below a directory. Does not follow links to directories. A directory that
 /// can't be listed is included, so that reading it reports why.
 ///
-/// Leaves out paths that the patterns `excludes`, or those of `.gitignore` files in the directory or below, exclude.
-/// Leaves out directories that are hidden or named `target` or `node_modules`.
+/// Leaves out paths that the patterns `excludes` exclude, or those of the files `.gitignore` and `.ignore`: of the
+/// directories that are searched and, if the directory is in a Git repository, of those above it in the repository, and
+/// `.git/info/exclude`. Leaves out directories that are hidden or named `target` or `node_modules`.
 pub(crate) fn files_below(
     rt: &HostRuntime,
     alloc: Global,
@@ -322,10 +428,12 @@ pub(crate) fn files_below(
     let path = String::from_str(alloc, folder)?;
     let mut below = Below {
         files: Vec::new(alloc),
-        folders: vec![in alloc; Folder { path, ignore: None }]?,
+        folders: Vec::new(alloc),
         ignores: Vec::new(alloc),
         excludes: patterns_of(alloc, excludes)?,
     };
+    let ignore = below.push_above(rt, alloc, folder)?;
+    below.folders.push(Folder { path, ignore })?;
     for _ in 0..u64::MAX {
         match below.folders.pop() {
             Some(folder) => below.look_into(rt, alloc, folder)?,

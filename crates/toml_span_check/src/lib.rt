@@ -11,6 +11,7 @@ pub mod fixing;
 pub mod folder;
 pub mod formats;
 mod github;
+mod globs;
 pub mod input;
 pub mod lints;
 pub mod newer;

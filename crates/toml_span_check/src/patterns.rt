@@ -1,8 +1,10 @@
 //! Patterns of paths, as in `.gitignore` files.
-ghost use Rattle.std.specs.Prelude.{◌≡◌, ◌++◌, ◌∷◌, IfOk, OnOk, None, false, map, option_map};
-ghost use Rattle.std.specs.Prelude.{get_or, replicate, string_bytes, true};
+ghost use Rattle.std.specs.Prelude.{◌≡◌, ◌∷◌, IfOk, None, false, map, option_map};
+ghost use Rattle.std.specs.Prelude.{get_or, replicate, true};
+ghost use Rattle.toml_span_check.specs.Globs as globs;
 ghost use Rattle.toml_span_check.specs.Patterns as spec;
 
+use crate::globs::{Code, Range, Set, is_any, parts_of_glob};
 use std::alloc::{AllocError, Global};
 
 // ---- matching
@@ -45,44 +47,68 @@ fn is_marked(marks: &[bool], index: usize) -> bool
     }
 }
 
-/// Returns whether a byte of a pattern matches a byte of a name.
-fn fits(code: u8, byte: u8) -> bool
-    ensures { result ≡ spec.fits code byte }
+/// Returns whether a byte is in one of the ranges.
+fn in_ranges(ranges: &[Range], byte: u8) -> bool
+    ensures { result ≡ globs.in_ranges ranges.now byte }
 {
-    code == b'?' || code == byte
+    for range in ranges {
+        if range.first <= byte && byte <= range.last {
+            return true;
+        }
+    }
+    false
 }
 
-/// Marks what follows the first byte of each marked suffix, if `code` matches that byte.
-fn after_byte(alloc: Global, marks: &[bool], code: u8, name: &[u8]) -> Result<Vec<bool>, AllocError>
-    ensures { IfOk result (λ next. next.items ≡ false ∷ spec.after (spec.fits code) marks.now name.now) }
+/// Returns whether a byte of a name is in a set.
+fn fits(set: &Set, byte: u8) -> bool
+    ensures { result ≡ globs.fits (globs.set_of set.now) byte }
+{
+    if set.is_negated {
+        !in_ranges(set.ranges.as_slice(), byte)
+    } else {
+        in_ranges(set.ranges.as_slice(), byte)
+    }
+}
+
+/// Marks what follows the first byte of each marked suffix, if that byte is in a set.
+fn after_byte(
+    alloc: Global,
+    marks: &[bool],
+    set: &Set,
+    name: &[u8],
+) -> Result<Vec<bool>, AllocError>
+    ensures { IfOk result (λ next. next.items ≡ false ∷ spec.after (globs.fits (globs.set_of set.now)) marks.now name.now) }
 {
     let mut next = Vec::new(alloc);
     next.push(false)?;
     for (index, byte) in name.iter().enumerate() {
-        next.push(is_marked(marks, index) & fits(code, *byte))?;
+        next.push(is_marked(marks, index) & fits(set, *byte))?;
     }
     Ok(next)
 }
 
-/// Returns the marks after one more byte of a pattern.
-fn name_step(alloc: Global, marks: &[bool], code: u8, name: &[u8]) -> Result<Vec<bool>, AllocError>
-    ensures { IfOk result (λ next. next.items ≡ spec.name_step code marks.now name.now) }
+/// Returns the marks after one more element of a pattern.
+fn name_step(
+    alloc: Global,
+    marks: &[bool],
+    code: &Code,
+    name: &[u8],
+) -> Result<Vec<bool>, AllocError>
+    ensures { IfOk result (λ next. next.items ≡ spec.name_step (globs.element code.now) marks.now name.now) }
 {
-    if code == b'*' {
-        spread(alloc, marks)
-    } else {
-        after_byte(alloc, marks, code, name)
+    match code {
+        Code::Star => spread(alloc, marks),
+        Code::One(set) => after_byte(alloc, marks, set, name),
     }
 }
 
-/// Returns whether a pattern without slashes matches a name. `*` matches any number of bytes, `?` one byte, and any
-/// other byte itself. Fails if an allocation fails.
-fn name_matches(alloc: Global, pattern: &[u8], name: &[u8]) -> Result<bool, AllocError>
-    ensures { IfOk result (λ found. found ≡ spec.name_matches pattern.now name.now) }
+/// Returns whether a part of a pattern matches a name. Fails if an allocation fails.
+fn name_matches(alloc: Global, pattern: &[Code], name: &[u8]) -> Result<bool, AllocError>
+    ensures { IfOk result (λ found. found ≡ spec.name_matches (globs.codes_of pattern.now) name.now) }
 {
     let mut marks = first_marks(alloc, name.len())?;
     for code in pattern {
-        marks = name_step(alloc, marks.as_slice(), *code, name)?;
+        marks = name_step(alloc, marks.as_slice(), code, name)?;
     }
     Ok(is_marked(marks.as_slice(), name.len()))
 }
@@ -91,16 +117,17 @@ fn name_matches(alloc: Global, pattern: &[u8], name: &[u8]) -> Result<bool, Allo
 fn after_part(
     alloc: Global,
     marks: &[bool],
-    pattern: &str,
+    pattern: &[Code],
     path: &[&str],
 ) -> Result<Vec<bool>, AllocError>
     ensures { IfOk result (λ next. next.items
-        ≡ false ∷ spec.after (spec.name_matches pattern.now) marks.now (map (λ part. part.now) path.now)) }
+        ≡ false ∷ spec.after (spec.name_matches (globs.codes_of pattern.now)) marks.now
+        (map (λ part. part.now) path.now)) }
 {
     let mut next = Vec::new(alloc);
     next.push(false)?;
     for (index, part) in path.iter().enumerate() {
-        let is_match = name_matches(alloc, pattern.as_bytes(), part.as_bytes())?;
+        let is_match = name_matches(alloc, pattern, part.as_bytes())?;
         next.push(is_marked(marks, index) & is_match)?;
     }
     Ok(next)
@@ -110,13 +137,13 @@ fn after_part(
 fn path_step(
     alloc: Global,
     marks: &[bool],
-    part: &str,
+    part: &[Code],
     path: &[&str],
 ) -> Result<Vec<bool>, AllocError>
     ensures { IfOk result (λ next. next.items
-        ≡ spec.path_step part.now marks.now (map (λ part. part.now) path.now)) }
+        ≡ spec.path_step (globs.codes_of part.now) marks.now (map (λ part. part.now) path.now)) }
 {
-    if part == "**" {
+    if is_any(part) {
         spread(alloc, marks)
     } else {
         after_part(alloc, marks, part, path)
@@ -125,13 +152,13 @@ fn path_step(
 
 /// Returns whether a pattern matches a path, both given as their parts between slashes. `**` matches any number of
 /// parts, and any other part matches one part. Fails if an allocation fails.
-fn path_matches(alloc: Global, pattern: &[String], path: &[&str]) -> Result<bool, AllocError>
+fn path_matches(alloc: Global, pattern: &[Vec<Code>], path: &[&str]) -> Result<bool, AllocError>
     ensures { IfOk result (λ found. found
-        ≡ spec.path_matches (map string_bytes pattern.now) (map (λ part. part.now) path.now)) }
+        ≡ spec.path_matches (globs.parts_of pattern.now) (map (λ part. part.now) path.now)) }
 {
     let mut marks = first_marks(alloc, path.len())?;
     for part in pattern {
-        marks = path_step(alloc, marks.as_slice(), part.as_str(), path)?;
+        marks = path_step(alloc, marks.as_slice(), part.as_slice(), path)?;
     }
     Ok(is_marked(marks.as_slice(), path.len()))
 }
@@ -142,7 +169,7 @@ fn path_matches(alloc: Global, pattern: &[String], path: &[&str]) -> Result<bool
 #[derive(Drop)]
 pub struct Pattern {
     /// The parts between slashes. The first is `**` if the pattern matches at any depth.
-    parts: Vec<String>,
+    parts: Vec<Vec<Code>>,
     /// Whether the pattern begins with `!`, and so deselects the paths that it matches (see `last_match`).
     is_negated: bool,
     /// Whether the pattern matches only directories.
@@ -177,29 +204,6 @@ fn without_root<'t>(text: &'t str) -> &'t str
     }
 }
 
-/// Appends copies of the parts of a path.
-fn push_parts(alloc: Global, parts: &mut Vec<String>, path: &str) -> Result<(), AllocError>
-    ensures { OnOk result (map string_bytes parts.new.items ≡ map string_bytes parts.old.items ++ spec.parts path.now) }
-{
-    for part in path.split('/') {
-        parts.push(String::from_str(alloc, part)?)?;
-    }
-    Ok(())
-}
-
-/// Removes a slash at the start of a pattern, and splits the rest at its slashes. Puts `**` first if the pattern has no
-/// slash.
-fn pattern_parts(alloc: Global, text: &str) -> Result<Vec<String>, AllocError>
-    ensures { IfOk result (λ parts. map string_bytes parts.items ≡ spec.pattern_parts text.now) }
-{
-    let mut parts = Vec::new(alloc);
-    if !contains(text, b'/') {
-        parts.push(String::from_str(alloc, "**")?)?;
-    }
-    push_parts(alloc, &mut parts, without_root(text))?;
-    Ok(parts)
-}
-
 /// Removes a `!` at the start of a text. Returns whether there was a `!`, and the rest.
 fn without_mark<'t>(text: &'t str) -> (bool, &'t str)
     ensures { (result.0, result.1.now) ≡ spec.without_mark text.now }
@@ -220,36 +224,55 @@ fn without_slash<'t>(text: &'t str) -> (bool, &'t str)
     }
 }
 
-/// Parses a pattern. A `!` at the start negates the pattern. With a slash at the end, the pattern matches only
-/// directories. With any other slash, it matches whole paths, otherwise names at any depth.
+/// Parses a pattern, as Git does: a `!` at the start negates it. With a slash at the end, it matches only directories.
+/// With any other slash, it matches whole paths, otherwise names at any depth. `*` and `?` match any number of bytes and
+/// one byte of a name, `**` any number of directories, a class such as `[a-z]` or `[!a-z]` one byte, and a byte after a
+/// backslash matches itself.
 ///
-/// Returns `None` if nothing is left without the `!` and the slash at the end. Returns `None` also for a pattern with
-/// `[` or a backslash, which are not supported. Fails if an allocation fails.
+/// Returns `None` if nothing is left without the `!` and the slash at the end, and for a pattern that matches nothing,
+/// since a class is not closed or it ends in a backslash. Named classes such as `[[:alpha:]]` are not supported: they
+/// return `None` too. Fails if an allocation fails.
 pub fn pattern_of(alloc: Global, text: &str) -> Result<Option<Pattern>, AllocError>
     ensures { IfOk result (λ pattern. option_map spec.pattern pattern ≡ spec.pattern_of text.now) }
 {
     let (is_negated, text) = without_mark(text);
     let (is_directory, text) = without_slash(text);
-    if text.is_empty() || contains(text, b'[') || contains(text, b'\\') {
+    if text.is_empty() {
         return Ok(None);
     }
-    Ok(Some(Pattern {
-        parts: pattern_parts(alloc, text)?,
-        is_negated,
-        is_directory,
-    }))
+    let inside = without_root(text).as_bytes();
+    match parts_of_glob(alloc, inside, !contains(text, b'/'))? {
+        Some(parts) => Ok(Some(Pattern {
+            parts,
+            is_negated,
+            is_directory,
+        })),
+        None => Ok(None),
+    }
+}
+
+/// Returns a line of a `.gitignore` file without the spaces at its end, except for one after a backslash.
+fn without_spaces(line: &str) -> &str {
+    let mut end = 0usize;
+    let mut is_escaped = false;
+    for (index, byte) in line.bytes().enumerate() {
+        if is_escaped || byte != b' ' {
+            end = index.saturating_add(1);
+        }
+        is_escaped = !is_escaped && byte == b'\\';
+    }
+    line.get(..end).unwrap_or(line)
 }
 
 /// Returns the patterns of the lines of a `.gitignore` file, in order. Leaves out comments, and lines that `pattern_of`
 /// can't parse.
 pub(crate) fn ignore_patterns(alloc: Global, text: &str) -> Result<Vec<Pattern>, AllocError> {
     let mut patterns = Vec::new(alloc);
-    for line in text.lines() {
-        let line = line.trim_end_matches(' ');
+    for line in text.strip_prefix('\u{FEFF}').unwrap_or(text).lines() {
         if line.starts_with('#') {
             continue;
         }
-        if let Some(pattern) = pattern_of(alloc, line)? {
+        if let Some(pattern) = pattern_of(alloc, without_spaces(line))? {
             patterns.push(pattern)?;
         }
     }

@@ -251,6 +251,22 @@ fn found_next(pieces: &[Piece], statements: &[Statement], statement: Statement) 
         && !continues(pieces, statement, *s))
 }
 
+/// Returns a statement, which has an error, and the statements after it that continue it, as one. `statements` has those
+/// after it, perhaps also earlier ones.
+pub(crate) fn with_continued(
+    pieces: &[Piece],
+    statements: &[Statement],
+    statement: Statement,
+) -> Statement
+    ensures { result ≡ spec.with_continued pieces.now statements.now statement }
+{
+    Statement {
+        kind: statement.kind,
+        first: statement.first,
+        end: first_of(pieces, found_next(pieces, statements, statement)),
+    }
+}
+
 /// Returns the position at which reading goes on after a statement with an error.
 fn next_of(text: &str, pieces: &[Piece], statements: &[Statement], statement: Statement) -> usize
     ensures { result ≡ spec.next_of text.now pieces.now statements.now statement }
