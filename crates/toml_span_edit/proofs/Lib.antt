@@ -1,4 +1,6 @@
 pub mod Around
 pub mod CommentLemmas
 pub mod Elements
+pub mod Refusals
 pub mod Steps
+pub mod EditedAt

@@ -34,14 +34,6 @@ edits_next es i d text before after h done m =
     subst (λ (fs : List Edit). EditsMade fs text after) (sym (take_more es i d h))
     (edits_more (take i es) (get_or es i d) text before after done m)
 
--- the first edit, and then the others
-pub edits_first : (es : List Edit) (d : Edit) (text mid after : List ℕ) →
-    1 ≤ length es → EditMade (get_or es 0 d) text mid → EditsMade (take (length es - 1) (drop 1 es)) mid after →
-    EditsMade es text after
-edits_first [] d text mid after h m rest = absurd (omega arith)
-edits_first (e ∷ es) d text mid after h m rest =
-    (mid, m, subst (λ (fs : List Edit). EditsMade fs mid after) (take_all (length (e ∷ es) - 1) es (omega arith)) rest)
-
 -- a segment that is lent
 abbrev pub now_of : Bor (List ℕ) → List ℕ
 now_of segment = segment.now

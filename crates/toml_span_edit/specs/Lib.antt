@@ -4,4 +4,6 @@ pub mod Paths
 pub mod Comments
 pub mod Kept
 pub mod Edited
+pub mod Refused
+pub mod Drafts
 pub mod Listed

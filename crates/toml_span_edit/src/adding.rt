@@ -274,11 +274,11 @@ pub(crate) fn add(
 ) -> Result<(), Stop<Reason>> {
     check_value(document.alloc, value)?;
     let [front @ .., name] = path else {
-        return Err(Stop::Fault(Reason::AlreadyThere));
+        return Err(Stop::Fault(Reason::AlreadyThere(String::new(document.alloc))));
     };
     let target = table_entry_site(document, front)?;
     if !document.mentions(path)?.is_empty() {
-        return Err(Stop::Fault(Reason::AlreadyThere));
+        return Err(Stop::Fault(Reason::AlreadyThere(String::new(document.alloc))));
     }
     let key = key_text(document.alloc, *name)?;
     put_entry(document, target, key.as_str(), bare(value), plan)?;

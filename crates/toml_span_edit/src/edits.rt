@@ -1,12 +1,15 @@
 //! Collects edits of a document, and makes them one after the other.
-ghost use Rattle.std.specs.Prelude.{◌≡◌, IfOk, [], string_bytes};
+ghost use Rattle.std.specs.Prelude.{◌≡◌, IfErr, IfOk, [], string_bytes};
 ghost use Rattle.toml_span_edit.specs.Edited as spec;
+ghost use Rattle.toml_span_edit.specs.Refused as refusals;
 ghost use Rattle.toml_span_edit.specs.Listed.{Pushed};
 ghost use Rattle.toml_span_edit.specs.declared.edits.Change.TheVariants as changes;
 
 use crate::reason::Reason;
 use crate::step::step;
 use std::alloc::{AllocError, Global};
+use std::fmt;
+use std::fmt::{Display, Formatter, Write};
 use toml_span::Stop;
 
 /// What an edit does at its path. Values are written as TOML, such as `1`, `"a"` or `[1, 2]`.
@@ -55,6 +58,15 @@ pub struct EditError {
     pub edit: usize,
     pub reason: Reason,
 }
+
+/// Writes the number of the edit, counted from 1, and the reason: `edit 1: there is nothing at this path`.
+impl Display for EditError {
+    fn fmt<W: Write>(&self, f: &mut Formatter<W>) -> fmt::Result {
+        write!(f, "edit {}: {}", self.edit.saturating_add(1), self.reason)
+    }
+}
+
+impl std::error::Error for EditError {}
 
 /// A list of edits, which `finish` makes one after the other.
 #[derive(Drop)]
@@ -180,7 +192,7 @@ impl<'e> Edits<'e> {
     /// Fails with the position and the reason of the first edit that is refused, and with `Stop::Memory` if an
     /// allocation fails. An edit is also refused if it would change anything else in the tree of the document.
     pub fn finish(self) -> Result<String, Stop<EditError>>
-        ensures { IfOk result (λ new. spec.EditsMade self.entry.list.items self.entry.text.now (string_bytes new)) }
+        ensures { refusals.IsFinished self.entry.list.items self.entry.text.now result }
     {
         all_made(self.alloc, self.text, self.list.as_slice())
     }
@@ -188,54 +200,40 @@ impl<'e> Edits<'e> {
 
 /// Makes `edit` in `text`, and returns the new text. Fails with the reason and with `index`, the position of `edit` in
 /// its list, if `edit` is refused.
-fn edit_made(
+pub(crate) fn edit_made(
     alloc: Global,
     text: &str,
     edit: Edit<'_>,
     index: usize,
 ) -> Result<String, Stop<EditError>>
-    ensures { IfOk result (λ new. spec.EditMade edit.entry text.now (string_bytes new)) }
+    ensures made { IfOk result (λ new. spec.EditMade edit.entry text.now (string_bytes new)) }
+    ensures refused { IfErr result (refusals.IsRefusedAt index edit.entry text.now) }
 {
     match step(alloc, text, edit) {
         Ok(new) => Ok(new),
-        Err(stop) => Err(refused(index, stop)),
+        Err(Stop::Memory(error)) => Err(Stop::Memory(error)),
+        Err(Stop::Fault(reason)) => Err(Stop::Fault(EditError {
+            edit: index,
+            reason,
+        })),
     }
-}
-
-/// Makes `edits` in `text`, one after the other, and returns the new text. Fails with the reason and the position of
-/// the first edit that is refused. The first of `edits` has the position `first`.
-fn rest_made(
-    alloc: Global,
-    text: String,
-    edits: &[Edit<'_>],
-    first: usize,
-) -> Result<String, Stop<EditError>>
-    ensures { IfOk result (λ new. spec.EditsMade edits.now (string_bytes text) (string_bytes new)) }
-{
-    let mut new = text;
-    for (index, edit) in edits.iter().enumerate() {
-        new = edit_made(alloc, new.as_str(), *edit, first.saturating_add(index))?;
-    }
-    Ok(new)
 }
 
 /// Makes `edits` in `text`, one after the other, and returns the new text: a copy of `text` if `edits` is empty. Fails
 /// with the reason and the position of the first edit that is refused.
 fn all_made(alloc: Global, text: &str, edits: &[Edit<'_>]) -> Result<String, Stop<EditError>>
-    ensures { IfOk result (λ new. spec.EditsMade edits.now text.now (string_bytes new)) }
+    ensures made { IfOk result (λ new. spec.EditsMade edits.now text.now (string_bytes new)) }
+    ensures refused { IfErr result (refusals.AreRefused edits.now text.now) }
 {
-    let [first, rest @ ..] = edits else {
-        return Ok(String::from_str(alloc, text)?);
+    let mut new = match String::from_str(alloc, text) {
+        Ok(copy) => copy,
+        Err(error) => return Err(Stop::Memory(error)),
     };
-    let new = edit_made(alloc, text, *first, 0)?;
-    let made = rest_made(alloc, new, rest, 1)?;
-    Ok(made)
-}
-
-/// Adds `edit`, the position of the refused edit, to the reason in `stop`. Returns a failed allocation as it is.
-fn refused(edit: usize, stop: Stop<Reason>) -> Stop<EditError> {
-    match stop {
-        Stop::Memory(error) => Stop::Memory(error),
-        Stop::Fault(reason) => Stop::Fault(EditError { edit, reason }),
+    for (index, edit) in edits.iter().enumerate() {
+        new = match edit_made(alloc, new.as_str(), *edit, index) {
+            Ok(next) => next,
+            Err(stop) => return Err(stop),
+        };
     }
+    Ok(new)
 }

@@ -4,6 +4,7 @@
 mod adding;
 mod comments;
 mod document;
+mod draft;
 mod edits;
 mod given;
 mod growing;
@@ -19,6 +20,7 @@ mod paths;
 mod plan;
 mod reach;
 mod reason;
+mod refusing;
 mod removing;
 mod same;
 mod setting;
@@ -26,6 +28,7 @@ mod step;
 mod texts;
 mod unchanged;
 
+pub use draft::Draft;
 pub use edits::{Change, Edit, EditError, Edits};
 pub use given::string_text;
 pub use paths::path_error_text;

@@ -160,7 +160,7 @@ fn put_value(
     let depth = known_prefix_len(document, path)?;
     let (table, missing) = (front_of(path, depth), rest_of(path, depth));
     let [front @ .., name] = path else {
-        return Err(Stop::Fault(Reason::AlreadyThere));
+        return Err(Stop::Fault(Reason::AlreadyThere(String::new(document.alloc))));
     };
     if let (Some(place), true) = (new_place(document, front)?, missing.len() > 1) {
         let Item { above, value, note } = item;
@@ -225,7 +225,7 @@ pub(crate) fn put_missing(
     plan: &mut Plan,
 ) -> Result<(), Stop<Reason>> {
     if path.is_empty() || !document.mentions(path)?.is_empty() {
-        return Err(Stop::Fault(Reason::AlreadyThere));
+        return Err(Stop::Fault(Reason::AlreadyThere(String::new(document.alloc))));
     }
     let depth = known_prefix_len(document, path)?;
     let Some(index) = first_position(rest_of(path, depth))? else {
@@ -275,7 +275,7 @@ pub(crate) fn add_table(
     let depth = known_prefix_len(document, path)?;
     let is_plain = first_position(rest_of(path, depth))?.is_none();
     if path.is_empty() || !document.mentions(path)?.is_empty() {
-        return Err(Stop::Fault(Reason::AlreadyThere));
+        return Err(Stop::Fault(Reason::AlreadyThere(String::new(document.alloc))));
     }
     match new_place(document, path)? {
         Some(place) if is_plain => {

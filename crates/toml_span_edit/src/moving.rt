@@ -54,7 +54,7 @@ pub(crate) fn put_moved(
     plan: &mut Plan,
 ) -> Result<(), Stop<Reason>> {
     let [front @ .., _] = path else {
-        return Err(Stop::Fault(Reason::AlreadyThere));
+        return Err(Stop::Fault(Reason::AlreadyThere(String::new(document.alloc))));
     };
     if is_array(document, front)? {
         return insert(document, path, item, plan);
@@ -92,7 +92,7 @@ pub(crate) fn section_site(
     path: &[&str],
 ) -> Result<Option<Site>, Stop<Reason>> {
     let [front @ .., segment] = path else {
-        return Err(Stop::Fault(Reason::AlreadyThere));
+        return Err(Stop::Fault(Reason::AlreadyThere(String::new(document.alloc))));
     };
     let mentions = document.mentions(front)?;
     if let (Some(at), false, true) = (
@@ -111,7 +111,7 @@ pub(crate) fn section_site(
         return Ok(None);
     }
     if !document.mentions(path)?.is_empty() {
-        return Err(Stop::Fault(Reason::AlreadyThere));
+        return Err(Stop::Fault(Reason::AlreadyThere(String::new(document.alloc))));
     }
     new_site(document, path)
 }

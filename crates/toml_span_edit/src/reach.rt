@@ -91,7 +91,10 @@ fn entry<'v, 'de>(table: &'v Table<'de>, name: &str) -> Option<(Option<Span>, &'
 
 /// Returns the element, or the value of the entry, that `segment` names in `value`. An entry comes with the span of its
 /// key. Returns `None` if `segment` names nothing.
-fn named<'v, 'de>(value: &'v Value<'de>, segment: &str) -> Option<(Option<Span>, &'v Value<'de>)>
+pub(crate) fn named<'v, 'de>(
+    value: &'v Value<'de>,
+    segment: &str,
+) -> Option<(Option<Span>, &'v Value<'de>)>
     ensures { option_map (λ e. (e.0, view e.1.now)) result ≡ spec.named segment.now (inner_of (view value.now)) }
 {
     if let Some(table) = value.as_table() {

@@ -1,10 +1,14 @@
 //! Why an edit was refused.
+use std::fmt;
+use std::fmt::{Display, Formatter, Write};
 
 /// Why an edit was refused. A reason may come with more text, which `detail` returns.
 #[derive(Debug, Drop)]
 pub enum Reason {
     /// The document is not valid TOML. The string is its error with line and column.
     InvalidDocument(String),
+    /// The path, which is written as text, can't be read. The string is its error with the column.
+    InvalidPath(String),
     /// The path does not name a value.
     Nothing,
     /// The new value is not a TOML value. For a word such as `abc`, the string is `'"abc"'?`: what was probably meant,
@@ -16,15 +20,16 @@ pub enum Reason {
     NotLiteral,
     /// The path does not name a key.
     NoKey,
-    /// The path already names a value.
-    AlreadyThere,
+    /// The new path already names a value. The string has the line and column of its key or, for an element, of the
+    /// value; it is empty if they are not known.
+    AlreadyThere(String),
     /// The value to which an entry would be added is not a table.
     NoTable,
     /// The value to which an element would be added is not an array, or the path does not end with a position.
     NoArray,
     /// The path leads to an element that the array, which may be missing too, does not have.
     PastEnd,
-    /// The new element of an array of tables is not written as an inline table.
+    /// The new element of an array whose elements have headers is not an inline table or, in a move, not a table.
     NoInlineTable,
     /// The result would not be valid TOML. The string is its error with line and column.
     ResultInvalid(String),
@@ -37,6 +42,7 @@ impl Reason {
     pub fn text(&self) -> &'static str {
         match self {
             Reason::InvalidDocument(_) => "the file is not valid TOML: ",
+            Reason::InvalidPath(_) => "the path is invalid at ",
             Reason::Nothing => "there is nothing at this path",
             Reason::NoValue(None) =>
                 "the new value is not a single TOML value (strings need quotes: `'\"b\"'`)",
@@ -48,28 +54,39 @@ impl Reason {
                 "headers or dotted keys define this table or array; set the values in it instead"
             }
             Reason::NoKey => "the path does not name a key",
-            Reason::AlreadyThere => "this path already has a value",
+            Reason::AlreadyThere(_) => "this path already has a value",
             Reason::NoTable => "the path does not name a table",
             Reason::NoArray => "the path does not name an array, or a position in one",
             Reason::PastEnd => {
                 "the array has no element at this position; `append` adds one at its end"
             }
-            Reason::NoInlineTable => {
-                "sections define the elements of this array; the value must be an inline table"
-            }
+            Reason::NoInlineTable =>
+                "this array has `[[..]]` headers, so each element must be a table",
             Reason::ResultInvalid(_) => "the result would not be valid TOML: ",
             Reason::WouldDiffer => "this would change more than the value at the path",
         }
     }
 
-    /// Returns the string in the reason, to write after what `text` returns: the place and message of an error, or the
-    /// string that was probably meant. Returns an empty string for other reasons.
+    /// Returns the string in the reason, to write after what `text` returns: the place and message of an error, the
+    /// place of a value, or the string that was probably meant. Returns an empty string for other reasons.
     pub fn detail(&self) -> &str {
         match self {
             Reason::InvalidDocument(fault) => fault.as_str(),
+            Reason::InvalidPath(fault) => fault.as_str(),
+            Reason::AlreadyThere(place) => place.as_str(),
             Reason::ResultInvalid(fault) => fault.as_str(),
             Reason::NoValue(Some(string)) => string.as_str(),
             _ => "",
         }
     }
 }
+
+/// Writes what `text` and `detail` return.
+impl Display for Reason {
+    fn fmt<W: Write>(&self, f: &mut Formatter<W>) -> fmt::Result {
+        f.write_str(self.text())?;
+        f.write_str(self.detail())
+    }
+}
+
+impl std::error::Error for Reason {}

@@ -1,10 +1,12 @@
 //! Makes one edit, and checks that the new tree is the old one with only this change.
-ghost use Rattle.std.specs.Prelude.{◌≡◌, ◌++◌, [], IfOk, OnOk, Some, true, codes, map, string_bytes, ◌⊎◌};
+ghost use Rattle.std.specs.Prelude.{◌≡◌, ◌++◌, [], IfErr, IfOk, OnErr, OnOk, Some, true, codes, map, string_bytes};
+ghost use Rattle.std.specs.Prelude.{◌⊎◌};
 ghost use Rattle.toml_span_read.specs.Data.{depth_limit};
 ghost use Rattle.toml_span_tree.specs.Value.{view};
 ghost use Rattle.toml_span.specs.Parsing.{IsTree};
 ghost use Rattle.toml_span_edit.specs.Edited as spec;
 ghost use Rattle.toml_span_edit.specs.Kept as kept;
+ghost use Rattle.toml_span_edit.specs.Refused as refusals;
 ghost use Rattle.toml_span_edit.specs.declared.step.Destination.TheVariants.{Here, End};
 ghost use Rattle.toml_span_edit.specs.Comments.{AddsNoComment};
 ghost use Rattle.toml_span_edit.specs.Made.{local};
@@ -15,6 +17,7 @@ use crate::edits::{Change, Edit};
 use crate::given::{no_value, probe_text};
 use crate::made::{Local, added, changed, child, value_at};
 use crate::reason::Reason;
+use crate::refusing::{check_new, check_target, confirmed};
 use crate::texts::{edited_text, moved_text, text_without};
 use std::alloc::{AllocError, Global};
 use toml_span::value::Value;
@@ -40,12 +43,13 @@ fn fault_text(alloc: Global, fault: &Error<'_>) -> Result<String, AllocError> {
 
 /// Returns the tree of `text` or, if `text` is not valid TOML, its error as text, with line and column.
 fn tree<'t>(alloc: Global, text: &'t str) -> Result<Result<Value<'t>, String>, AllocError>
-    ensures { IfOk result (λ read. IfOk read (λ root. IsTree text.now depth_limit root)) }
+    ensures tree { IfOk result (λ read. IfOk read (λ root. IsTree text.now depth_limit root)) }
+    ensures invalid { IfOk result (λ read. OnErr read (refusals.IsInvalid text.now)) }
 {
     match parse(alloc, text) {
         Ok(root) => Ok(Ok(root)),
-        Err(stop) => {
-            let fault = stop.fault()?;
+        Err(Stop::Memory(error)) => Err(error),
+        Err(Stop::Fault(fault)) => {
             let reason = fault_text(alloc, &fault);
             drop(fault);
             Ok(Err(reason?))
@@ -158,10 +162,10 @@ fn is_set_or_new(
         → (spec.IsNew value.now (map (λ s. s.now) path.now) (view old.now) (view new.now))
         ⊎ (spec.IsPlaced (spec.is_placed Here) value.now (map (λ s. s.now) path.now) (view old.now) (view new.now))) }
 {
-    if is_new(alloc, value, path, old, new)? {
-        return Ok(true);
+    if value_at(path, old).is_some() {
+        return is_placed(alloc, Destination::Here, value, path, old, new);
     }
-    is_placed(alloc, Destination::Here, value, path, old, new)
+    is_new(alloc, value, path, old, new)
 }
 
 /// Returns whether the tree `new` is the tree `old` with the TOML value `value` added at the end of the array at
@@ -177,13 +181,13 @@ fn is_appended(
         → (spec.IsNew (codes "[" ++ (value.now ++ codes "]")) (map (λ s. s.now) path.now) (view old.now) (view new.now))
         ⊎ (spec.IsPlaced (spec.is_placed End) value.now (map (λ s. s.now) path.now) (view old.now) (view new.now))) }
 {
+    if value_at(path, old).is_some() {
+        return is_placed(alloc, Destination::End, value, path, old, new);
+    }
     let mut list = String::from_str(alloc, "[")?;
     list.push_str(value)?;
     list.push_str("]")?;
-    if is_new(alloc, list.as_str(), path, old, new)? {
-        return Ok(true);
-    }
-    is_placed(alloc, Destination::End, value, path, old, new)
+    is_new(alloc, list.as_str(), path, old, new)
 }
 
 /// Returns whether the tree `new` is the tree `old` with the TOML value `value` added at `path`, in a table or array
@@ -233,32 +237,38 @@ fn is_put(path: &[&str], value: &Value<'_>, old: &Value<'_>, new: &Value<'_>) ->
     ensures { result ≡ true
         → spec.IsPut (map (λ s. s.now) path.now) (view value.now) (view old.now) (view new.now) }
 {
-    if added(path, value, old, new) {
-        return true;
-    }
     match path {
-        [front @ .., name] => changed(front, Local::Put(*name, value), old, new),
+        [front @ .., name] => {
+            if value_at(front, old).is_some() {
+                return changed(front, Local::Put(*name, value), old, new);
+            }
+            added(path, value, old, new)
+        }
         [] => false,
     }
 }
 
 /// Returns the tree of the old text `text`. Fails with `InvalidDocument` if `text` is not valid TOML.
 pub(crate) fn old_tree<'t>(alloc: Global, text: &'t str) -> Result<Value<'t>, Stop<Reason>>
-    ensures { IfOk result (λ root. IsTree text.now depth_limit root) }
+    ensures tree { IfOk result (λ root. IsTree text.now depth_limit root) }
+    ensures refused { IfErr result (refusals.IsUnread text.now) }
 {
-    match tree(alloc, text)? {
-        Ok(root) => Ok(root),
-        Err(fault) => Err(Stop::Fault(Reason::InvalidDocument(fault))),
+    match tree(alloc, text) {
+        Ok(Ok(root)) => Ok(root),
+        Ok(Err(fault)) => Err(Stop::Fault(Reason::InvalidDocument(fault))),
+        Err(error) => Err(Stop::Memory(error)),
     }
 }
 
 /// Returns the tree of the new text `text`. Fails with `ResultInvalid` if `text` is not valid TOML.
 pub(crate) fn new_tree<'t>(alloc: Global, text: &'t str) -> Result<Value<'t>, Stop<Reason>>
-    ensures { IfOk result (λ root. IsTree text.now depth_limit root) }
+    ensures tree { IfOk result (λ root. IsTree text.now depth_limit root) }
+    ensures refused { IfErr result (refusals.IsUnwritten text.now) }
 {
-    match tree(alloc, text)? {
-        Ok(root) => Ok(root),
-        Err(fault) => Err(Stop::Fault(Reason::ResultInvalid(fault))),
+    match tree(alloc, text) {
+        Ok(Ok(root)) => Ok(root),
+        Ok(Err(fault)) => Err(Stop::Fault(Reason::ResultInvalid(fault))),
+        Err(error) => Err(Stop::Memory(error)),
     }
 }
 
@@ -266,14 +276,19 @@ pub(crate) fn new_tree<'t>(alloc: Global, text: &'t str) -> Result<Value<'t>, St
 /// valid TOML, with `NoValue` if the edit's value can't be read, and with `WouldDiffer` if `new` has a different tree
 /// or `edit` is a move.
 fn check_made(alloc: Global, edit: Edit<'_>, old: &Value<'_>, new: &str) -> Result<(), Stop<Reason>>
-    ensures { OnOk result (spec.IsMade edit.entry.change (map (λ s. s.now) edit.entry.path.now) (view old.now)
+    ensures made { OnOk result (spec.IsMade edit.entry.change (map (λ s. s.now) edit.entry.path.now) (view old.now)
         new.now) }
+    ensures refused { IfErr result (refusals.IsUnwritten new.now) }
 {
-    let root = new_tree(alloc, new)?;
-    if is_made(alloc, edit, old, &root)? {
-        Ok(())
-    } else {
-        Err(Stop::Fault(Reason::WouldDiffer))
+    let root = match new_tree(alloc, new) {
+        Ok(root) => root,
+        Err(stop) => return Err(stop),
+    };
+    match is_made(alloc, edit, old, &root) {
+        Ok(true) => Ok(()),
+        Ok(false) => Err(Stop::Fault(Reason::WouldDiffer)),
+        Err(Stop::Memory(error)) => Err(Stop::Memory(error)),
+        Err(Stop::Fault(_)) => Err(Stop::Fault(Reason::NoValue(None))),
     }
 }
 
@@ -313,23 +328,23 @@ fn rest_of<'t>(
     Err(Stop::Fault(Reason::WouldDiffer))
 }
 
-/// Checks that `new` is a document whose tree is `old` with `value`, the value at `path`, moved to `target`. `without`
-/// is a text without this value. Fails with a reason if one of the two texts has a different tree.
+/// Checks that `new` is a document whose tree is `old` with `value`, the value at `path`, moved to `target`. `rest` is
+/// the tree without this value. Fails with a reason if `new` has a different tree.
 fn check_moved(
     alloc: Global,
-    without: &str,
     path: &[&str],
     target: &[&str],
     value: &Value<'_>,
+    rest: &Value<'_>,
     old: &Value<'_>,
     new: &str,
 ) -> Result<(), Stop<Reason>>
-    requires { found (map (λ s. s.now) path.now) (view old.now) ≡ Some (view value.now) }
+    requires found { found (map (λ s. s.now) path.now) (view old.now) ≡ Some (view value.now) }
+    requires gone { spec.IsGone (map (λ s. s.now) path.now) (view old.now) (view rest.now) }
     ensures { OnOk result (spec.IsMoved (map (λ s. s.now) target.now) (map (λ s. s.now) path.now)
         (view old.now) new.now) }
 {
-    let rest = rest_of(alloc, without, path, old)?;
-    check_put_back(alloc, target, value, &rest, new)
+    check_put_back(alloc, target, value, rest, new)
 }
 
 /// Returns `text` with `value`, the value at `path`, moved to `target`. `old` is the tree of `text`. Fails with a
@@ -350,18 +365,53 @@ fn move_value(
     ensures none { IfOk result (λ new. AddsNoComment [] text.now (string_bytes new)) }
 {
     let without = text_without(alloc, text, path, old)?;
-    let new = moved_text(alloc, text, without.as_str(), path, target, value, old)?;
-    check_moved(
-        alloc,
-        without.as_str(),
-        path,
-        target,
-        value,
-        old,
-        new.as_str(),
-    )?;
+    let base = without.as_str();
+    let rest = rest_of(alloc, base, path, old)?;
+    check_target(alloc, text, path, target, &rest, old)?;
+    let new = moved_text(alloc, text, base, path, target, value, old)?;
+    check_moved(alloc, path, target, value, &rest, old, new.as_str())?;
     check_comments(alloc, "", text, new.as_str())?;
     Ok(new)
+}
+
+/// Returns what `move_value` returns for `value`, the value at the path of `edit`. Fails with a reason that the tree
+/// `old` confirms.
+fn moved(
+    alloc: Global,
+    text: &str,
+    edit: Edit<'_>,
+    target: &[&str],
+    value: &Value<'_>,
+    old: &Value<'_>,
+) -> Result<String, Stop<Reason>>
+    requires { found (map (λ s. s.now) edit.path.now) (view old.now) ≡ Some (view value.now) }
+    ensures moved { IfOk result (λ new. spec.IsMoved (map (λ s. s.now) target.now)
+        (map (λ s. s.now) edit.entry.path.now) (view old.now) (string_bytes new)) }
+    ensures kept { IfOk result (λ new. kept.IsMovedText (map (λ s. s.now) edit.entry.path.now) (view old.now) text.now
+        (string_bytes new)) }
+    ensures none { IfOk result (λ new. AddsNoComment [] text.now (string_bytes new)) }
+    ensures refused { IfErr result (refusals.IsRefusedChange edit.entry.change (map (λ s. s.now) edit.entry.path.now)
+        (view old.now) text.now) }
+{
+    match move_value(alloc, text, edit.path, target, value, old) {
+        Ok(new) => Ok(new),
+        Err(stop) => Err(confirmed(stop, edit, old)),
+    }
+}
+
+/// Returns the text that `edited_text` returns for these arguments. Fails with `AlreadyThere` if the edit would replace
+/// a value that it must not replace, and with another reason if `edited_text` fails.
+fn proposed(
+    alloc: Global,
+    text: &str,
+    edit: Edit<'_>,
+    old: &Value<'_>,
+) -> Result<String, Stop<Reason>>
+    ensures { IfOk result (λ new. kept.Keeps edit.entry.change (map (λ s. s.now) edit.entry.path.now)
+        (view old.now) text.now (string_bytes new)) }
+{
+    check_new(alloc, text, edit, old)?;
+    edited_text(alloc, text, edit, old)
 }
 
 /// Returns `text` with `edit` made. `old` is the tree of `text`. Fails with a reason if `edit` is refused. Always
@@ -376,23 +426,47 @@ fn edit_value(
         (view old.now) (string_bytes new)) }
     ensures kept { IfOk result (λ new. kept.Keeps edit.entry.change (map (λ s. s.now) edit.entry.path.now)
         (view old.now) text.now (string_bytes new)) }
+    ensures refused { IfErr result (refusals.IsRefusedChange edit.entry.change (map (λ s. s.now) edit.entry.path.now)
+        (view old.now) text.now) }
 {
-    let new = edited_text(alloc, text, edit, old)?;
-    check_made(alloc, edit, old, new.as_str())?;
-    Ok(new)
+    let new = match proposed(alloc, text, edit, old) {
+        Ok(new) => new,
+        Err(stop) => return Err(confirmed(stop, edit, old)),
+    };
+    match check_made(alloc, edit, old, new.as_str()) {
+        Ok(()) => Ok(new),
+        Err(stop) => Err(stop),
+    }
+}
+
+/// Returns `text` with `edit` made. `old` is the tree of `text`. Fails with a reason if `edit` is refused.
+fn changed_text(
+    alloc: Global,
+    text: &str,
+    edit: Edit<'_>,
+    old: &Value<'_>,
+) -> Result<String, Stop<Reason>>
+    requires { IsTree text.now depth_limit old.now }
+    ensures made { IfOk result (λ new. spec.EditMade edit.entry text.now (string_bytes new)) }
+    ensures refused { IfErr result (refusals.IsRefused edit.entry text.now) }
+{
+    match edit.change {
+        Change::MoveTo(target) => match value_at(edit.path, old) {
+            Some(value) => moved(alloc, text, edit, target, value, old),
+            None => Err(Stop::Fault(Reason::Nothing)),
+        },
+        _ => edit_value(alloc, text, edit, old),
+    }
 }
 
 /// Returns `text` with `edit` made. Fails with a reason if `text` is not a document, or if `edit` can't be made without
 /// changing anything else in the tree or the text.
 pub(crate) fn step(alloc: Global, text: &str, edit: Edit<'_>) -> Result<String, Stop<Reason>>
-    ensures { IfOk result (λ new. spec.EditMade edit.entry text.now (string_bytes new)) }
+    ensures made { IfOk result (λ new. spec.EditMade edit.entry text.now (string_bytes new)) }
+    ensures refused { IfErr result (refusals.IsRefused edit.entry text.now) }
 {
-    let old = old_tree(alloc, text)?;
-    match edit.change {
-        Change::MoveTo(target) => match value_at(edit.path, &old) {
-            Some(value) => move_value(alloc, text, edit.path, target, value, &old),
-            None => Err(Stop::Fault(Reason::Nothing)),
-        },
-        _ => edit_value(alloc, text, edit, &old),
+    match old_tree(alloc, text) {
+        Ok(old) => changed_text(alloc, text, edit, &old),
+        Err(stop) => Err(stop),
     }
 }

@@ -561,6 +561,7 @@ fn table_text(
 /// Returns the new name of the value at `path` if moving it to `target` only renames its key: if both paths lead into
 /// the same table of the tree `old`. Fails with `AlreadyThere` if that table has an entry with this name.
 fn new_name<'t>(
+    alloc: Global,
     path: &[&str],
     target: &[&'t str],
     old: &Value<'_>,
@@ -573,7 +574,7 @@ fn new_name<'t>(
         _ => return Ok(None),
     };
     if value_at(&[*name], table).is_some() {
-        return Err(Stop::Fault(Reason::AlreadyThere));
+        return Err(Stop::Fault(Reason::AlreadyThere(String::new(alloc))));
     }
     Ok(Some(*name))
 }
@@ -593,7 +594,7 @@ pub(crate) fn moved_text(
         ⊎ ((spec.HasOtherHeaders text.now (string_bytes new))
         ⊎ (spec.AreKeysReplaced (map (λ s. s.now) path.now) text.now (string_bytes new)))) }
 {
-    if let Some(name) = new_name(path, target, old)? {
+    if let Some(name) = new_name(alloc, path, target, old)? {
         return renamed_text(alloc, text, path, name);
     }
     let sections = sections_of(alloc, text)?;

@@ -5,7 +5,8 @@
 //! can't be made, the answer is `no such row`, and the exit status is 1. Calls are described in the modules that answer
 //! them, and here:
 //!
-//! - `cuts`: see the module `cuts`. `each`, `refused`: see the module `characters`.
+//! - `cuts`: see the module `cuts`. `each`, `refused`: see the module `characters`. `bumped`, `drafted`: see the module
+//!   `drafts`.
 //! - `holders`: the document, read as the `Holders` of `typed::structs`. `warned TYPE`: see `typed::warned`.
 //! - `span START END`: whether this span is empty, the span as a pair and as a range and, if the span is in the text,
 //!   where it starts.
@@ -15,6 +16,7 @@
 mod characters;
 mod cuts;
 mod derived;
+mod drafts;
 mod escapes;
 mod faults;
 mod output;
@@ -94,6 +96,7 @@ fn push_answer(alloc: Global, row: Row<'_>, out: &mut Out) -> bool {
         || reports::answer(alloc, row, out)
         || runs::answer(alloc, row, out)
         || derived::answer(alloc, row, out)
+        || drafts::answer(alloc, row, out)
         || trees::answer(alloc, row, out)
 }
 

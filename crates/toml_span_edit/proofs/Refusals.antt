@@ -1,0 +1,74 @@
+-- Edits that are refused.
+use Rattle.toml_span_lex.proofs.Common.{arith, ◌≡◌, ◌<◌, ◌∙◌, inl, inr, sym, ap, ℕ, ◌+◌, List, ◌∷◌, ◌++◌, length, take, drop, drop_more, take-append-drop, get_or, map, false, Result, Ok, Err, IfErr, IfOk, String, Global, string_bytes, length-take-le}
+use Rattle.toml_span_lex.specs.declared.stop.Stop.{Stop}
+use Rattle.toml_span_lex.specs.declared.stop.Stop.TheVariants as stops
+use Rattle.toml_span_read.specs.Data.{depth_limit}
+use Rattle.toml_span_tree.specs.Node.{Node}
+use Rattle.toml_span_tree.specs.Value.{view}
+use Rattle.toml_span_tree.specs.declared.value.Value.{Value}
+use Rattle.toml_span.specs.Parsing.{IsTree}
+use Rattle.toml_span_edit.specs.Edited.{EditsMade}
+use Rattle.toml_span_edit.specs.Kept.{Keeps}
+use Rattle.toml_span_edit.specs.Paths.{Path}
+use Rattle.toml_span_edit.specs.Refused.{AreRefused, IsFinished, IsOfResult, IsRefused, IsRefusedAt, IsRefusedChange, IsTrueReason, IsUnread, IsUnwritten, is_there}
+use Rattle.toml_span_edit.specs.declared.edits.Change.{Change}
+use Rattle.toml_span_edit.specs.declared.edits.Edit.{Edit}
+use Rattle.toml_span_edit.specs.declared.edits.EditError.{EditError}
+use Rattle.toml_span_edit.specs.declared.reason.Reason.{Reason}
+use Rattle.toml_span_edit.specs.declared.reason.Reason.TheVariants as reasons
+use Rattle.toml_span_edit.proofs.Steps.{now_of}
+
+-- a new text that is not a document, or has another tree, is a reason to refuse the change
+of_result : (change : Change) (path : Path) (n : Node) (text new : List ℕ) (reason : Reason) →
+    Keeps change path n text new → IsOfResult reason new → IsTrueReason reason change path n text
+of_result change path n text new (reasons.InvalidDocument s) keeps h = absurd h
+of_result change path n text new (reasons.InvalidPath s) keeps h = absurd h
+of_result change path n text new reasons.Nothing keeps h = absurd h
+of_result change path n text new (reasons.NoValue s) keeps h = h
+of_result change path n text new reasons.Root keeps h = absurd h
+of_result change path n text new reasons.NotLiteral keeps h = absurd h
+of_result change path n text new reasons.NoKey keeps h = absurd h
+of_result change path n text new (reasons.AlreadyThere s) keeps h = absurd h
+of_result change path n text new reasons.NoTable keeps h = absurd h
+of_result change path n text new reasons.NoArray keeps h = absurd h
+of_result change path n text new reasons.PastEnd keeps h = absurd h
+of_result change path n text new reasons.NoInlineTable keeps h = absurd h
+of_result change path n text new (reasons.ResultInvalid s) keeps h = inr (new, keeps, h)
+of_result change path n text new reasons.WouldDiffer keeps h = h
+
+pub unwritten_refused : (change : Change) (path : Path) (n : Node) (text new : List ℕ) (stop : Stop Reason) →
+    Keeps change path n text new → IsUnwritten new stop → IsRefusedChange change path n text stop
+unwritten_refused change path n text new (stops.Memory e) keeps h = h
+unwritten_refused change path n text new (stops.Fault reason) keeps h = of_result change path n text new reason keeps h
+
+-- a change that is refused is an edit that is refused
+pub change_refused : {A : Type 0} (e : Edit) (root : Value) (text : List ℕ) → IsTree text depth_limit root →
+    (r : Result A (Stop Reason)) → IfErr r (IsRefusedChange e.change (map now_of e.path.now) (view root) text) →
+    IfErr r (IsRefused e text)
+change_refused e root text tree (Ok x) h = h
+change_refused e root text tree (Err (stops.Memory error)) h = h
+change_refused e root text tree (Err (stops.Fault reason)) h = inr (root, tree, h)
+
+pub unread_refused : (e : Edit) (text : List ℕ) (stop : Stop Reason) → IsUnread text stop → IsRefused e text stop
+unread_refused e text (stops.Memory error) h = h
+unread_refused e text (stops.Fault reason) h = inl h
+
+-- an edit whose path names nothing
+pub nothing_refused : (e : Edit) (root : Value) (text : List ℕ) → IsTree text depth_limit root →
+    is_there (map now_of e.path.now) (view root) ≡ false → IsRefused e text (stops.Fault reasons.Nothing)
+nothing_refused e root text tree h = inr (root, tree, h)
+
+-- the edit at a position is refused after those before it are made
+pub edits_refused : (es : List Edit) (i : ℕ) (d : Edit) (text before : List ℕ) (stop : Stop EditError) →
+    i < length es → EditsMade (take i es) text before → IsRefusedAt i (get_or es i d) before stop → AreRefused es text stop
+edits_refused es i d text before (stops.Memory e) h done r = r
+edits_refused es i d text before (stops.Fault error) h done r =
+    let split : es ≡ take i es ++ (get_or es i d ∷ drop (i + 1) es) =
+    sym (take-append-drop i es) ∙ ap (λ (l : List Edit). take i es ++ l) (drop_more es i d h) in
+    let size : i ≡ length (take i es) = sym (length-take-le i es (omega (arith, h))) in
+    (take i es, drop (i + 1) es, get_or es i d, before, split, done, r.0 ∙ size, r.1)
+
+pub finished : (es : List Edit) (text : List ℕ) (r : Result (String Global) (Stop EditError)) →
+    IfOk r (λ new. EditsMade es text (string_bytes new)) → IfErr r (AreRefused es text) → IsFinished es text r
+finished es text (Ok new) made refused = made
+finished es text (Err stop) made refused = refused

@@ -1,0 +1,13 @@
+use Rattle.toml_span_edit.proofs.Refusals.{change_refused, nothing_refused}
+use Rattle.toml_span_edit.proofs.Steps.{edit_moved}
+use Rattle.toml_span_edit.proofs.step.changed_text.Goals as goal
+
+pub returns-in-Some-clause-made : goal.returns-in-Some-clause-made
+returns-in-Some-clause-made c =
+    let moved = c.moved.ensures in
+    edit_moved c.args.edit c.in-MoveTo.target c.args.old.now c.args.text.now c.in-MoveTo.is c.requires c.moved.result
+    moved.moved moved.kept moved.none
+
+pub returns-in-Some-clause-refused : goal.returns-in-Some-clause-refused
+returns-in-Some-clause-refused c =
+    change_refused c.args.edit c.args.old.now c.args.text.now c.requires c.moved.result c.moved.ensures.refused
