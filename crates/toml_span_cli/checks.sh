@@ -104,6 +104,19 @@ help: `--in-place` writes into the file itself, which keeps its names' set one.t
     cd - >/dev/null || return
 }
 
+# configurations: the JSON Schema of configurations accepts those that can be read, and no others
+configurations() {
+    local at=$PWD/configurations file schema=$top/editors/toml-span.schema.json
+    for file in "$at"/right/*.toml; do
+        ends 0 config --config "$file"
+        ends 0 check --no-config --schema "$schema" "$file"
+    done
+    for file in "$at"/wrong/*.toml; do
+        ends 2 config --config "$file"
+        ends 1 check --no-config --schema "$schema" "$file"
+    done
+}
+
 # fixes: a file that can't be written does not keep others from being fixed
 fixes() {
     # shellcheck disable=SC2016 # (backticks of messages)
@@ -207,6 +220,8 @@ pipes() {
     writes 2 'error: cannot read `pipe`: it is not a regular file' set --diff pipe /a 2
     writes 2 'error: cannot read `pipe`: it is not a regular file' edit --dry-run pipe -e 'remove a'
     writes 2 'error: cannot read `to_pipe`: it is not a regular file' fmt to_pipe
+    ends 2 check --fix pipe
+    holds grep -qx 'error: cannot read `pipe`: it is not a regular file' "$work/stderr"
     writes 3 'error: cannot write `pipe`: it is not a regular file' set pipe /a 2
     writes 0 '1 file unchanged' fmt piped
     ends 0 check --quiet piped
@@ -252,7 +267,7 @@ child.wait()'
 
 terminal='import os, pty, sys; sys.exit(os.waitstatus_to_exitcode(pty.spawn(sys.argv[1:])))'
 fresh
-for part in cuts names prefixes edits fixes; do "$part"; done
+for part in cuts names prefixes configurations edits fixes; do "$part"; done
 for part in locks signals pipes written; do
     fresh
     "$part"

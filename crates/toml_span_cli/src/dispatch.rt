@@ -10,6 +10,7 @@ use toml_span_check::input::Host;
 use toml_span_commands::check::check;
 use toml_span_commands::colours::Screen;
 use toml_span_commands::commands::{Command, command_named};
+use toml_span_commands::config::config;
 use toml_span_commands::edit::edit;
 use toml_span_commands::explain::explain;
 use toml_span_commands::fmt::fmt;
@@ -78,6 +79,7 @@ fn perform<O: Sink, E: Sink>(
         Command::Fmt => fmt(alloc, words, host, out, errors),
         Command::Show => show(alloc, words, host, out, errors),
         Command::Lsp => lsp(alloc, words, host, out, errors),
+        Command::Config => config(alloc, words, host, out, errors),
         Command::Explain => explain(alloc, words, out, errors),
         Command::Help => help(alloc, words, out, errors),
         Command::Set
@@ -113,7 +115,7 @@ pub(crate) fn dispatch<O: Sink, E: Sink>(
         (O.contents out.old) (O.contents out.new) (O.failed out.new)
         (E.contents errors.old) (E.contents errors.new) (E.failed errors.new) status) }
 {
-    let Some(word) = words.get(1) else {
+    let [_, word, ..] = words else {
         return Ok(say(errors, HELP, 2));
     };
     let word = word.as_str();

@@ -1,3 +1,4 @@
 pub mod Added
+pub mod Configurations
 pub mod Rows
 pub mod Said

@@ -4,8 +4,9 @@ use Rattle.std.specs.Prelude.{◌≡◌, ◌⊎◌, ◌≤◌, ℕ, max, Bool, L
 use Rattle.std.specs.Io.KnownBytes.{Keeps}
 use Rattle.toml_span_lines.specs.Run.{HasWritten}
 use Rattle.toml_span_check.specs.declared.request.Request.{Request}
+use Rattle.toml_span_commands.specs.Configured.{IsConfigured, configured_says}
 use Rattle.toml_span_commands.specs.Options.{Asks, faults}
-use Rattle.toml_span_lookup.specs.Findings.{file_says}
+use Rattle.toml_span_commands.specs.Say.{Prints}
 use Rattle.toml_span_commands.specs.Start.{Declines, RunsWith}
 use Rattle.toml_span_commands.specs.declared.colours.Screen.{Screen}
 use Rattle.toml_span_commands.specs.declared.options.Fixing.{Fixing}
@@ -20,7 +21,7 @@ abbrev pub ChecksFixed : Request → Option (List ℕ) → Option (List ℕ) →
 ChecksFixed request stdout stdout' out_failed stderr stderr' err_failed status =
     (lines : List ℕ) × (mid : Option (List ℕ)) × HasWritten stderr mid lines
     × (((checked unwritten : ℕ)
-    × RunsWith file_says request None None stdout stdout' out_failed mid stderr' err_failed checked
+    × RunsWith configured_says request None None stdout stdout' out_failed mid stderr' err_failed checked
     × (status ≡ max checked unwritten) × (unwritten ≤ 3))
     ⊎ ((status ≡ 3) × Keeps stdout stdout' × (mid ≡ stderr')))
 
@@ -35,16 +36,25 @@ ShowsChanges stdout stdout' stderr stderr' status =
 abbrev pub ChecksWith : Fixing → Request → Option (List ℕ) → Option (List ℕ) → Bool → Option (List ℕ)
     → Option (List ℕ) → Bool → ℕ → Type 0
 ChecksWith No request stdout stdout' out_failed stderr stderr' err_failed status =
-    RunsWith file_says request None None stdout stdout' out_failed stderr stderr' err_failed status
+    RunsWith configured_says request None None stdout stdout' out_failed stderr stderr' err_failed status
 ChecksWith (Write level) request stdout stdout' out_failed stderr stderr' err_failed status =
     ChecksFixed request stdout stdout' out_failed stderr stderr' err_failed status
 ChecksWith (Diff level) request stdout stdout' out_failed stderr stderr' err_failed status =
     ShowsChanges stdout stdout' stderr stderr' status
+
+-- Configuration files may say the version of TOML, unless the arguments name one, and name schemas. If a configuration
+-- file can't be read or is wrong, only a message is written to standard error, with status 2.
+abbrev pub ChecksConfigured : Fixing → Request → Option (List ℕ) → Option (List ℕ) → Bool → Option (List ℕ)
+    → Option (List ℕ) → Bool → ℕ → Type 0
+ChecksConfigured fixing request stdout stdout' out_failed stderr stderr' err_failed status =
+    ((made : Request) × IsConfigured request made
+    × ChecksWith fixing made stdout stdout' out_failed stderr stderr' err_failed status)
+    ⊎ ((message : List ℕ) × Keeps stdout stdout' × Prints stderr stderr' err_failed message 2 status)
 
 abbrev pub PerformsCheck : List (List ℕ) → Screen → Option (List ℕ) → Option (List ℕ) → Bool → Option (List ℕ)
     → Option (List ℕ) → Bool → ℕ → Type 0
 PerformsCheck words screen stdout stdout' out_failed stderr stderr' err_failed status =
     ((request : Request) × (fixing : Fixing) × (faults queries.Check words screen.is_coloured ≡ [])
     × Asks queries.Check words screen request fixing
-    × ChecksWith fixing request stdout stdout' out_failed stderr stderr' err_failed status)
+    × ChecksConfigured fixing request stdout stdout' out_failed stderr stderr' err_failed status)
     ⊎ Declines queries.Check words screen.is_coloured stdout stdout' out_failed stderr stderr' err_failed status

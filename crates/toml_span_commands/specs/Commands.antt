@@ -19,6 +19,7 @@ command_named name =
     else if bytes_eq name (codes "move") then Some commands.Move
     else if bytes_eq name (codes "edit") then Some commands.Edit
     else if bytes_eq name (codes "lsp") then Some commands.Lsp
+    else if bytes_eq name (codes "config") then Some commands.Config
     else if bytes_eq name (codes "explain") then Some commands.Explain
     else if bytes_eq name (codes "help") then Some commands.Help
     else None

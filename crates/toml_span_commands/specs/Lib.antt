@@ -1,6 +1,7 @@
 pub mod Check
 pub mod Colours
 pub mod Commands
+pub mod Configured
 pub mod Explain
 pub mod Options
 pub mod Paths

@@ -87,11 +87,17 @@ fixing =
     (flag (codes "fix"))) (flag (codes "unsafe-fixes"))) (flag (codes "diff"))) (flag (codes "force")))
     (flag (codes "change-owner"))) (flag (codes "in-place"))
 
--- `check [..] [--quiet] [--toml VERSION] [--exclude GLOB].. [--stdin-name NAME] [FILE..]`, with the options for schemas
--- and fixes
+-- `[..] [--config FILE] [--no-config] [--force-exclude]`, with the options for schemas and fixes
+unfoldable pub configured : App
+configured =
+    with_rule (with_rule (with_rule fixing (optional (codes "config"))) (flag (codes "no-config")))
+    (flag (codes "force-exclude"))
+
+-- `check [..] [--quiet] [--toml VERSION] [--exclude GLOB].. [--stdin-name NAME] [FILE..]`, with the options for schemas,
+-- fixes and configuration files
 unfoldable pub check : App
 check =
-    with_rule (with_rule (with_rule (with_rule (with_rule fixing
+    with_rule (with_rule (with_rule (with_rule (with_rule configured
     (flag (codes "quiet"))) (with_default (codes "toml") (codes "auto"))) (several (codes "exclude")))
     (with_default (codes "stdin-name") (codes "-"))) files
 

@@ -1,11 +1,14 @@
 //! The command `check`.
 ghost use Rattle.std.specs.Prelude.{◌≡◌, ◌≤◌, IfOk, None, false, map, string_bytes};
-ghost use Rattle.toml_span_commands.specs.Check.{ChecksFixed, ChecksWith, PerformsCheck, ShowsChanges};
+ghost use Rattle.toml_span_commands.specs.Check.{ChecksConfigured, ChecksFixed, ChecksWith, PerformsCheck, ShowsChanges};
+ghost use Rattle.toml_span_commands.specs.Configured.{IsConfigured, configured_says};
 ghost use Rattle.toml_span_commands.specs.Start.{RunsWith};
-ghost use Rattle.toml_span_lookup.specs.Findings.{file_says};
 
 use crate::answers::{Answer, failed};
 use crate::colours::Screen;
+use crate::configured::{
+    Configured, Wanted, common_version, configured_files, configured_task, has_schemas,
+};
 use crate::edit::escaped;
 use crate::files::{read_file, replace};
 use crate::options::{Fixing, Options, Query, options_of};
@@ -14,15 +17,22 @@ use crate::schemas::FileSchemas;
 use crate::start::{refuse, run_with};
 use std::alloc::{AllocError, Global};
 use std::io::IsTerminal;
+use std::mem;
+use toml_span::Stop;
 use toml_span_check::answer::Task;
 use toml_span_check::fixing::{FixLevel, Fixed, with_fixes};
+use toml_span_check::folder::is_special;
+use toml_span_check::formats::Format;
 use toml_span_check::input::{Host, Inputs};
-use toml_span_check::newer::with_older_forms;
+use toml_span_check::newer::{Version, with_older_forms};
 use toml_span_check::request::Request;
 use toml_span_check::words::shown_word;
+use toml_span_config::layers::{Layer, given};
+use toml_span_config::sources::Sources;
 use toml_span_files::unified;
 use toml_span_lines::run::BOUND;
 use toml_span_lines::sink::Sink;
+use toml_span_report::Style;
 use toml_span_report::visible::visible;
 
 /// The fixes of the files so far.
@@ -47,19 +57,16 @@ struct Fixes {
     ghost small: { status ≤ 3 },
 }
 
-/// Fixes errors of `text` as `with_fixes` does, and then replaces syntax that the version of TOML in `task` lacks.
-/// Returns the new text with the number of fixes and replacements. `name` is the name of the file.
+/// Fixes errors of `text` as `with_fixes` does, and then replaces syntax that this version of TOML lacks. Returns the new
+/// text with the number of fixes and replacements. `name` is the name of the file.
 fn fixed(
     alloc: Global,
     text: &str,
-    task: Task,
+    version: Version,
     level: FixLevel,
     name: &str,
 ) -> Result<Fixed, AllocError> {
     let made = with_fixes(alloc, text, level)?;
-    let Task::Check(version, _) = task else {
-        return Ok(made);
-    };
     let older = with_older_forms(alloc, made.text.as_str(), version, name)?;
     Ok(Fixed {
         text: older.text,
@@ -109,8 +116,7 @@ impl Fixes {
         Ok(())
     }
 
-    /// Fixes errors of a file as `fixed` does, and calls `put` if there were fixes. `shown` is the name of the file in
-    /// reports: that of standard input if `name` is `-`.
+    /// Fixes errors of a file as `fixed` does, and calls `put` if there were fixes.
     ///
     /// A file that can't be read, is larger than 16 MiB or is not valid UTF-8 has no fixes. The check that follows
     /// reports what is wrong with it. If `is_diff`, no check follows, and a line says why a file can't be read.
@@ -119,10 +125,9 @@ impl Fixes {
         &mut self,
         alloc: Global,
         host: &mut Host,
-        task: Task,
-        name: &str,
-        shown: &str,
+        file: &Configured,
     ) -> Result<(), AllocError> {
+        let (name, shown) = (file.name.as_str(), file.shown.as_str());
         if name == "-" && !self.is_diff {
             return Ok(());
         }
@@ -139,32 +144,12 @@ impl Fixes {
         let Ok(text) = str::from_utf8(bytes.as_slice()) else {
             return Ok(());
         };
-        let made = fixed(alloc, text, task, self.level, shown)?;
+        let version = file.found.settings.toml.value;
+        let made = fixed(alloc, text, version, self.level, shown)?;
         if made.count == 0 {
             return Ok(());
         }
         self.put(alloc, host, name, shown, text, &made)
-    }
-
-    /// Calls `add_file` for the file `name` or, if it is a directory, for each file found below it.
-    fn add_named(
-        &mut self,
-        alloc: Global,
-        host: &mut Host,
-        options: &Options<'_>,
-        name: &str,
-    ) -> Result<(), AllocError> {
-        let files = host.find(alloc, options.request.excludes.as_slice(), name)?;
-        for file in &files {
-            let file = file.as_str();
-            let shown = if file == "-" {
-                options.stdin_name
-            } else {
-                file
-            };
-            self.add_file(alloc, host, options.request.task, file, shown)?;
-        }
-        Ok(())
     }
 
     /// Removes what would be printed.
@@ -188,13 +173,13 @@ impl Fixes {
     }
 }
 
-/// Fixes each file that `options` names, and each file found below a directory that `options` names (see `add_file`).
-/// With `--quiet`, there is nothing to print.
+/// Fixes each of the files (see `add_file`). With `--quiet`, there is nothing to print.
 fn fix_files(
     alloc: Global,
     options: &Options<'_>,
     level: FixLevel,
     is_diff: bool,
+    listed: &Listed,
     host: &mut Host,
 ) -> Result<Fixes, AllocError> {
     let mut fixes = Fixes {
@@ -207,8 +192,8 @@ fn fix_files(
         lines: String::new(alloc),
         status: 0,
     };
-    for name in options.request.names.as_slice() {
-        fixes.add_named(alloc, host, options, *name)?;
+    for file in &listed.files {
+        fixes.add_file(alloc, host, file)?;
     }
     fixes.add_total(alloc)?;
     if options.request.is_quiet {
@@ -217,40 +202,41 @@ fn fix_files(
     Ok(fixes)
 }
 
-/// Files, and standard input, which has a name of its own.
+/// Files that have been found, and standard input, which has a name of its own.
 #[derive(Drop)]
 struct NamedInputs {
     host: Host,
+    /// The names of the files in reports. Empty after the first search.
+    names: Vec<String>,
     stdin_name: String,
-    /// Whether standard input has been found, and not read yet.
+    /// Whether standard input is one of the files, and has not been read yet.
     is_waiting: bool,
+    /// Whether a pipe or a device is opened. With `--fix` it is not, since it can't be written either.
+    opens_pipes: bool,
 }
 
 impl Inputs for NamedInputs {
     ghost log = { λ _. None };
 
+    /// Returns the names of all files for the first argument, and none for the others.
     fn find(
         &mut self,
         alloc: Global,
-        excludes: &[&str],
-        name: &str,
+        _excludes: &[&str],
+        _name: &str,
     ) -> Result<Vec<String>, AllocError> {
-        if name == "-" {
-            self.is_waiting = true;
-            let mut found = Vec::new(alloc);
-            found.push(String::from_str(alloc, self.stdin_name.as_str())?)?;
-            return Ok(found);
-        }
-        self.host.find(alloc, excludes, name)
+        Ok(mem::replace(&mut self.names, Vec::new(alloc)))
     }
 
     fn read(&mut self, alloc: Global, name: &str) -> Result<Result<Vec<u8>, String>, AllocError> {
         if self.is_waiting && name == self.stdin_name.as_str() {
             self.is_waiting = false;
-            self.host.read(alloc, "-")
-        } else {
-            self.host.read(alloc, name)
+            return self.host.read(alloc, "-");
         }
+        if !self.opens_pipes && is_special(&self.host.rt, name) {
+            return Ok(Err(String::from_str(alloc, "it is not a regular file")?));
+        }
+        self.host.read(alloc, name)
     }
 }
 
@@ -291,16 +277,78 @@ struct Files {
     schemas: FileSchemas,
 }
 
+/// The files to check, with their settings and configuration files.
+#[derive(Drop)]
+struct Listed {
+    files: Vec<Configured>,
+    sources: Sources,
+}
+
+/// Returns the settings of the command line.
+fn layer_of(task: Task) -> Layer {
+    match task {
+        Task::Check(Version::Auto, _) | Task::Show(_) => Layer::empty(),
+        Task::Check(version, _) => Layer {
+            toml: given(version),
+            ..Layer::empty()
+        },
+    }
+}
+
+/// Returns the style of reports on configuration files.
+fn style_of(format: Format) -> Style {
+    match format {
+        Format::Text(style) => style,
+        _ => Style::Plain,
+    }
+}
+
+/// Finds the files that `options` names, and reads their configuration files. Fails with a message, for standard error,
+/// if a configuration file can't be read or is wrong.
+fn find_files(
+    alloc: Global,
+    options: &Options<'_>,
+    host: &mut Host,
+) -> Result<Listed, Stop<String>> {
+    let request = &options.request;
+    let (layer, style) = (layer_of(request.task), style_of(request.format));
+    let mut sources = Sources::new(alloc, host, options.search(), layer, style)?;
+    let wanted = Wanted {
+        names: request.names.as_slice(),
+        excludes: request.excludes.as_slice(),
+        stdin_name: options.stdin_name,
+        forces_exclude: options.forces_exclude,
+    };
+    let files = configured_files(alloc, host, &mut sources, wanted)?;
+    Ok(Listed { files, sources })
+}
+
 impl Files {
-    /// Returns the files and the schemas for `options`. Reads nothing yet.
-    fn of(alloc: Global, options: &Options<'_>, host: &Host) -> Result<Files, AllocError> {
+    /// Returns the files, and their schemas for `options`. Reads nothing yet.
+    fn of(
+        alloc: Global,
+        options: &Options<'_>,
+        listed: Listed,
+        host: &Host,
+    ) -> Result<Files, AllocError> {
+        let Listed { files, sources } = listed;
+        let mut names = Vec::new(alloc);
+        let mut is_waiting = false;
+        for file in &files {
+            names.push(file.shown.clone()?)?;
+            is_waiting = is_waiting || file.name.as_str() == "-";
+        }
+        let are_mixed = common_version(files.as_slice()).is_none();
+        let reader = Host { rt: host.rt };
         Ok(Files {
             inputs: NamedInputs {
                 host: Host { rt: host.rt },
+                names,
                 stdin_name: String::from_str(alloc, options.stdin_name)?,
-                is_waiting: false,
+                is_waiting,
+                opens_pipes: matches!(options.fixing, Fixing::No),
             },
-            schemas: FileSchemas::new(alloc, host.rt, &options.schemas)?,
+            schemas: FileSchemas::new(alloc, reader, &options.schemas, sources, files, are_mixed)?,
         })
     }
 }
@@ -315,7 +363,7 @@ fn check_files<O: Sink, E: Sink>(
 ) -> u8
     requires out { O.failed out.old ≡ false }
     requires errors { E.failed errors.old ≡ false }
-    ensures { RunsWith file_says request.now None None (O.contents out.old) (O.contents out.new) (O.failed out.new)
+    ensures { RunsWith configured_says request.now None None (O.contents out.old) (O.contents out.new) (O.failed out.new)
         (E.contents errors.old) (E.contents errors.new) (E.failed errors.new) result }
 {
     run_with(
@@ -352,10 +400,11 @@ fn check_fixed<O: Sink, E: Sink>(
     }
 }
 
-/// Carries out `check` with these options, and returns the exit status.
-fn check_with<O: Sink, E: Sink>(
+/// Carries out `check` for files that have been found, and returns the exit status.
+fn check_listed<O: Sink, E: Sink>(
     alloc: Global,
     options: &Options<'_>,
+    listed: Listed,
     host: &mut Host,
     out: &mut O,
     errors: &mut E,
@@ -366,17 +415,58 @@ fn check_with<O: Sink, E: Sink>(
         (O.contents out.old) (O.contents out.new) (O.failed out.new)
         (E.contents errors.old) (E.contents errors.new) (E.failed errors.new) status) }
 {
-    let mut files = Files::of(alloc, options, host)?;
     let request = &options.request;
     match options.fixing {
-        Fixing::No => Ok(check_files(alloc, request, &mut files, out, errors)),
+        Fixing::No => {
+            let mut files = Files::of(alloc, options, listed, host)?;
+            Ok(check_files(alloc, request, &mut files, out, errors))
+        }
         Fixing::Write(level) => {
-            let fixes = fix_files(alloc, options, level, false, host)?;
+            let fixes = fix_files(alloc, options, level, false, &listed, host)?;
+            let mut files = Files::of(alloc, options, listed, host)?;
             Ok(check_fixed(alloc, &fixes, request, &mut files, out, errors))
         }
         Fixing::Diff(level) => {
-            let fixes = fix_files(alloc, options, level, true, host)?;
+            let fixes = fix_files(alloc, options, level, true, &listed, host)?;
             show_changes(alloc, fixes, host, out, errors)
+        }
+    }
+}
+
+/// Sets the version of TOML that all files have, unless the arguments name one, and says who chooses schemas. If the
+/// files have several versions, they are checked as TOML 1.1, and `FileSchemas` checks each as its version.
+fn configure(options: &mut Options<'_>, listed: &Listed)
+    ensures task { IsConfigured options.old.request options.new.request }
+    ensures fixing { options.new.fixing ≡ options.old.fixing }
+{
+    let files = listed.files.as_slice();
+    let version = common_version(files).unwrap_or(Version::Toml11);
+    options.request.task = configured_task(options.request.task, version, has_schemas(files));
+}
+
+/// Carries out `check` with these options, and returns the exit status. If a configuration file can't be read or is
+/// wrong, only prints why, with status 2.
+fn check_with<O: Sink, E: Sink>(
+    alloc: Global,
+    mut options: Options<'_>,
+    host: &mut Host,
+    out: &mut O,
+    errors: &mut E,
+) -> Result<u8, AllocError>
+    requires out { O.failed out.old ≡ false }
+    requires errors { E.failed errors.old ≡ false }
+    ensures { IfOk result (λ status. ChecksConfigured options.entry.fixing options.entry.request
+        (O.contents out.old) (O.contents out.new) (O.failed out.new)
+        (E.contents errors.old) (E.contents errors.new) (E.failed errors.new) status) }
+{
+    match find_files(alloc, &options, host) {
+        Ok(listed) => {
+            configure(&mut options, &listed);
+            check_listed(alloc, &options, listed, host, out, errors)
+        }
+        Err(stop) => {
+            let message = stop.fault()?;
+            Ok(say(errors, message.as_str(), 2))
         }
     }
 }
@@ -398,7 +488,7 @@ pub fn check<O: Sink, E: Sink>(
         (E.contents errors.old) (E.contents errors.new) (E.failed errors.new) status) }
 {
     match options_of(alloc, Query::Check, words, screen) {
-        Ok(options) => check_with(alloc, &options, host, out, errors),
+        Ok(options) => check_with(alloc, options, host, out, errors),
         Err(error) => Ok(refuse(alloc, Query::Check, words, &error, out, errors)),
     }
 }

@@ -3,7 +3,8 @@ ghost use Rattle.std.specs.Prelude.{◌≡◌};
 ghost use Rattle.toml_span_commands.specs.Commands as spec;
 
 use crate::help::{
-    ADD, APPEND, CHECK, EDIT, EXPLAIN, FMT, GET, HELP, INSERT, LSP, MOVE, REMOVE, RENAME, SET, SHOW,
+    ADD, APPEND, CHECK, CONFIG, EDIT, EXPLAIN, FMT, GET, HELP, INSERT, LSP, MOVE, REMOVE, RENAME,
+    SET, SHOW,
 };
 
 /// A command.
@@ -22,14 +23,15 @@ pub enum Command {
     Move,
     Edit,
     Lsp,
+    Config,
     Explain,
     Help,
 }
 
 /// The names of the commands.
-pub(crate) const NAMES: [&str; 15] = [
+pub(crate) const NAMES: [&str; 16] = [
     "check", "show", "get", "fmt", "set", "rename", "remove", "add", "append", "insert", "move",
-    "edit", "lsp", "explain", "help",
+    "edit", "lsp", "config", "explain", "help",
 ];
 
 /// Returns the command with this name, or `None` for any other name.
@@ -50,6 +52,7 @@ pub fn command_named(name: &str) -> Option<Command>
         "move" => Some(Command::Move),
         "edit" => Some(Command::Edit),
         "lsp" => Some(Command::Lsp),
+        "config" => Some(Command::Config),
         "explain" => Some(Command::Explain),
         "help" => Some(Command::Help),
         _ => None,
@@ -72,6 +75,7 @@ pub(crate) fn arguments_of(command: Command) -> &'static str {
         Command::Move => "move [OPTION].. FILE PATH PATH",
         Command::Edit => "edit [OPTION].. FILE [-e EDIT]..",
         Command::Lsp => "lsp",
+        Command::Config => "config [OPTION].. [FILE]",
         Command::Explain => "explain [CODE]",
         Command::Help => "help [COMMAND]",
     }
@@ -93,6 +97,7 @@ pub(crate) fn help_of(command: Command) -> &'static str {
         Command::Move => MOVE,
         Command::Edit => EDIT,
         Command::Lsp => LSP,
+        Command::Config => CONFIG,
         Command::Explain => EXPLAIN,
         Command::Help => HELP,
     }

@@ -5,18 +5,22 @@ ghost use Rattle.std.specs.Str.{IsValidUpTo};
 use crate::answers::{Answer, failed, give, printed};
 use crate::arguments::seconds;
 use crate::commands::{Command, help_of};
+use crate::configured::{Configured, Wanted, configured_files};
 use crate::edit::escaped;
 use crate::files::{read_file, replace, set_write_option};
+use crate::options::search_of;
 use crate::say::{say, say_misuse, unexpected};
 use crate::words::is_help;
 use std::alloc::{AllocError, Global};
 use std::fmt::Write;
 use std::io::IsTerminal;
-use toml_span::Stop;
+use toml_span::{Error, Stop, parse};
 use toml_span_check::encoding::not_utf8;
 use toml_span_check::folder::is_folder;
-use toml_span_check::input::{Host, Inputs};
+use toml_span_check::input::Host;
 use toml_span_check::words::shown_word;
+use toml_span_config::layers::{Layer, Settings, given};
+use toml_span_config::sources::Sources;
 use toml_span_files::unified;
 use toml_span_format::{FormatError, Options, format, format_sorted};
 use toml_span_lines::run::BOUND;
@@ -26,13 +30,13 @@ use toml_span_report::visible::visible;
 use toml_span_report::{Style, render};
 
 /// The maximum value of `--width`.
-const MOST_COLUMNS: usize = 65_535;
+const MOST_COLUMNS: u16 = 65_535;
 
 /// The maximum value of `--indent`.
-const MOST_SPACES: usize = 64;
+const MOST_SPACES: u16 = 64;
 
 /// The options.
-const OPTIONS: [&str; 13] = [
+const OPTIONS: [&str; 16] = [
     "--help",
     "--check",
     "--diff",
@@ -46,6 +50,9 @@ const OPTIONS: [&str; 13] = [
     "--indent",
     "--wait",
     "--exclude",
+    "--force-exclude",
+    "--config",
+    "--no-config",
 ];
 
 /// An option that has a value.
@@ -55,6 +62,7 @@ enum Valued {
     Indent,
     Wait,
     Exclude,
+    Config,
 }
 
 /// Returns the option with this name, or `None` if no option that has a value has this name.
@@ -64,6 +72,7 @@ fn option_with_value(name: &str) -> Option<Valued> {
         "--indent" => Some(Valued::Indent),
         "--wait" => Some(Valued::Wait),
         "--exclude" => Some(Valued::Exclude),
+        "--config" => Some(Valued::Config),
         _ => None,
     }
 }
@@ -75,6 +84,7 @@ fn missing(option: Valued) -> &'static str {
         Valued::Indent => "a number must follow '--indent'",
         Valued::Wait => "a number must follow '--wait'",
         Valued::Exclude => "a pattern must follow '--exclude'",
+        Valued::Config => "a file must follow '--config'",
     }
 }
 
@@ -105,15 +115,20 @@ impl Count {
 /// The parsed arguments.
 #[derive(Drop)]
 struct Asked<'w> {
-    options: Options,
+    layer: Layer,
     writing: toml_span_files::Options,
     is_check: bool,
     is_diff: bool,
-    is_sorted: bool,
     is_quiet: bool,
     names: Vec<&'w str>,
     /// The patterns of files to leave out of searches.
     excludes: Vec<&'w str>,
+    /// Whether configuration files also exclude files that are named.
+    forces_exclude: bool,
+    /// The path of the configuration file, or an empty text.
+    config: &'w str,
+    /// Whether to use no configuration file.
+    has_no_config: bool,
     /// The option whose value is the next argument, if any.
     waiting: Option<Valued>,
     /// Whether all later arguments are names of files.
@@ -121,8 +136,8 @@ struct Asked<'w> {
 }
 
 /// Parses `word`, the value of `option`, as a number from 0 to `most`. Fails with a message for any other `word`.
-fn number_of(alloc: Global, option: &str, word: &str, most: usize) -> Result<usize, Stop<String>> {
-    match word.parse::<usize>() {
+fn number_of(alloc: Global, option: &str, word: &str, most: u16) -> Result<u16, Stop<String>> {
+    match word.parse::<u16>() {
         Ok(number) if number <= most => Ok(number),
         _ => Err(Stop::Fault(format!(in alloc;
             "the value of '{option}' must be a number from 0 to {most}"
@@ -135,11 +150,13 @@ impl<'w> Asked<'w> {
     fn set(&mut self, alloc: Global, option: Valued, word: &'w str) -> Result<(), Stop<String>> {
         match option {
             Valued::Width => {
-                self.options.width = number_of(alloc, "--width", word, MOST_COLUMNS)?;
+                self.layer.width = given(number_of(alloc, "--width", word, MOST_COLUMNS)?);
             }
             Valued::Indent => {
-                self.options.indent = number_of(alloc, "--indent", word, MOST_SPACES)?;
+                let indent = number_of(alloc, "--indent", word, MOST_SPACES)?;
+                self.layer.indent = given(u8::try_from(indent).unwrap_or(u8::MAX));
             }
+            Valued::Config => self.config = word,
             Valued::Wait => self.writing.wait = seconds(alloc, word)?,
             Valued::Exclude => self.excludes.push(word)?,
         }
@@ -154,7 +171,9 @@ impl<'w> Asked<'w> {
         match word {
             "--check" => self.is_check = true,
             "--diff" => self.is_diff = true,
-            "--sort-keys" => self.is_sorted = true,
+            "--sort-keys" => self.layer.sort_keys = given(true),
+            "--force-exclude" => self.forces_exclude = true,
+            "--no-config" => self.has_no_config = true,
             "--stdin" => self.names.push("-")?,
             "--quiet" => self.is_quiet = true,
             "--" => self.is_over = true,
@@ -192,14 +211,16 @@ impl<'w> Asked<'w> {
 /// argument is wrong, or if the value of the last option is missing.
 fn asked_of<'w>(alloc: Global, arguments: &'w [String]) -> Result<Asked<'w>, Stop<String>> {
     let mut asked = Asked {
-        options: Options::new(),
+        layer: Layer::empty(),
         writing: toml_span_files::Options::USUAL,
         is_check: false,
         is_diff: false,
-        is_sorted: false,
         is_quiet: false,
         names: Vec::new(alloc),
         excludes: Vec::new(alloc),
+        forces_exclude: false,
+        config: "",
+        has_no_config: false,
         waiting: None,
         is_over: false,
     };
@@ -215,27 +236,32 @@ fn asked_of<'w>(alloc: Global, arguments: &'w [String]) -> Result<Asked<'w>, Sto
     Ok(asked)
 }
 
-/// Returns the answer for a file that can't be formatted.
+/// Returns the answer for a file whose text has this error: the report that `check` makes.
+fn invalid(alloc: Global, name: &str, text: &str, error: &Error<'_>) -> Result<Answer, AllocError> {
+    let report = error_report(alloc, error, text)?;
+    Ok(Answer {
+        out: String::new(alloc),
+        errors: render(alloc, Style::Plain, &report, name, text)?,
+        status: 1,
+    })
+}
+
+/// Returns the answer for a file that can't be formatted. A text whose keys clash may be read as long as they are not
+/// sorted; then the answer is the report of the clash.
 fn refused(
     alloc: Global,
     name: &str,
     text: &str,
     error: &FormatError<'_>,
 ) -> Result<Answer, AllocError> {
-    match error {
-        FormatError::Invalid(error) => {
-            let report = error_report(alloc, error, text)?;
-            Ok(Answer {
-                out: String::new(alloc),
-                errors: render(alloc, Style::Plain, &report, name, text)?,
-                status: 1,
-            })
-        }
-        FormatError::WouldDiffer => {
-            let reason = error.to_string(alloc)?;
-            failed(alloc, "error: cannot format ", name, reason.as_str(), 1)
-        }
+    if let FormatError::Invalid(error) = error {
+        return invalid(alloc, name, text, error);
     }
+    if let Err(Stop::Fault(clash)) = parse(alloc, text) {
+        return invalid(alloc, name, text, &clash);
+    }
+    let reason = error.to_string(alloc)?;
+    failed(alloc, "error: cannot format ", name, reason.as_str(), 1)
 }
 
 /// Returns the answer for a file that is not valid UTF-8: the report that `check` makes. `at` is the byte offset of the
@@ -325,14 +351,32 @@ fn unread<'r>(host: &Host, name: &str, reason: &'r str) -> &'r str {
     }
 }
 
+/// Formats a text as the settings say. Fails as `format` does.
+fn formatted<'t>(
+    alloc: Global,
+    text: &'t str,
+    settings: &Settings,
+) -> Result<String, Stop<FormatError<'t>>> {
+    let options = Options {
+        width: usize::from(settings.width.value),
+        indent: usize::from(settings.indent.value),
+    };
+    if settings.sort_keys.value {
+        format_sorted(alloc, text, options)
+    } else {
+        format(alloc, text, options)
+    }
+}
+
 /// Formats a file, counts it, and returns the answer. If the file can't be read or formatted, the answer says why.
 fn format_file(
     alloc: Global,
     asked: &Asked<'_>,
     host: &mut Host,
-    name: &str,
+    file: &Configured,
     count: &mut Count,
 ) -> Result<Answer, AllocError> {
+    let name = file.name.as_str();
     let front = "error: cannot format ";
     let bytes = match read_file(alloc, host, name)? {
         Ok(bytes) => bytes,
@@ -348,12 +392,7 @@ fn format_file(
         Ok(text) => text,
         Err(error) => return not_text(alloc, name, bytes.as_slice(), error.valid_up_to()),
     };
-    let made = if asked.is_sorted {
-        format_sorted(alloc, text, asked.options)
-    } else {
-        format(alloc, text, asked.options)
-    };
-    match made {
+    match formatted(alloc, text, &file.found.settings) {
         Ok(new) if new.len() > BOUND => {
             let reason = "the result would be larger than 16 MiB";
             failed(alloc, front, name, reason, 1)
@@ -400,9 +439,13 @@ fn summarize(text: &mut String, asked: &Asked<'_>, count: Count) -> Result<(), A
     Ok(())
 }
 
-/// Formats each file that the arguments name, and each file found below a directory that they name. Returns one answer
-/// for all files, with a line that counts them.
-fn format_each(alloc: Global, asked: &Asked<'_>, host: &mut Host) -> Result<Answer, AllocError> {
+/// Formats the files. Returns one answer for all, with a line that counts them.
+fn format_each(
+    alloc: Global,
+    asked: &Asked<'_>,
+    host: &mut Host,
+    files: &[Configured],
+) -> Result<Answer, AllocError> {
     // If nothing else is reported, the line that counts files needs no more memory once files have been written.
     let errors = String::with_capacity(alloc, LONGEST_LINE)?;
     let mut all = Answer {
@@ -414,20 +457,46 @@ fn format_each(alloc: Global, asked: &Asked<'_>, host: &mut Host) -> Result<Answ
         changed: 0,
         unchanged: 0,
     };
-    for name in &asked.names {
-        let files = host.find(alloc, asked.excludes.as_slice(), *name)?;
-        for file in &files {
-            let one = format_file(alloc, asked, host, file.as_str(), &mut count)?;
-            add(&mut all, &one)?;
-        }
+    for file in files {
+        let one = format_file(alloc, asked, host, file, &mut count)?;
+        add(&mut all, &one)?;
     }
     summarize(&mut all.errors, asked, count)?;
     Ok(all)
 }
 
-/// Formats files as `format_each` does. With `--diff`, the output is escaped if standard output is a terminal.
+/// Returns the files that the arguments name, and those found below directories that they name, with their settings.
+/// Fails with a message, for standard error, if a configuration file can't be read or is wrong.
+fn files_of(
+    alloc: Global,
+    asked: &Asked<'_>,
+    host: &mut Host,
+) -> Result<Vec<Configured>, Stop<String>> {
+    let search = search_of(asked.config, asked.has_no_config);
+    let mut sources = Sources::new(alloc, host, search, asked.layer, Style::Plain)?;
+    let wanted = Wanted {
+        names: asked.names.as_slice(),
+        excludes: asked.excludes.as_slice(),
+        stdin_name: "-",
+        forces_exclude: asked.forces_exclude,
+    };
+    configured_files(alloc, host, &mut sources, wanted)
+}
+
+/// Finds the files, and formats them as `format_each` does. With `--diff`, the output is escaped if standard output is a
+/// terminal. If a configuration file can't be read or is wrong, formats nothing, and the answer says why.
 fn format_all(alloc: Global, asked: &Asked<'_>, host: &mut Host) -> Result<Answer, AllocError> {
-    let answer = format_each(alloc, asked, host)?;
+    let files = match files_of(alloc, asked, host) {
+        Ok(files) => files,
+        Err(stop) => {
+            return Ok(Answer {
+                out: String::new(alloc),
+                errors: stop.fault()?,
+                status: 2,
+            });
+        }
+    };
+    let answer = format_each(alloc, asked, host, files.as_slice())?;
     if !asked.is_diff {
         return Ok(answer);
     }

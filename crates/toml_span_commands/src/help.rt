@@ -21,6 +21,7 @@ Commands:
   move     move a value to another path
   edit     make several edits at once
   lsp      run the language server for an editor
+  config   print the settings for a file, and where they come from
   explain  print what an error code means
   help     print this help, or the help of a command
 
@@ -38,9 +39,9 @@ Checks TOML files and reports errors.
 Usage: toml-span check [OPTION].. [FILE|DIRECTORY|-]..
 
 Directories are searched recursively for `*.toml`. The search skips hidden
-directories, `target`, `node_modules`, and what `.gitignore` files in these
-directories list. Without a file, the current directory is searched. For `-`,
-standard input is read.
+directories, `target`, `node_modules`, and what `.gitignore` and `.ignore`
+files list. Without a file, the current directory is searched. For `-`, standard
+input is read.
 
 Options:
   --format FORMAT  how to report errors [default: text]
@@ -74,6 +75,11 @@ Options:
   --no-formats     ignore the keyword `format` of schemas
   --exclude GLOB   skip matching files and directories in a search; GLOB is
                    written as in a `.gitignore` file; can be repeated
+  --config FILE    take settings from FILE, not from the nearest
+                   `toml-span.toml` in the directory of a file or above
+  --no-config      read no `toml-span.toml`
+  --force-exclude  also skip files that are named, if `toml-span.toml` excludes
+                   them
   --stdin-name NAME
                    the name of standard input in reports, which also says where
                    its schema is and which version of TOML it has [default: -]
@@ -84,7 +90,8 @@ Options:
 Exit status:
   0  all files are valid, or with --diff: no file would change
   1  a file has an error, or with --diff: a file would change
-  2  a file or a schema can't be read, or the arguments are wrong
+  2  a file, its schema or its configuration can't be read, or the arguments are
+     wrong
   3  output, or a fixed file, can't be written
   4  out of memory
 ";
@@ -138,6 +145,29 @@ Exit status:
   4  out of memory
 ";
 
+/// The help of `config`.
+pub(crate) const CONFIG: &str = "\
+Prints the settings for a file, and where each of them comes from.
+
+Usage: toml-span config [OPTION].. [FILE]
+
+Settings come from the nearest `toml-span.toml` or `.toml-span.toml`, in the
+directory of the file or above. The search ends at a directory with an entry
+`.git`. The output is TOML. Without a file, the settings that hold for files in
+the current directory without an entry in `files` are printed.
+
+Options:
+  --config FILE  read this configuration file
+  --no-config    read no configuration file
+  -h, --help     print this help
+
+Exit status:
+  0  done
+  2  the configuration file can't be read, or the arguments are wrong
+  3  output can't be written
+  4  out of memory
+";
+
 /// The help of `explain`.
 pub(crate) const EXPLAIN: &str = "\
 Prints what an error code means, with an example and how to fix it.
@@ -178,6 +208,12 @@ Options:
   --indent N      spaces before an element on a line of its own [default: 4]
   --exclude GLOB  skip matching files and directories in a search; GLOB is
                   written as in a `.gitignore` file; can be repeated
+  --config FILE   take settings from FILE, not from the nearest
+                  `toml-span.toml` in the directory of a file or above
+  --no-config     read no `toml-span.toml`
+  --force-exclude
+                  also skip files that are named, if `toml-span.toml` excludes
+                  them
   --quiet         print no summary and, with --check, no names
   --force         write read-only files too
   --change-owner  write files whose owner or group can't be kept too
@@ -191,7 +227,7 @@ Options:
 Exit status:
   0  done, or with --check or --diff: no file would change
   1  a file has a syntax error, or with --check or --diff: a file would change
-  2  a file can't be read, or the arguments are wrong
+  2  a file or its configuration can't be read, or the arguments are wrong
   3  a result can't be written
   4  out of memory
 ";

@@ -7,6 +7,8 @@ mod changes;
 pub mod check;
 pub mod colours;
 pub mod commands;
+pub mod config;
+mod configured;
 pub mod edit;
 pub mod explain;
 mod files;

@@ -18,6 +18,7 @@ use toml_span_check::newer::Version;
 use toml_span_check::request::Request;
 use toml_span_check::schemas::Chooser;
 use toml_span_check::words::is_bytes;
+use toml_span_config::sources::Search;
 use toml_span_report::Style;
 
 /// A command whose arguments this module parses.
@@ -51,6 +52,31 @@ pub(crate) struct Options<'w> {
     /// How fixed files are written.
     pub(crate) writing: toml_span_files::Options,
     pub(crate) schemas: SchemaOptions<'w>,
+    /// The path of the configuration file, or an empty text.
+    config: &'w str,
+    /// Whether to use no configuration file.
+    has_no_config: bool,
+    /// Whether configuration files also exclude files that are named.
+    pub(crate) forces_exclude: bool,
+}
+
+impl<'w> Options<'w> {
+    /// Returns which configuration file to use.
+    pub(crate) fn search(&self) -> Search<'w> {
+        search_of(self.config, self.has_no_config)
+    }
+}
+
+/// Returns which configuration file to use. `config` is the value of `--config`, or an empty text, and `has_none` says
+/// whether `--no-config` is given.
+pub(crate) fn search_of<'w>(config: &'w str, has_none: bool) -> Search<'w> {
+    if has_none {
+        Search::No
+    } else if config.is_empty() {
+        Search::Nearest
+    } else {
+        Search::Given(config)
+    }
 }
 
 /// A mistake that clap does not find in the arguments.
@@ -159,11 +185,21 @@ fn fixing_command<'w>(alloc: Global) -> Result<Command<'w>, AllocError>
         .arg(flag(alloc, "in-place"))
 }
 
+/// Returns the command `check` with the options of `fixing_command` and those about configuration files.
+fn configured_command<'w>(alloc: Global) -> Result<Command<'w>, AllocError>
+    ensures { IfOk result (λ c. app_of c ≡ spec.configured) }
+{
+    fixing_command(alloc)?
+        .arg(optional(alloc, "config"))?
+        .arg(flag(alloc, "no-config"))?
+        .arg(flag(alloc, "force-exclude"))
+}
+
 /// Returns the command `check` with all its arguments.
 fn check_command<'w>(alloc: Global) -> Result<Command<'w>, AllocError>
     ensures { IfOk result (λ c. app_of c ≡ spec.check) }
 {
-    fixing_command(alloc)?
+    configured_command(alloc)?
         .arg(flag(alloc, "quiet"))?
         .arg(with_default(alloc, "toml", "auto"))?
         .arg(several(alloc, "exclude"))?
@@ -477,6 +513,9 @@ pub(crate) fn options_of<'w>(
                 maps: Vec::from_slice(alloc, matches.get_strs("schema-map").unwrap_or(&[]))?,
                 has_formats: !is_given(&matches, "no-formats"),
             },
+            config: value_of(&matches, "config"),
+            has_no_config: is_given(&matches, "no-config"),
+            forces_exclude: is_given(&matches, "force-exclude"),
         }),
         Err(mistake) => Err(command.error(kind_of(mistake), message_of(mistake))?),
     }

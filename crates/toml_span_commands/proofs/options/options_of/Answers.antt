@@ -4,7 +4,7 @@ use Rattle.clap.specs.Values as clap
 use Rattle.clap.specs.Words.{App, HasMatchesOf, all_of, fault_of, found_of, is_simple, is_simple_and_free, matches_of, rows_of}
 use Rattle.clap.specs.declared.error.Error.{Error}
 use Rattle.clap.specs.declared.parser.matches.ArgMatches.{ArgMatches}
-use Rattle.toml_span_commands.specs.Options.{asked, check, common, faults, fixing, fixing_of, forms, get, is_given, kind_of, options, program, refusals, schemas, value_of}
+use Rattle.toml_span_commands.specs.Options.{asked, check, common, configured, faults, fixing, fixing_of, forms, get, is_given, kind_of, options, program, refusals, schemas, value_of}
 use Rattle.toml_span_commands.specs.declared.options.Mistake.{Mistake}
 use Rattle.toml_span_commands.specs.declared.options.Query.{Query}
 use Rattle.toml_span_commands.specs.declared.options.Query.TheVariants as queries
@@ -12,12 +12,12 @@ use Rattle.toml_span_commands.proofs.Rows.{all-row, or-none}
 use Rattle.toml_span_commands.proofs.options.options_of.Goals as goal
 
 is-simple : (query : Query) → is_simple (program query) ≡ true
-unfolding common schemas fixing check forms get
+unfolding common schemas fixing configured check forms get
 is-simple queries.Check = refl
 is-simple queries.Get = refl
 
 is-free : (query : Query) → is_simple_and_free (program query) ≡ true
-unfolding common schemas fixing check forms get
+unfolding common schemas fixing configured check forms get
 is-free queries.Check = refl
 is-free queries.Get = refl
 

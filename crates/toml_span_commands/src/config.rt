@@ -1,0 +1,221 @@
+//! The command `config`.
+ghost use Rattle.std.specs.Prelude.{◌≡◌, ◌≤◌, IfOk, false};
+
+use crate::commands::{Command, help_of};
+use crate::options::search_of;
+use crate::say::{say, say_misuse, unexpected};
+use crate::words::is_help;
+use std::alloc::{AllocError, Global};
+use toml_span::Stop;
+use toml_span_check::input::Host;
+use toml_span_check::newer::Version;
+use toml_span_check::words::shown_word;
+use toml_span_config::layers::{Chosen, Layer, Origin};
+use toml_span_config::sources::{Found, Sources};
+use toml_span_edit::string_text;
+use toml_span_lines::sink::Sink;
+use toml_span_report::visible::visible;
+use toml_span_report::{Style, line_column};
+
+/// The options.
+const OPTIONS: [&str; 3] = ["--help", "--config", "--no-config"];
+
+/// The parsed arguments.
+#[derive(Clone, Copy)]
+struct Asked<'w> {
+    /// The path of the configuration file, or an empty text.
+    config: &'w str,
+    /// Whether to use no configuration file.
+    has_no_config: bool,
+    file: Option<&'w str>,
+}
+
+/// Parses all arguments. Fails with a message if an argument is wrong, or if the value of `--config` is missing.
+fn asked_of<'w>(alloc: Global, arguments: &'w [String]) -> Result<Asked<'w>, Stop<String>> {
+    let mut asked = Asked {
+        config: "",
+        has_no_config: false,
+        file: None,
+    };
+    let mut is_waiting = false;
+    for word in arguments {
+        let word = word.as_str();
+        if is_waiting {
+            asked.config = word;
+            is_waiting = false;
+        } else if word == "--config" {
+            is_waiting = true;
+        } else if word == "--no-config" {
+            asked.has_no_config = true;
+        } else if let Some(path) = word.strip_prefix("--config=") {
+            asked.config = path;
+        } else if asked.file.is_some() || (word.starts_with('-') && word != "-") {
+            return Err(Stop::Fault(unexpected(alloc, word, "", &OPTIONS)?));
+        } else {
+            asked.file = Some(word);
+        }
+    }
+    if is_waiting {
+        let message = String::from_str(alloc, "a file must follow '--config'")?;
+        return Err(Stop::Fault(message));
+    }
+    Ok(asked)
+}
+
+/// The output so far, and where the settings come from.
+#[derive(Drop)]
+struct Table<'s> {
+    alloc: Global,
+    sources: &'s Sources,
+    found: Found,
+    out: String,
+}
+
+impl Table<'_> {
+    /// Adds a line with a setting, and a comment on where it comes from.
+    fn add(&mut self, name: &str, value: &str, origin: Origin) -> Result<(), AllocError> {
+        self.out.push_str(name)?;
+        self.out.push_str(" = ")?;
+        self.out.push_str(value)?;
+        self.out.push_str(" # ")?;
+        self.add_origin(origin)?;
+        self.out.push('\n')
+    }
+
+    /// Adds where a setting comes from.
+    fn add_origin(&mut self, origin: Origin) -> Result<(), AllocError> {
+        let Origin::File(span) = origin else {
+            return self.out.push_str("default");
+        };
+        let source = match self.found.source {
+            Some(at) => self.sources.list.get(at),
+            None => None,
+        };
+        let Some(source) = source else {
+            return self.out.push_str("default");
+        };
+        let (line, column) = line_column(source.text.as_str(), span.start);
+        let name = shown_word(self.alloc, source.name.as_str())?;
+        let name = visible(self.alloc, name.as_str())?;
+        let place = format!(in self.alloc; "{}:{line}:{column}", name.as_str())?;
+        self.out.push_str(place.as_str())
+    }
+
+    /// Adds a line with a number.
+    fn add_number(&mut self, name: &str, number: u16, origin: Origin) -> Result<(), AllocError> {
+        let value = format!(in self.alloc; "{number}")?;
+        self.add(name, value.as_str(), origin)
+    }
+
+    /// Adds a line with a boolean.
+    fn add_flag(&mut self, name: &str, flag: Chosen<bool>) -> Result<(), AllocError> {
+        let value = if flag.value { "true" } else { "false" };
+        self.add(name, value, flag.origin)
+    }
+
+    /// Adds a line for each setting.
+    fn add_settings(&mut self) -> Result<(), AllocError> {
+        let settings = self.found.settings;
+        let toml = match settings.toml.value {
+            Version::Auto => "\"auto\"",
+            Version::Toml10 => "\"1.0\"",
+            Version::Toml11 => "\"1.1\"",
+        };
+        self.add("check.toml", toml, settings.toml.origin)?;
+        self.add_flag("check.deny-warnings", settings.deny_warnings)?;
+        self.add_number("fmt.width", settings.width.value, settings.width.origin)?;
+        let indent = u16::from(settings.indent.value);
+        self.add_number("fmt.indent", indent, settings.indent.origin)?;
+        self.add_flag("fmt.sort-keys", settings.sort_keys)
+    }
+
+    /// Adds a line with the schema, if the configuration names one. A path is relative to the current directory.
+    fn add_schema(&mut self) -> Result<(), AllocError> {
+        let path = self.sources.schema_of(self.alloc, &self.found)?;
+        match (path, self.found.settings.schema) {
+            (Some(path), Some(schema)) => {
+                let value = string_text(self.alloc, path.as_str())?;
+                self.add("schema", value.as_str(), schema.origin)
+            }
+            _ => Ok(()),
+        }
+    }
+
+    /// Adds a comment that names the configuration file, and one that says if it excludes the file.
+    fn add_head(&mut self) -> Result<(), AllocError> {
+        let source = match self.found.source {
+            Some(at) => self.sources.list.get(at),
+            None => None,
+        };
+        match source {
+            Some(source) => {
+                let name = shown_word(self.alloc, source.name.as_str())?;
+                let name = visible(self.alloc, name.as_str())?;
+                let line = format!(in self.alloc; "# settings of {}\n", name.as_str())?;
+                self.out.push_str(line.as_str())?;
+            }
+            None => self.out.push_str("# no configuration file\n")?,
+        }
+        if self.found.is_excluded {
+            self.out.push_str("# this file is excluded\n")?;
+        }
+        Ok(())
+    }
+}
+
+/// Returns the settings for the file that the arguments name as TOML, with comments on where they come from. Fails with
+/// a message, for standard error, if the configuration file can't be read or is wrong.
+fn shown(alloc: Global, asked: Asked<'_>, host: &mut Host) -> Result<String, Stop<String>> {
+    let search = search_of(asked.config, asked.has_no_config);
+    let mut sources = Sources::new(alloc, host, search, Layer::empty(), Style::Plain)?;
+    let found = match asked.file {
+        Some(file) => sources.settings_for(alloc, host, file)?,
+        None => sources.general_settings(alloc, host)?,
+    };
+    let mut table = Table {
+        alloc,
+        sources: &sources,
+        found,
+        out: String::new(alloc),
+    };
+    table.add_head()?;
+    table.add_schema()?;
+    table.add_settings()?;
+    Ok(table.out)
+}
+
+/// Carries out `config`: prints the settings for a file, the help, or that the arguments or a configuration file are
+/// wrong. `words` are the name of the command and its arguments. Returns the exit status.
+pub fn config<O: Sink, E: Sink>(
+    alloc: Global,
+    words: &[String],
+    host: &mut Host,
+    out: &mut O,
+    errors: &mut E,
+) -> Result<u8, AllocError>
+    requires out { O.failed out.old ≡ false }
+    requires errors { E.failed errors.old ≡ false }
+    ensures { IfOk result (λ status. status ≤ 4) }
+{
+    let arguments = match words {
+        [_, rest @ ..] => rest,
+        [] => words,
+    };
+    if arguments.iter().any(|word| is_help(word.as_str())) {
+        return Ok(say(out, help_of(Command::Config), 0));
+    }
+    let asked = match asked_of(alloc, arguments) {
+        Ok(asked) => asked,
+        Err(stop) => {
+            let message = stop.fault()?;
+            return say_misuse(alloc, Command::Config, message.as_str(), errors);
+        }
+    };
+    match shown(alloc, asked, host) {
+        Ok(text) => Ok(say(out, text.as_str(), 0)),
+        Err(stop) => {
+            let message = stop.fault()?;
+            Ok(say(errors, message.as_str(), 2))
+        }
+    }
+}

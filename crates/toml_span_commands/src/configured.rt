@@ -1,0 +1,128 @@
+//! Files with the settings that configuration files have for them.
+ghost use Rattle.std.specs.Prelude.{◌≡◌};
+ghost use Rattle.toml_span_commands.specs.Configured as spec;
+
+use std::alloc::{AllocError, Global};
+use toml_span::Stop;
+use toml_span_check::answer::Task;
+use toml_span_check::input::{Host, Inputs};
+use toml_span_check::newer::Version;
+use toml_span_check::schemas::Chooser;
+use toml_span_config::sources::{Found, Sources};
+
+/// A file, and the settings for it.
+#[derive(Drop)]
+pub(crate) struct Configured {
+    /// The name of the file, as it was found, or `-` for standard input.
+    pub(crate) name: String,
+    /// The name of the file in reports.
+    pub(crate) shown: String,
+    pub(crate) found: Found,
+}
+
+/// Which files to work on.
+#[derive(Clone, Copy)]
+pub(crate) struct Wanted<'w> {
+    /// The names of files and directories.
+    pub(crate) names: &'w [&'w str],
+    /// The patterns of files to leave out of searches.
+    pub(crate) excludes: &'w [&'w str],
+    /// The name of standard input.
+    pub(crate) stdin_name: &'w str,
+    /// Whether configuration files exclude also the files in `names`.
+    pub(crate) forces_exclude: bool,
+}
+
+/// Appends the file `name`, unless its configuration excludes it. `is_named` says whether an argument names the file,
+/// which is excluded only if this is forced. Fails with a message if the configuration is wrong.
+fn push_file(
+    alloc: Global,
+    host: &mut Host,
+    sources: &mut Sources,
+    wanted: Wanted<'_>,
+    name: String,
+    is_named: bool,
+    files: &mut Vec<Configured>,
+) -> Result<(), Stop<String>> {
+    let shown = if name.as_str() == "-" {
+        String::from_str(alloc, wanted.stdin_name)?
+    } else {
+        name.clone()?
+    };
+    let found = sources.settings_for(alloc, host, shown.as_str())?;
+    if found.is_excluded && (!is_named || wanted.forces_exclude) {
+        return Ok(());
+    }
+    files.push(Configured { name, shown, found })?;
+    Ok(())
+}
+
+/// Returns the files that `wanted` names, and those found below directories that it names, except those that are
+/// excluded, with their settings. Fails with a message, for standard error, if a configuration file can't be read or is
+/// wrong.
+pub(crate) fn configured_files(
+    alloc: Global,
+    host: &mut Host,
+    sources: &mut Sources,
+    wanted: Wanted<'_>,
+) -> Result<Vec<Configured>, Stop<String>> {
+    let mut files = Vec::new(alloc);
+    for name in wanted.names {
+        let found = host.find(alloc, wanted.excludes, *name)?;
+        for file in found {
+            let is_named = file.as_str() == *name;
+            push_file(alloc, host, sources, wanted, file, is_named, &mut files)?;
+        }
+    }
+    Ok(files)
+}
+
+/// Returns the version of TOML of all files, or `None` if they have several.
+pub(crate) fn common_version(files: &[Configured]) -> Option<Version> {
+    let version = match files.first() {
+        Some(file) => file.found.settings.toml.value,
+        None => Version::Auto,
+    };
+    for file in files {
+        if file.found.settings.toml.value != version {
+            return None;
+        }
+    }
+    Some(version)
+}
+
+/// Returns whether a configuration file names a schema for one of the files.
+pub(crate) fn has_schemas(files: &[Configured]) -> bool {
+    for file in files {
+        if file.found.settings.schema.is_some() {
+            return true;
+        }
+    }
+    false
+}
+
+/// Returns the task for files with this version of TOML, which holds unless the arguments name one. `has_schemas` says
+/// whether a configuration file names schemas.
+pub(crate) fn configured_task(task: Task, version: Version, has_schemas: bool) -> Task
+    ensures { result ≡ spec.configured_task task version has_schemas }
+{
+    match task {
+        Task::Check(Version::Auto, chooser) => Task::Check(
+            version,
+            with_schemas(chooser, has_schemas),
+        ),
+        Task::Check(asked, chooser) => Task::Check(asked, with_schemas(chooser, has_schemas)),
+        Task::Show(form) => Task::Show(form),
+    }
+}
+
+/// Returns `Chooser::Arguments` if a configuration file names schemas, otherwise `chooser`.
+fn with_schemas(chooser: Chooser, has_schemas: bool) -> Chooser
+    ensures { result ≡ spec.with_schemas chooser has_schemas }
+{
+    if has_schemas {
+        Chooser::Arguments
+    } else {
+        chooser
+    }
+}

@@ -1,0 +1,50 @@
+-- Which setting holds where several places may set it: the one of the upper layer.
+use Rattle.std.specs.Prelude.{ℕ, Bool, false, Option, Some, None}
+use Rattle.toml_span_check.specs.declared.newer.Version.{Version}
+use Rattle.toml_span_check.specs.declared.newer.Version.TheVariants.{Auto}
+use Rattle.toml_span_lex.specs.declared.spanned.Spanned.{Spanned}
+use Rattle.toml_span_config.specs.declared.layers.Chosen.{Chosen}
+use Rattle.toml_span_config.specs.declared.layers.Layer.{Layer}
+use Rattle.toml_span_config.specs.declared.layers.Origin.TheVariants as origins
+use Rattle.toml_span_config.specs.declared.layers.Settings.{Settings}
+
+abbrev pub given : {A : Type 0} → A → Option (Chosen A)
+given value = Some (record { value = value; origin = origins.Arguments })
+
+abbrev pub of_field : {A : Type 0} → Option (Spanned A) → Option (Chosen A)
+of_field None = None
+of_field (Some field) = Some (record { value = field.value; origin = origins.File field.span })
+
+-- the upper of two settings if it is set, otherwise the lower
+abbrev pub over : {A : Type 0} → Option A → Option A → Option A
+over lower None = lower
+over lower (Some x) = Some x
+
+abbrev pub or_default : {A : Type 0} → Option (Chosen A) → A → Chosen A
+or_default None default = record { value = default; origin = origins.Default }
+or_default (Some setting) default = setting
+
+abbrev pub empty : Layer
+empty = record { toml = None; deny_warnings = None; width = None; indent = None; sort_keys = None; schema = None }
+
+-- the settings of both layers; where both set one, that of the upper holds
+abbrev pub under : Layer → Layer → Layer
+under lower upper = record {
+  toml = over lower.toml upper.toml;
+  deny_warnings = over lower.deny_warnings upper.deny_warnings;
+  width = over lower.width upper.width;
+  indent = over lower.indent upper.indent;
+  sort_keys = over lower.sort_keys upper.sort_keys;
+  schema = over lower.schema upper.schema;
+}
+
+-- the settings of a layer, with defaults for those that are not set
+abbrev pub settled : Layer → Settings
+settled layer = record {
+  toml = or_default layer.toml Auto;
+  deny_warnings = or_default layer.deny_warnings false;
+  width = or_default layer.width 80;
+  indent = or_default layer.indent 4;
+  sort_keys = or_default layer.sort_keys false;
+  schema = layer.schema;
+}

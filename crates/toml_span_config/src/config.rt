@@ -1,0 +1,278 @@
+//! Configurations, and the settings that they have for a file.
+ghost use Rattle.std.specs.Prelude.{◌≡◌, IfOk, map, Some, true};
+ghost use Rattle.toml_span_check.specs.Patterns.{pattern, parts};
+ghost use Rattle.toml_span_config.specs.Config as spec;
+
+use crate::document::{CheckTable, Document, FilesTable, FmtTable, Glob};
+use crate::layers::{Chosen, Layer, Origin, Settings, of_field};
+use std::alloc::{AllocError, Global};
+use std::collections::BTreeMap;
+use toml_span::{DeserError, Spanned, Stop, from_str};
+use toml_span_check::every::check;
+use toml_span_check::patterns::{Pattern, last_match};
+use toml_span_mistakes::reports_of;
+use toml_span_report::Report;
+
+/// An entry of the array `files`: settings for the files that its patterns select.
+#[derive(Drop)]
+pub struct Entry {
+    patterns: Vec<Pattern>,
+    layer: Layer,
+    /// The path or URL of the schema, as it is written. Empty if the entry names no schema.
+    pub schema: String,
+}
+
+/// A local copy of a schema, or of the schemas below an address.
+#[derive(Drop)]
+pub struct LocalCopy {
+    /// The URL.
+    pub address: String,
+    /// The path of the copy, as it is written.
+    pub path: String,
+}
+
+/// A configuration.
+#[derive(Drop)]
+pub struct Config {
+    excludes: Vec<Pattern>,
+    general: Layer,
+    /// The entries of the array `files`.
+    pub files: Vec<Entry>,
+    /// The entries of the table `schema-map`.
+    pub copies: Vec<LocalCopy>,
+}
+
+/// Returns the patterns of the globs.
+fn patterns_of(alloc: Global, globs: Vec<Glob>) -> Result<Vec<Pattern>, AllocError> {
+    let mut patterns = Vec::new(alloc);
+    for glob in globs {
+        patterns.push(glob.pattern)?;
+    }
+    Ok(patterns)
+}
+
+/// Returns `lower` with the settings of a table `check`, which hold where both set one.
+fn with_check(lower: Layer, table: &Option<CheckTable>) -> Layer {
+    let Some(table) = table else {
+        return lower;
+    };
+    let toml = match &table.toml {
+        Some(name) => Some(Chosen {
+            value: name.value.version,
+            origin: Origin::File(name.span),
+        }),
+        None => None,
+    };
+    lower.under(Layer {
+        toml,
+        deny_warnings: of_field(&table.deny_warnings),
+        ..Layer::empty()
+    })
+}
+
+/// Returns `lower` with the settings of a table `fmt`, which hold where both set one.
+fn with_fmt(lower: Layer, table: &Option<FmtTable>) -> Layer {
+    let Some(table) = table else {
+        return lower;
+    };
+    lower.under(Layer {
+        width: of_field(&table.width),
+        indent: of_field(&table.indent),
+        sort_keys: of_field(&table.sort_keys),
+        ..Layer::empty()
+    })
+}
+
+/// Returns the layer that names the schema of the entry at the position `at`, or sets nothing if the entry names none.
+fn schema_layer(schema: &Option<Spanned<String>>, at: usize) -> Layer {
+    match schema {
+        Some(path) => Layer {
+            schema: Some(Chosen {
+                value: at,
+                origin: Origin::File(path.span),
+            }),
+            ..Layer::empty()
+        },
+        None => Layer::empty(),
+    }
+}
+
+/// Returns the entry at the position `at`.
+fn entry_of(alloc: Global, table: FilesTable, at: usize) -> Result<Entry, AllocError> {
+    let FilesTable {
+        globs,
+        schema,
+        check,
+        fmt,
+    } = table;
+    let layer = with_fmt(with_check(schema_layer(&schema, at), &check), &fmt);
+    let schema = match schema {
+        Some(path) => path.value,
+        None => String::new(alloc),
+    };
+    Ok(Entry {
+        patterns: patterns_of(alloc, globs)?,
+        layer,
+        schema,
+    })
+}
+
+/// Returns the entries of the array `files`, if it is there.
+fn entries_of(alloc: Global, tables: Option<Vec<FilesTable>>) -> Result<Vec<Entry>, AllocError> {
+    let mut entries = Vec::new(alloc);
+    let Some(tables) = tables else {
+        return Ok(entries);
+    };
+    for table in tables {
+        let at = entries.len();
+        entries.push(entry_of(alloc, table, at)?)?;
+    }
+    Ok(entries)
+}
+
+/// Returns the entries of the table `schema-map`, if it is there.
+fn copies_of(
+    alloc: Global,
+    map: Option<BTreeMap<String, String>>,
+) -> Result<Vec<LocalCopy>, AllocError> {
+    let mut copies = Vec::new(alloc);
+    let Some(map) = map else {
+        return Ok(copies);
+    };
+    for (address, path) in map {
+        copies.push(LocalCopy { address, path })?;
+    }
+    Ok(copies)
+}
+
+/// Returns the configuration of a file that has been read.
+fn config_of(alloc: Global, document: Document) -> Result<Config, AllocError> {
+    let Document {
+        exclude,
+        check,
+        fmt,
+        files,
+        schema_map,
+    } = document;
+    let excludes = match exclude {
+        Some(globs) => patterns_of(alloc, globs)?,
+        None => Vec::new(alloc),
+    };
+    Ok(Config {
+        excludes,
+        general: with_fmt(with_check(Layer::empty(), &check), &fmt),
+        files: entries_of(alloc, files)?,
+        copies: copies_of(alloc, schema_map)?,
+    })
+}
+
+/// Returns the reports on a text that is not a configuration: those of its syntax errors or, if it is valid TOML, those
+/// of `read`, the failed read.
+fn reports_on(
+    alloc: Global,
+    text: &str,
+    read: &Result<(), Stop<DeserError<'_>>>,
+) -> Result<Vec<Report>, AllocError> {
+    let reports = check(alloc, text)?;
+    if reports.is_empty() {
+        reports_of(alloc, read, &[], text)
+    } else {
+        Ok(reports)
+    }
+}
+
+/// Returns `lower` with the settings of an entry, which hold where both set one, if the patterns of the entry select
+/// the file at `path`. Fails if an allocation fails.
+fn with_entry(alloc: Global, lower: Layer, entry: &Entry, path: &str) -> Result<Layer, AllocError>
+    ensures { IfOk result (λ layer. layer ≡ spec.with_entry path.now lower (spec.entry entry.now)) }
+{
+    match last_match(alloc, entry.patterns.as_slice(), path, false)? {
+        Some(true) => Ok(lower.under(entry.layer)),
+        Some(false) | None => Ok(lower),
+    }
+}
+
+/// Returns `lower` with the settings of each entry whose patterns select the file at `path`. The last of these entries
+/// that sets a setting decides. Fails if an allocation fails.
+fn with_entries(
+    alloc: Global,
+    lower: Layer,
+    entries: &[Entry],
+    path: &str,
+) -> Result<Layer, AllocError>
+    ensures { IfOk result (λ layer. layer ≡ spec.with_entries path.now lower (map spec.entry entries.now)) }
+{
+    let mut layer = lower;
+    for entry in entries {
+        layer = with_entry(alloc, layer, entry, path)?;
+    }
+    Ok(layer)
+}
+
+impl Config {
+    /// Returns a configuration that sets nothing.
+    pub fn empty(alloc: Global) -> Config
+        ensures { spec.config result ≡ spec.no_config }
+    {
+        Config {
+            excludes: Vec::new(alloc),
+            general: Layer::empty(),
+            files: Vec::new(alloc),
+            copies: Vec::new(alloc),
+        }
+    }
+
+    /// Reads a configuration. Fails with the reports of all errors if the text is not valid TOML, or not a
+    /// configuration.
+    pub fn read(alloc: Global, text: &str) -> Result<Config, Stop<Vec<Report>>> {
+        match from_str::<Document>(alloc, text) {
+            Ok(document) => Ok(config_of(alloc, document)?),
+            Err(stop) => {
+                let read = Err(stop);
+                Err(Stop::Fault(reports_on(alloc, text, &read)?))
+            }
+        }
+    }
+
+    /// Returns the settings that hold for the file at `path`, which is relative to the directory of the configuration.
+    ///
+    /// A setting of the command line, `arguments`, comes first. Then comes the last entry of `files` that sets it and
+    /// whose patterns select the file, then the tables `check` and `fmt`, and then the default. Fails if an allocation
+    /// fails.
+    pub fn settings_for(
+        &self,
+        alloc: Global,
+        arguments: Layer,
+        path: &str,
+    ) -> Result<Settings, AllocError>
+        ensures { IfOk result (λ settings. settings ≡ spec.settings_for (spec.config self.now) arguments path.now) }
+    {
+        let layer = with_entries(alloc, self.general, self.files.as_slice(), path)?;
+        Ok(layer.under(arguments).settled())
+    }
+
+    /// Returns the settings that hold for files that no entry of `files` selects.
+    pub fn general_settings(&self, arguments: Layer) -> Settings
+        ensures { result ≡ spec.general_settings (spec.config self.now) arguments }
+    {
+        self.general.under(arguments).settled()
+    }
+
+    /// Returns whether the patterns of `exclude` select the file at `path`, or a directory that contains it. `path` is
+    /// relative to the directory of the configuration. Fails if an allocation fails.
+    pub fn excludes(&self, alloc: Global, path: &str) -> Result<bool, AllocError> {
+        let patterns = self.excludes.as_slice();
+        for (at, byte) in path.as_bytes().iter().enumerate() {
+            if *byte != b'/' {
+                continue;
+            }
+            let Some(above) = path.get(..at) else {
+                continue;
+            };
+            if last_match(alloc, patterns, above, true)? == Some(true) {
+                return Ok(true);
+            }
+        }
+        Ok(last_match(alloc, patterns, path, false)? == Some(true))
+    }
+}

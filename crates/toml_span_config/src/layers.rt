@@ -1,0 +1,149 @@
+//! Settings, where they come from, and which of several hold.
+ghost use Rattle.std.specs.Prelude.{◌≡◌};
+ghost use Rattle.toml_span_config.specs.Layers as spec;
+
+use toml_span::{Span, Spanned};
+use toml_span_check::newer::Version;
+
+/// Where a setting comes from.
+#[derive(Clone, Copy, PartialEq, Eq)]
+pub enum Origin {
+    /// Nothing sets it.
+    Default,
+    /// The configuration file, which has the value at this span.
+    File(Span),
+    /// The command line.
+    Arguments,
+}
+
+/// The value of a setting, and where it comes from.
+#[derive(Clone, Copy, PartialEq, Eq)]
+pub struct Chosen<T> {
+    pub value: T,
+    pub origin: Origin,
+}
+
+/// Settings of one place, such as the tables `check` and `fmt`, an entry of `files`, or the command line. A setting
+/// that is not set there is `None`.
+#[derive(Clone, Copy, PartialEq, Eq)]
+pub struct Layer {
+    /// The version of TOML.
+    pub toml: Option<Chosen<Version>>,
+    /// Whether warnings are errors.
+    pub deny_warnings: Option<Chosen<bool>>,
+    /// The width of a formatted line, in characters.
+    pub width: Option<Chosen<u16>>,
+    /// The number of spaces by which the formatter indents.
+    pub indent: Option<Chosen<u8>>,
+    /// Whether the formatter sorts keys.
+    pub sort_keys: Option<Chosen<bool>>,
+    /// The position in `Config::files` of the entry that names the schema.
+    pub schema: Option<Chosen<usize>>,
+}
+
+/// The settings that hold for a file.
+#[derive(Clone, Copy, PartialEq, Eq)]
+pub struct Settings {
+    /// The version of TOML.
+    pub toml: Chosen<Version>,
+    /// Whether warnings are errors.
+    pub deny_warnings: Chosen<bool>,
+    /// The width of a formatted line, in characters.
+    pub width: Chosen<u16>,
+    /// The number of spaces by which the formatter indents.
+    pub indent: Chosen<u8>,
+    /// Whether the formatter sorts keys.
+    pub sort_keys: Chosen<bool>,
+    /// The position in `Config::files` of the entry that names the schema, if there is one.
+    pub schema: Option<Chosen<usize>>,
+}
+
+/// Returns a setting that the command line sets.
+pub fn given<T>(value: T) -> Option<Chosen<T>>
+    ensures { result ≡ spec.given value }
+{
+    Some(Chosen {
+        value,
+        origin: Origin::Arguments,
+    })
+}
+
+/// Returns the setting that a field of the configuration file sets, if the field is there.
+pub(crate) fn of_field<T: Copy>(field: &Option<Spanned<T>>) -> Option<Chosen<T>>
+    ensures { result ≡ spec.of_field field.now }
+{
+    match field {
+        Some(field) => Some(Chosen {
+            value: field.value,
+            origin: Origin::File(field.span),
+        }),
+        None => None,
+    }
+}
+
+/// Returns the upper of two settings if it is set, otherwise the lower.
+fn over<T: Copy + Drop>(lower: Option<T>, upper: Option<T>) -> Option<T>
+    ensures { result ≡ spec.over lower upper }
+{
+    match upper {
+        Some(_) => upper,
+        None => lower,
+    }
+}
+
+/// Returns a setting, or its default if it is not set.
+fn or_default<T: Copy + Drop>(setting: Option<Chosen<T>>, default: T) -> Chosen<T>
+    ensures { result ≡ spec.or_default setting default }
+{
+    match setting {
+        Some(setting) => setting,
+        None => Chosen {
+            value: default,
+            origin: Origin::Default,
+        },
+    }
+}
+
+impl Layer {
+    /// Returns a layer that sets nothing.
+    pub fn empty() -> Layer
+        ensures { result ≡ spec.empty }
+    {
+        Layer {
+            toml: None,
+            deny_warnings: None,
+            width: None,
+            indent: None,
+            sort_keys: None,
+            schema: None,
+        }
+    }
+
+    /// Returns the settings of both layers. Where both set one, that of `upper` holds.
+    pub fn under(self, upper: Layer) -> Layer
+        ensures { result ≡ spec.under self upper }
+    {
+        Layer {
+            toml: over(self.toml, upper.toml),
+            deny_warnings: over(self.deny_warnings, upper.deny_warnings),
+            width: over(self.width, upper.width),
+            indent: over(self.indent, upper.indent),
+            sort_keys: over(self.sort_keys, upper.sort_keys),
+            schema: over(self.schema, upper.schema),
+        }
+    }
+
+    /// Returns the settings of this layer, with defaults for those that are not set.
+    pub fn settled(self) -> Settings
+        ensures { result ≡ spec.settled self }
+    {
+        Settings {
+            toml: or_default(self.toml, Version::Auto),
+            deny_warnings: or_default(self.deny_warnings, false),
+            width: or_default(self.width, 80),
+            indent: or_default(self.indent, 4),
+            sort_keys: or_default(self.sort_keys, false),
+            schema: self.schema,
+        }
+    }
+}

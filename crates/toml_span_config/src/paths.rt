@@ -1,0 +1,62 @@
+//! Paths of files and directories.
+use std::alloc::{AllocError, Global};
+
+/// Appends the parts of a path. The part `..` removes the last part instead, `.` and empty parts are left out.
+fn push_parts<'t>(parts: &mut Vec<&'t str>, path: &'t str) -> Result<(), AllocError> {
+    for part in path.split('/') {
+        match part {
+            "" | "." => {}
+            ".." => {
+                parts.pop();
+            }
+            _ => parts.push(part)?,
+        }
+    }
+    Ok(())
+}
+
+/// Returns the absolute path of the file or directory at `path`, which is relative to the directory `base` unless it is
+/// absolute. The result has no parts `.` and `..`, and no slash at its end: the root is an empty text.
+pub(crate) fn absolute(alloc: Global, base: &str, path: &str) -> Result<String, AllocError> {
+    let mut parts = Vec::new(alloc);
+    if !path.starts_with('/') {
+        push_parts(&mut parts, base)?;
+    }
+    push_parts(&mut parts, path)?;
+    let mut out = String::new(alloc);
+    for part in &parts {
+        out.push('/')?;
+        out.push_str(*part)?;
+    }
+    Ok(out)
+}
+
+/// Returns the directory above a path that `absolute` returned, or `None` above the root.
+pub(crate) fn above(path: &str) -> Option<&str> {
+    let (folder, _) = path.rsplit_once('/')?;
+    Some(folder)
+}
+
+/// Returns the part of `path` below the directory `folder`, or `None` if it is not below. Both are as `absolute` returns
+/// them.
+pub(crate) fn below<'t>(folder: &str, path: &'t str) -> Option<&'t str> {
+    path.strip_prefix(folder)?.strip_prefix('/')
+}
+
+/// Returns what to write before a path that is relative to the directory `folder`, so that it is relative to the
+/// directory `base`: nothing, `../` some times, or `folder` and a slash. Both are as `absolute` returns them.
+pub(crate) fn front(alloc: Global, base: &str, folder: &str) -> Result<String, AllocError> {
+    let mut out = String::new(alloc);
+    if base == folder {
+        return Ok(out);
+    }
+    if let Some(inside) = below(folder, base) {
+        for _ in inside.split('/') {
+            out.push_str("../")?;
+        }
+        return Ok(out);
+    }
+    out.push_str(below(base, folder).unwrap_or(folder))?;
+    out.push('/')?;
+    Ok(out)
+}

@@ -1,0 +1,340 @@
+//! Finds and reads the configuration files of files.
+use crate::config::Config;
+use crate::layers::{Layer, Settings};
+use crate::paths::{above, absolute, below, front};
+use std::alloc::{AllocError, Global};
+use std::collections::BTreeMap;
+use std::{env, fs, io};
+use toml_span::Stop;
+use toml_span_check::input::{Host, Inputs};
+use toml_span_check::run::push_complaint;
+use toml_span_lines::run::BOUND;
+use toml_span_report::{Style, render_all};
+
+/// The names of configuration files. The first one that a directory has is used.
+const NAMES: [&str; 2] = ["toml-span.toml", ".toml-span.toml"];
+
+/// Which configuration file to use.
+#[derive(Clone, Copy)]
+pub enum Search<'w> {
+    /// For each file the nearest one, in its directory or above. The search ends at a directory that has an entry
+    /// `.git`.
+    Nearest,
+    /// The one at this path, for all files.
+    Given(&'w str),
+    /// None.
+    No,
+}
+
+/// A configuration file that has been read.
+#[derive(Drop)]
+pub struct Source {
+    /// The path of the file, relative to the current directory if one contains the other.
+    pub name: String,
+    pub text: String,
+    pub config: Config,
+    /// What to write before the paths in the file, so that they are relative to the current directory: nothing, or text
+    /// with a slash at its end.
+    pub front: String,
+    /// The absolute path of the directory of the file, without a slash at its end.
+    folder: String,
+}
+
+/// The settings for a file, and the configuration file that has them.
+#[derive(Clone, Copy)]
+pub struct Found {
+    pub settings: Settings,
+    /// The position in `Sources::list`, if there is a configuration file.
+    pub source: Option<usize>,
+    /// Whether the configuration excludes the file.
+    pub is_excluded: bool,
+}
+
+/// The configuration files that have been read.
+#[derive(Drop)]
+pub struct Sources {
+    /// Where messages are printed: with or without colors.
+    style: Style,
+    /// The absolute path of the current directory, without a slash at its end.
+    base: String,
+    /// The settings of the command line.
+    arguments: Layer,
+    /// What is used for files in directories that are not in `folders`: `None` if that has to be found.
+    fixed: Option<Option<usize>>,
+    /// The configuration files that have been read.
+    pub list: Vec<Source>,
+    /// The positions in `list` of the configuration files of directories, by absolute path. `None` for a directory
+    /// without one.
+    folders: BTreeMap<String, Option<usize>>,
+}
+
+/// Returns the absolute path of the current directory, or an empty text, as for the root, if the system does not say.
+fn current_folder(alloc: Global, rt: &HostRuntime) -> Result<String, AllocError> {
+    match env::current_dir(rt) {
+        Ok(folder) => absolute(alloc, "", folder.as_str()),
+        Err(error) if error.kind() == io::ErrorKind::OutOfMemory => Err(AllocError),
+        Err(_) => Ok(String::new(alloc)),
+    }
+}
+
+/// Returns whether there is a file, or a link to one, at `path`.
+fn is_file(rt: &HostRuntime, path: &str) -> bool {
+    match fs::metadata(rt, path) {
+        Ok(found) => found.is_file(),
+        Err(_) => false,
+    }
+}
+
+/// Returns whether there is anything at `path`.
+fn is_there(rt: &HostRuntime, path: &str) -> bool {
+    fs::symlink_metadata(rt, path).is_ok()
+}
+
+/// Returns the path of the configuration file in the directory `folder`, if it has one. `folder` is as `absolute`
+/// returns it.
+fn config_in(alloc: Global, rt: &HostRuntime, folder: &str) -> Result<Option<String>, AllocError> {
+    for name in &NAMES {
+        let path = format!(in alloc; "{folder}/{name}")?;
+        if is_file(rt, path.as_str()) {
+            return Ok(Some(path));
+        }
+    }
+    Ok(None)
+}
+
+/// Returns the path of the nearest configuration file, in the directory `folder` or above. The search ends at a
+/// directory that has an entry `.git`, and at the root. `folder` is as `absolute` returns it.
+fn nearest_config(
+    alloc: Global,
+    rt: &HostRuntime,
+    folder: &str,
+) -> Result<Option<String>, AllocError> {
+    let mut next = Some(folder);
+    for _ in 0..=folder.len() {
+        let Some(folder) = next else {
+            break;
+        };
+        if let Some(path) = config_in(alloc, rt, folder)? {
+            return Ok(Some(path));
+        }
+        if is_there(rt, format!(in alloc; "{folder}/.git")?.as_str()) {
+            break;
+        }
+        next = above(folder);
+    }
+    Ok(None)
+}
+
+/// Returns the message that the configuration file `name` can't be read.
+fn unreadable(alloc: Global, name: &str, reason: &str) -> Result<Stop<String>, AllocError> {
+    let mut message = String::new(alloc);
+    push_complaint(&mut message, name, reason)?;
+    Ok(Stop::Fault(message))
+}
+
+impl Sources {
+    /// Returns a list without configuration files, for settings of the command line. If `search` names a configuration
+    /// file, reads it. Fails with a message, for standard error, if the file can't be read or is wrong.
+    pub fn new(
+        alloc: Global,
+        host: &mut Host,
+        search: Search<'_>,
+        arguments: Layer,
+        style: Style,
+    ) -> Result<Sources, Stop<String>> {
+        let mut sources = Sources {
+            style,
+            base: current_folder(alloc, &host.rt)?,
+            arguments,
+            fixed: None,
+            list: Vec::new(alloc),
+            folders: BTreeMap::new(alloc),
+        };
+        match search {
+            Search::Nearest => {}
+            Search::No => sources.fixed = Some(None),
+            Search::Given(path) => {
+                let path = absolute(alloc, sources.base.as_str(), path)?;
+                sources.fixed = Some(Some(sources.read(alloc, host, path.as_str())?));
+            }
+        }
+        Ok(sources)
+    }
+
+    /// Reads the configuration file at an absolute path, and appends it to the list. Returns its position. Fails with a
+    /// message if the file can't be read or is wrong.
+    fn read(&mut self, alloc: Global, host: &mut Host, path: &str) -> Result<usize, Stop<String>> {
+        let folder = above(path).unwrap_or("");
+        let front = front(alloc, self.base.as_str(), folder)?;
+        let file = path.rsplit_once('/').map_or(path, |pair| pair.1);
+        let name = format!(in alloc; "{}{file}", front.as_str())?;
+        let text = text_of(alloc, host, name.as_str(), path)?;
+        let config = self.config_of(alloc, name.as_str(), text.as_str())?;
+        let at = self.list.len();
+        self.list.push(Source {
+            name,
+            text,
+            config,
+            front,
+            folder: String::from_str(alloc, folder)?,
+        })?;
+        Ok(at)
+    }
+
+    /// Returns the configuration of the file `name`, whose content is `text`. Fails with the text of the reports of all
+    /// errors if the file is wrong.
+    fn config_of(&self, alloc: Global, name: &str, text: &str) -> Result<Config, Stop<String>> {
+        match Config::read(alloc, text) {
+            Ok(config) => Ok(config),
+            Err(stop) => {
+                let reports = stop.fault()?;
+                let message = render_all(alloc, self.style, reports.as_slice(), name, text)?;
+                Err(Stop::Fault(message))
+            }
+        }
+    }
+
+    /// Returns the position of the configuration file at an absolute path. Reads the file if it has not been read.
+    fn position_of(
+        &mut self,
+        alloc: Global,
+        host: &mut Host,
+        path: &str,
+    ) -> Result<usize, Stop<String>> {
+        let folder = above(path).unwrap_or("");
+        for (at, source) in self.list.as_slice().iter().enumerate() {
+            if source.folder.as_str() == folder {
+                return Ok(at);
+            }
+        }
+        self.read(alloc, host, path)
+    }
+
+    /// Returns the position of the configuration file for the files in a directory, or `None` if there is no such file.
+    /// `folder` is as `absolute` returns it.
+    fn source_of(
+        &mut self,
+        alloc: Global,
+        host: &mut Host,
+        folder: &str,
+    ) -> Result<Option<usize>, Stop<String>> {
+        if let Some(fixed) = self.fixed {
+            return Ok(fixed);
+        }
+        if let Some(known) = self.folders.get(folder) {
+            return Ok(*known);
+        }
+        let found = match nearest_config(alloc, &host.rt, folder)? {
+            Some(path) => Some(self.position_of(alloc, host, path.as_str())?),
+            None => None,
+        };
+        self.folders
+            .insert(String::from_str(alloc, folder)?, found)?;
+        Ok(found)
+    }
+
+    /// Returns the settings for the file at `path`, and where they are from. Fails with a message, for standard error,
+    /// if the configuration file can't be read or is wrong.
+    pub fn settings_for(
+        &mut self,
+        alloc: Global,
+        host: &mut Host,
+        path: &str,
+    ) -> Result<Found, Stop<String>> {
+        let path = absolute(alloc, self.base.as_str(), path)?;
+        let path = path.as_str();
+        let at = self.source_of(alloc, host, above(path).unwrap_or(""))?;
+        Ok(self.found(alloc, at, path)?)
+    }
+
+    /// Returns the settings for the file at `path`, an absolute path, by the configuration file at the position `at`, if
+    /// there is one.
+    fn found(&self, alloc: Global, at: Option<usize>, path: &str) -> Result<Found, AllocError> {
+        let source = match at {
+            Some(at) => self.list.get(at),
+            None => None,
+        };
+        let Some(source) = source else {
+            return Ok(Found {
+                settings: self.arguments.settled(),
+                source: None,
+                is_excluded: false,
+            });
+        };
+        let inside = below(source.folder.as_str(), path).unwrap_or(path);
+        Ok(Found {
+            settings: source.config.settings_for(alloc, self.arguments, inside)?,
+            source: at,
+            is_excluded: source.config.excludes(alloc, inside)?,
+        })
+    }
+
+    /// Returns the settings for the files in the current directory that no entry of `files` selects, and where they are
+    /// from. Fails as `settings_for` does.
+    pub fn general_settings(
+        &mut self,
+        alloc: Global,
+        host: &mut Host,
+    ) -> Result<Found, Stop<String>> {
+        let base = String::from_str(alloc, self.base.as_str())?;
+        let at = self.source_of(alloc, host, base.as_str())?;
+        let source = match at {
+            Some(at) => self.list.get(at),
+            None => None,
+        };
+        let settings = match source {
+            Some(source) => source.config.general_settings(self.arguments),
+            None => self.arguments.settled(),
+        };
+        Ok(Found {
+            settings,
+            source: at,
+            is_excluded: false,
+        })
+    }
+
+    /// Returns the path or URL of the schema for a file with these settings, or `None` without one. A path is relative
+    /// to the current directory.
+    pub fn schema_of(&self, alloc: Global, found: &Found) -> Result<Option<String>, AllocError> {
+        let (Some(source), Some(schema)) = (found.source, found.settings.schema) else {
+            return Ok(None);
+        };
+        let Some(source) = self.list.get(source) else {
+            return Ok(None);
+        };
+        let Some(entry) = source.config.files.get(schema.value) else {
+            return Ok(None);
+        };
+        if entry.schema.is_empty() {
+            return Ok(None);
+        }
+        Ok(Some(source.shown_path(alloc, entry.schema.as_str())?))
+    }
+}
+
+impl Source {
+    /// Returns a path of the configuration, relative to the current directory. A URL or an absolute path stays as it is.
+    pub fn shown_path(&self, alloc: Global, path: &str) -> Result<String, AllocError> {
+        if path.starts_with('/') || path.contains("://") {
+            return String::from_str(alloc, path);
+        }
+        let path = path.strip_prefix("./").unwrap_or(path);
+        format!(in alloc; "{}{path}", self.front.as_str())
+    }
+}
+
+/// Returns the text of the configuration file at an absolute path. Fails with a message, which calls the file `name`, if
+/// it can't be read, is not valid UTF-8, or is too long.
+fn text_of(alloc: Global, host: &mut Host, name: &str, path: &str) -> Result<String, Stop<String>> {
+    let bytes = match host.read(alloc, path)? {
+        Ok(bytes) => bytes,
+        Err(reason) => return Err(unreadable(alloc, name, reason.as_str())?),
+    };
+    if bytes.len() > BOUND {
+        return Err(unreadable(alloc, name, "it is larger than 16 MiB")?);
+    }
+    match str::from_utf8(bytes.as_slice()) {
+        Ok(text) => Ok(String::from_str(alloc, text)?),
+        Err(_) => Err(unreadable(alloc, name, "it is not valid UTF-8")?),
+    }
+}
