@@ -3,16 +3,17 @@
 #
 # DEST, by default the folder `out` of the repository, gets toml-span-VERSION-x86_64-linux.tar.gz and the Debian package
 # toml-span_VERSION_amd64.deb. Both have what scripts/install.sh installs, and the licenses. The program is statically
-# linked, so neither needs anything else. Packages that one toolchain makes of one commit are equal byte for byte: the
-# time of their files is that of the last commit, or SOURCE_DATE_EPOCH. The Debian package's maintainer is that of
-# DEBFULLNAME and DEBEMAIL, or the author of the last commit. The packages are listed with their SHA-256.
+# linked, so neither needs anything else. DEST also gets the extension of Visual Studio Code, toml-span-VERSION.vsix,
+# which scripts/vsix.py makes without the toolchain. Packages that one toolchain makes of one commit are equal byte for
+# byte: the time of their files is that of the last commit, or SOURCE_DATE_EPOCH. The Debian package's maintainer is
+# that of DEBFULLNAME and DEBEMAIL, or the author of the last commit. The packages are listed with their SHA-256.
 #
 # Status: 0 done, 2 wrong arguments, 3 DEST can't be written, 5 a package can't be made.
 source "$(dirname -- "$(readlink -f -- "$0")")/common.sh"
 umask 022
 if [ $# -gt 1 ] || [[ ${1-} == -* ]]; then fail 2 "usage: bash scripts/package.sh [DEST]"; fi
-for tool in dpkg-deb gzip tar; do
-    command -v "$tool" >/dev/null || fail 5 "the command $tool is missing (Debian: dpkg, gzip, tar)"
+for tool in dpkg-deb gzip python3 tar; do
+    command -v "$tool" >/dev/null || fail 5 "the command $tool is missing (Debian: dpkg, gzip, python3, tar)"
 done
 SOURCE_DATE_EPOCH=${SOURCE_DATE_EPOCH-$(git -C "$top" log -1 --format=%ct)} ||
     fail 5 "there is no commit to take the time from: set SOURCE_DATE_EPOCH (seconds since 1970)"
@@ -86,3 +87,4 @@ for package in *.tar.gz *.deb; do
     mv -f -- "$package" "$destination/$package" || fail 3 "$package in ${destination@Q} can't be written"
     (cd -- "$destination" && sha256sum -- "$PWD/$package")
 done
+python3 "$top/scripts/vsix.py" "$destination" || exit

@@ -153,9 +153,33 @@ kit=$(dirname "$(rt doc)")/toolchain/bin
 
 mkdir "$work/runs"
 if [ -d runs ] && ! python3 "$top/scripts/transcripts.py" expand "$crate" "$work/runs"; then exit 1; fi
-for name in . "$work"/runs/*/; do
-    name=${name%/}
-    if [ -d "$name" ]; then stored; fi
+names=(. "$work"/runs/*/)
+
+# share NUMBER: checks each run whose place in the list leaves NUMBER when divided by $jobs, in a folder of its own, and
+# writes the counts into its file `counts`
+share() {
+    local at all=$work
+    work=$all/$1
+    out=$work/stdout
+    err=$work/stderr
+    mkdir "$work"
+    ln -s ../faults.so "$work/faults.so"
+    for ((at = $1; at < ${#names[@]}; at += jobs)); do
+        name=${names[at]%/}
+        if [ -d "$name" ]; then stored; fi
+    done
+    echo "$count $wrong" >"$work/counts"
+}
+
+# as many runs at a time as there are processors; what one worker finds wrong is printed when it ends
+jobs=$(nproc)
+for ((worker = 0; worker < jobs; worker++)); do (share "$worker" >"$work/found.$worker" 2>&1) & done
+wait
+for ((worker = 0; worker < jobs; worker++)); do
+    cat "$work/found.$worker"
+    if ! read -r checked differing <"$work/$worker/counts"; then exit 1; fi
+    count=$((count + checked))
+    wrong=$((wrong + differing))
 done
 name=.
 arguments_of

@@ -1,5 +1,6 @@
 #!/usr/bin/env bash
-# Tests the scripts for users: toml-span.sh, native.sh, install.sh, package.sh, vendor.sh: bash scripts/scripts_test.sh
+# Tests the scripts for users (toml-span.sh, native.sh, install.sh, package.sh, vsix.py, vendor.sh) and the extension of
+# VS Code: bash scripts/scripts_test.sh
 #
 # A row of the table is a case: its name, the expected status, what its output must match (an expression of grep; with
 # !, must not match), and a command, which may go on in lines that begin with four spaces. The commands run in order in
@@ -60,7 +61,7 @@ chmod +x "$work"/kit/bin/* "$work/kit/toolchain/bin/clang"
 fresh() {
     rm -rf "$repository" "$HOME" "$work/prefix" "$TRIES"
     mkdir -p "$crate/src" "$repository/crates/toml_span/src" "$HOME"
-    cp -r "$top/scripts" "$top"/LICENSE-* "$top/.gitignore" "$repository"
+    cp -r "$top/scripts" "$top/editors" "$top"/LICENSE-* "$top/.gitignore" "$repository"
     printf 'toml_span_cli:\ntoml_span:\n' >"$repository/crates.txt"
     echo '//! A library.' >"$repository/crates/toml_span/src/lib.rt"
     cat >"$crate/src/main.rt" <<'SOURCE'
@@ -88,6 +89,20 @@ offers() { # WORD..: what bash completes the last one to
     source prefix/share/bash-completion/completions/toml-span
     COMP_WORDS=(toml-span "$@") COMP_CWORD=$# && _toml_span && echo "${COMPREPLY[*]}"
 }
+vsix() { # FILE: unpacks the extension of VS Code into the folder vsix, and tries it with a test of editors/vscode
+    rm -rf vsix && python3 -m zipfile -e packages/*.vsix vsix || return
+    if command -v node; then node "$top/editors/vscode/tests/$1.js" vsix/extension; else echo "$1: no node"; fi
+}
+assets() { # whether the files that the manifests name are in the folder vsix
+    python3 -c 'import os, sys, xml.etree.ElementTree as tree
+types = [it.get("Extension") for it in tree.parse("vsix/[Content_Types].xml").getroot()]
+assets = tree.parse("vsix/extension.vsixmanifest").getroot().findall(".//{*}Asset")
+found = [os.path.join(folder, name) for folder, _, names in os.walk("vsix") for name in names]
+untyped = [it for it in found if os.path.splitext(it)[1] not in types and not it.endswith(".xml")]
+missing = [it.get("Path") for it in assets if not os.path.isfile("vsix/" + it.get("Path"))]
+print(*(it.get("Type") for it in assets))
+sys.exit(f"untyped {untyped}, missing {missing}" if untyped or missing else 0)'
+}
 debian() { # COMMAND..: installs the package in the folder root, runs the command, and removes the package
     local dpkg=(dpkg --root="$work/root" --force-not-root --force-script-chrootless --log=/dev/null)
     if [ "$(id -u)" -ne 0 ]; then dpkg=(unshare -r "${dpkg[@]}"); fi
@@ -103,6 +118,9 @@ committed() { # TEXT: commits a file with the hook of the page
     page '#!/bin/sh' >.git/hooks/pre-commit && chmod +x .git/hooks/pre-commit && echo "$1" >'a b/c.toml' && git add .
     git -c user.name=n -c user.email=e commit -qm one
 }
+if ! command -v node >/dev/null; then
+    echo "SKIPPED: the extension of VS Code was not tested, since there is no node (Debian: nodejs)"
+fi
 mkdir "$work/real"
 ln -s "$(HOME=$real_home PATH=$real_path bash "$top/scripts/native.sh" toml_span_cli)" "$work/real/toml-span"
 
@@ -179,11 +197,22 @@ no HOME|2|HOME is not set: name a folder|HOME='' install
 packages are made|0|packages/toml-span_1.2.3_amd64.deb$|SOURCE_DATE_EPOCH=1700000000 package packages
 and are the same the next time|0||
     cp -r packages first; sleep 1; SOURCE_DATE_EPOCH=1700000000 package packages && diff -r first packages
+the extension of VS Code is one of them|0|packages/toml-span-[0-9.]*.vsix$|ls "$PWD"/packages/*.vsix
+with the fields that are documented|0|^manifest: |vsix manifest
+and the files that the marketplace reads|0|^Microsoft.VisualStudio.Code.Manifest .*Content.Details|assets
+without tests|0||[ ! -e vsix/extension/tests ] && [ ! -e vsix/extension/.vscodeignore ]
+its client|0|^extension: |vsix extension
+its grammar|0|^grammar: |vsix grammar
+the repository is linked|0|](https://example.com/a/b/raw/HEAD/editors/vscode/images/.*png)$|
+    REPOSITORY=https://example.com/a/b.git python3 "$repository/scripts/vsix.py" linked &&
+    python3 -m zipfile -e linked/*.vsix linked && cat linked/extension/README.md &&
+    grep -F '"url": "https://example.com/a/b"' linked/extension/package.json
+a folder that can't be written|3|/file' can't be written: |: >file; python3 "$repository/scripts/vsix.py" "$PWD/file"
 the tarball runs|1|^\[x\]$|tar -xzf packages/*.tar.gz && toml-span-1.2.3-x86_64-linux/bin/toml-span x
 the Debian package installs, runs and goes|0|^toml-span 1.2.3$|debian root/usr/bin/toml-span --version
 lintian finds no error in it|0|!^E:|
-    ! command -v lintian || DEBFULLNAME=n DEBEMAIL=n@debian.org SOURCE_DATE_EPOCH=1700000000 package linted &&
-    lintian --allow-root linted/*.deb
+    ! command -v lintian || { DEBFULLNAME=n DEBEMAIL=n@debian.org SOURCE_DATE_EPOCH=1700000000 package linted &&
+    lintian --allow-root linted/*.deb; }
 no package of a dynamic program|5|can't be packaged, since it is dynamically linked|
     fresh; CC=false SOURCE_DATE_EPOCH=1 package packages
 vendor.sh copies what toml_span needs|0|as in `app: toml_span`|

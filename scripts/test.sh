@@ -1,9 +1,9 @@
 #!/usr/bin/env bash
 # Tests everything: `rt ci`, which proves the crates from nothing; the must-fail edits that have changed since they were
-# tried (scripts/mistakes.py), as far as two minutes reach; the stored runs of the programs that it built, and of those
-# that only test, built without proofs (`# unproved` in crates.txt); each request for memory refused in turn; the
-# official suites of TOML and of JSON Schema; and rules that no prover checks. Lines `time:` say how long each part took.
-# The last line has the counts, and lines `SKIPPED` before it say what could not be run.
+# tried (scripts/mistakes.py); the stored runs of the programs that it built, and of those that only test, built without
+# proofs (`# unproved` in crates.txt); each request for memory refused in turn; the official suites of TOML and of JSON
+# Schema; and rules that no prover checks. Lines `time:` say how long each part took. The last line has the counts, and
+# lines `SKIPPED` before it say what could not be run.
 #
 # `rt ci` runs in a copy of the repository, without the unproved programs. What it built is then moved to crates/*/out.
 set -uo pipefail
@@ -106,7 +106,7 @@ for folder in "$gate"/crates/*/out; do
 done
 
 start "no handles" grep -qx 'Handles allowed: none.' HANDLES
-start "must-fail edits" env RT_JOBS="${RT_JOBS:-2}" python3 scripts/mistakes.py --minutes 2 --libraries "$gate"
+start "must-fail edits" env RT_JOBS="${RT_JOBS:-2}" python3 scripts/mistakes.py --libraries "$gate"
 for program in cli show example; do
     start "stored runs of toml_span_$program" bash scripts/runs.sh "toml_span_$program"
 done

@@ -1,132 +1,66 @@
-// A session of VS Code's extension with the language server, without VS Code: see editors.sh beside it. The modules
-// that the extension loads are replaced: `vscode` by the settings of its package.json, with $PROGRAM as the server, and
-// `vscode-languageclient/node` by a client that really starts the server. $EXTENSION is the folder of the extension,
-// and $OUT gets a line for each answer.
-const { spawn } = require("child_process");
+// A session of VS Code's extension with the language server, without VS Code: see editors.sh beside it. The API of VS
+// Code is replaced by the stub in the extension's tests; the rest is what users get. $PROGRAM is the server,
+// $EXTENSION the folder of the extension, and $OUT gets a line for each answer.
 const { readFileSync, writeFileSync } = require("fs");
-const { once } = require("events");
-const Module = require("module");
 const { join } = require("path");
 
 const folder = process.env.EXTENSION;
+const editor = require(join(folder, "tests/vscode.js"));
 const manifest = JSON.parse(readFileSync(join(folder, "package.json"), "utf8"));
+const extension = require(join(folder, manifest.main));
 const lines = [];
 const say = (name, value) => lines.push(`${name}: ${JSON.stringify(value)}`);
+const uri = "file:///a.toml";
 
-class LanguageClient {
-  constructor(id, name, server, options) {
-    Object.assign(this, { id, name, server, options, buffer: Buffer.alloc(0), answers: {}, diagnostics: [], last: 0 });
-  }
+const never = { onCancellationRequested: () => ({ dispose() {} }) };
+const at = (line, character) => ({ line, character });
+const place = ({ start, end }) => [start.line, start.character, end.line, end.character].join();
+const provide = (name, method, ...values) => editor.providers[name].provider[`provide${method || name}`](...values);
+const editsOf = (edits) => edits.map((it) => [place(it.range), it.newText]);
 
-  send(message) {
-    const content = Buffer.from(JSON.stringify({ jsonrpc: "2.0", ...message }));
-    this.process.stdin.write(Buffer.concat([Buffer.from(`Content-Length: ${content.length}\r\n\r\n`), content]));
+// Waits until the diagnostics are those of the document's last version.
+async function diagnosed(document, condition) {
+  for (let tries = 0; tries < 500 && !condition(editor.diagnostics.get(uri)); tries++) {
+    await new Promise((done) => setTimeout(done, 10));
   }
-
-  receive(data) {
-    this.buffer = Buffer.concat([this.buffer, data]);
-    for (;;) {
-      const head = this.buffer.indexOf("\r\n\r\n");
-      const length = head < 0 ? null : /Content-Length: (\d+)/.exec(this.buffer.toString("utf8", 0, head));
-      if (!length || this.buffer.length < head + 4 + Number(length[1])) return;
-      const end = head + 4 + Number(length[1]);
-      const message = JSON.parse(this.buffer.toString("utf8", head + 4, end));
-      this.buffer = this.buffer.subarray(end);
-      if (message.method === "textDocument/publishDiagnostics") {
-        this.diagnostics.push(message.params);
-      } else if (message.method && message.id !== undefined) {
-        this.send({ id: message.id, result: null });
-      } else if (message.id !== undefined) {
-        this.answers[message.id](message);
-      }
-    }
-  }
-
-  request(method, params) {
-    const id = ++this.last;
-    this.send({ id, method, params });
-    return new Promise((done) => {
-      this.answers[id] = (message) => done(message.error || message.result);
-    });
-  }
-
-  async start() {
-    this.process = spawn(this.server.command, this.server.args, { stdio: ["pipe", "pipe", "inherit"] });
-    this.ended = once(this.process, "exit");
-    this.process.stdout.on("data", (data) => this.receive(data));
-    const { initializationOptions } = this.options;
-    const capabilities = { general: { positionEncodings: ["utf-16"] } };
-    const params = { processId: null, rootUri: null, capabilities, initializationOptions };
-    const { serverInfo } = await this.request("initialize", params);
-    this.send({ method: "initialized", params: {} });
-    say("server", [serverInfo.name, this.options.documentSelector, initializationOptions]);
-  }
-
-  async stop() {
-    await this.request("shutdown");
-    this.send({ method: "exit" });
-    say("status", (await this.ended)[0]);
-  }
+  return editor.diagnostics.get(uri);
 }
 
-let started;
-const settings = (section) => ({
-  get(key) {
-    const { properties } = manifest.contributes.configuration;
-    return key === "path" ? process.env.PROGRAM : properties[`${section}.${key}`].default;
-  },
-});
-const stubs = {
-  vscode: { workspace: { getConfiguration: settings } },
-  "vscode-languageclient/node": {
-    LanguageClient: class extends LanguageClient {
-      constructor(...options) {
-        super(...options);
-        started = this;
-      }
-    },
-  },
-};
-const load = Module._load;
-Module._load = (name, ...rest) => stubs[name] || load(name, ...rest);
-
-const textDocument = { uri: "file:///a.toml" };
-const at = (line, character) => ({ line, character });
-const range = (start, end) => ({ start, end });
-
 async function run() {
-  const extension = require(join(folder, manifest.main));
-  await extension.activate({ subscriptions: [] });
-  const client = started;
-  const text = readFileSync("a.toml", "utf8");
-  const language = manifest.contributes.languages[0];
+  editor.settings = { path: process.env.PROGRAM, width: 80 };
+  await extension.activate({ subscriptions: [], extensionUri: editor.Uri.file(folder) });
+  const [language] = manifest.contributes.languages;
+  say("server", editor.output.replace(/^started .*: /, "").trim().replace(` ${manifest.version}`, " of this version"));
   say("language", [language.id, language.extensions, manifest.activationEvents]);
-  const opened = { ...textDocument, languageId: language.id, version: 1, text };
-  client.send({ method: "textDocument/didOpen", params: { textDocument: opened } });
-  const params = { textDocument, range: range(at(0, 0), at(0, 12)), context: { diagnostics: [] } };
-  const [action] = await client.request("textDocument/codeAction", params);
-  const [{ diagnostics }] = client.diagnostics;
-  say("diagnostics", diagnostics.map((one) => [one.range.start, one.range.end, one.code]));
-  say("action", [action.title, action.edit.changes[textDocument.uri]]);
-  const edits = action.edit.changes[textDocument.uri];
-  const contentChanges = edits.map((edit) => ({ range: edit.range, text: edit.newText }));
-  const changed = { ...textDocument, version: 2 };
-  client.send({ method: "textDocument/didChange", params: { textDocument: changed, contentChanges } });
-  const symbols = await client.request("textDocument/documentSymbol", { textDocument });
-  say("repaired", client.diagnostics[1].diagnostics);
+  const document = editor.open(uri, readFileSync("a.toml", "utf8"), language.id);
+  const diagnostics = await diagnosed(document, (list) => list && list.length);
+  say("diagnostics", diagnostics.map((it) => [place(it.range), it.severity, it.code]));
+  const context = { diagnostics, triggerKind: 1 };
+  const [action] = await provide("CodeActions", "", document, editor.range(0, 0, 0, 12), context, never);
+  const [[, edits]] = action.edit.files;
+  say("action", [action.title, action.kind.value, action.isPreferred, editsOf(edits)]);
+  editor.change(document, edits.map((it) => [it.range, it.newText]));
+  say("repaired", await diagnosed(document, (list) => list && !list.length));
+  const symbols = await provide("DocumentSymbol", "DocumentSymbols", document, never);
   say("symbols", symbols.map((symbol) => [symbol.name, symbol.children.map((child) => child.name)]));
-  say("hover", (await client.request("textDocument/hover", { textDocument, position: at(4, 1) })).contents.value);
-  const { items } = await client.request("textDocument/completion", { textDocument, position: at(10, 0) });
-  say("completion", items.map((item) => item.label));
-  const renamed = await client.request("textDocument/rename", { textDocument, position: at(5, 9), newName: "secure" });
-  say("rename", renamed.changes[textDocument.uri]);
-  const context = { diagnostics: [], only: ["refactor"] };
-  const array = { textDocument, range: range(at(12, 16), at(12, 16)), context };
-  say("conversions", (await client.request("textDocument/codeAction", array)).map((found) => found.title));
+  const hover = await provide("Hover", "", document, at(4, 1), never);
+  say("hover", hover.contents[0].value);
+  const list = await provide("CompletionItem", "CompletionItems", document, at(10, 0), never, { triggerKind: 0 });
+  say("completion", list.items.map((item) => item.label));
+  const renamed = await provide("Rename", "RenameEdits", document, at(5, 9), "secure", never);
+  say("rename", renamed.files.map(([of, changes]) => [of, editsOf(changes)]));
+  const only = { value: "refactor" };
+  const array = editor.range(12, 16, 12, 16);
+  const conversions = await provide("CodeActions", "", document, array, { ...context, diagnostics: [], only }, never);
+  say("conversions", conversions.map((found) => found.title));
+  const tokens = await provide("DocumentSemanticTokens", "", document, never);
+  say("tokens", [...tokens.data.slice(0, 15)]);
   const options = { tabSize: 4, insertSpaces: true };
-  say("formatting", await client.request("textDocument/formatting", { textDocument, options }));
+  const formatted = await provide("DocumentFormattingEdit", "DocumentFormattingEdits", document, options, never);
+  say("formatting", editsOf(formatted));
   await extension.deactivate();
-  writeFileSync(process.env.OUT, lines.join("\n") + "\n");
+  say("shown", editor.shown);
+  writeFileSync(process.env.OUT, `${lines.join("\n")}\n`);
 }
 
 run();

@@ -4,10 +4,10 @@
 # Each editor opens a file without a screen, through its own client. Its diagnostics, actions, symbols, hover,
 # completion, rename and formatting must be as stored: those of Debian's neovim in editors.txt, and those of Debian's
 # Emacs with Eglot and editors/emacs.el (apt-get install emacs-nox elpa-eglot) in editors_emacs.txt. VS Code's extension
-# in editors/vscode runs in node, with the modules `vscode` and `vscode-languageclient` replaced; its answers are in
-# editors_code.txt. What Debian's neovim shows in a terminal, with editors/neovim.lua, must be the picture
-# docs/editor.svg; with --picture, the script only makes it. Where one of these can't be had, the script says so, and
-# goes on with the others. PROGRAM is the proved build by default, and otherwise one without proofs.
+# in editors/vscode runs in node, with a stub of the API of VS Code; its answers are in editors_code.txt. What Debian's
+# neovim shows in a terminal, with editors/neovim.lua, must be the picture docs/editor.svg; with --picture, the script
+# only makes it. Where one of these can't be had, the script says so, and goes on with the others. PROGRAM is the proved
+# build by default, and otherwise one without proofs.
 source "$(dirname -- "$(readlink -f -- "$0")")/../../scripts/common.sh"
 top=$(realpath -- "${script%/*}/../..")
 here=$top/crates/toml_span_lsp

@@ -20,7 +20,6 @@ vim.api.nvim_create_autocmd("VimEnter", {
     show("edit web.toml")
     show("above 4split client.toml")
     vim.cmd("wincmd j | normal G")
-    vim.bo.omnifunc = "v:lua.vim.lsp.omnifunc"
     vim.fn.feedkeys(vim.api.nvim_replace_termcodes("o<C-X><C-O>", true, false, true))
   end,
 })
