@@ -3,7 +3,8 @@ ghost use Rattle.std.specs.Prelude.{◌≡◌};
 ghost use Rattle.toml_span_commands.specs.Commands as spec;
 
 use crate::help::{
-    ADD, APPEND, CHECK, EDIT, EXPLAIN, FMT, GET, HELP, INSERT, LSP, MOVE, REMOVE, RENAME, SET, SHOW,
+    ADD, APPEND, CHECK, EDIT, EXPLAIN, FMT, GET, HELP, INSERT, LSP, MOVE, REMOVE, RENAME, SCHEMA,
+    SET, SHOW,
 };
 
 /// A command.
@@ -23,13 +24,14 @@ pub enum Command {
     Edit,
     Lsp,
     Explain,
+    Schema,
     Help,
 }
 
 /// The names of the commands.
-pub(crate) const NAMES: [&str; 15] = [
+pub(crate) const NAMES: [&str; 16] = [
     "check", "show", "get", "fmt", "set", "rename", "remove", "add", "append", "insert", "move",
-    "edit", "lsp", "explain", "help",
+    "edit", "lsp", "explain", "schema", "help",
 ];
 
 /// Returns the command with this name, or `None` for any other name.
@@ -51,6 +53,7 @@ pub fn command_named(name: &str) -> Option<Command>
         "edit" => Some(Command::Edit),
         "lsp" => Some(Command::Lsp),
         "explain" => Some(Command::Explain),
+        "schema" => Some(Command::Schema),
         "help" => Some(Command::Help),
         _ => None,
     }
@@ -73,6 +76,7 @@ pub(crate) fn arguments_of(command: Command) -> &'static str {
         Command::Edit => "edit [OPTION].. FILE [-e EDIT]..",
         Command::Lsp => "lsp",
         Command::Explain => "explain [CODE]",
+        Command::Schema => "schema check [OPTION].. FILE..",
         Command::Help => "help [COMMAND]",
     }
 }
@@ -94,6 +98,7 @@ pub(crate) fn help_of(command: Command) -> &'static str {
         Command::Edit => EDIT,
         Command::Lsp => LSP,
         Command::Explain => EXPLAIN,
+        Command::Schema => SCHEMA,
         Command::Help => HELP,
     }
 }

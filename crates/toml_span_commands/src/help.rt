@@ -22,6 +22,7 @@ Commands:
   edit     make several edits at once
   lsp      run the language server for an editor
   explain  print what an error code means
+  schema   check schemas, or print commands that fetch them
   help     print this help, or the help of a command
 
 Options:
@@ -70,7 +71,8 @@ Options:
                    SchemaStore's format, with `fileMatch` and `url`
   --schema-map URL=FILE
                    read FILE instead of the schema at URL, since nothing is
-                   fetched; can be repeated
+                   fetched; if URL ends with `/`, FILE is a folder with the
+                   schemas below URL; can be repeated
   --no-formats     ignore the keyword `format` of schemas
   --exclude GLOB   skip matching files and directories in a search; GLOB is
                    written as in a `.gitignore` file; can be repeated
@@ -155,6 +157,34 @@ Options:
 Exit status:
   0  done
   2  no such code, or the arguments are wrong
+  3  output can't be written
+  4  out of memory
+";
+
+/// The help of `schema`.
+pub(crate) const SCHEMA: &str = "\
+Checks JSON Schemas, or prints commands that fetch them.
+
+Usage: toml-span schema check [OPTION].. FILE..
+       toml-span schema get [OPTION].. ADDRESS..
+
+`check` reports wrong keywords and missing documents, and warns of what is not
+checked, such as a misspelled keyword. `get` opens no connection. It prints a
+shell script that fetches schemas and all they refer to, and writes a catalog:
+
+  toml-span schema get https://json.schemastore.org/pyproject.json | sh
+  toml-span check --catalog schemas/catalog.json --schema-map https://=schemas
+
+Options:
+  --schema-map URL=FILE  with check, use FILE for the schema at URL, or the files
+                         of a folder for all schemas below a URL that ends with /
+  --folder FOLDER        with get, where to put the schemas [default: schemas]
+  -h, --help             print this help
+
+Exit status:
+  0  done
+  1  a schema can't be used
+  2  the arguments are wrong
   3  output can't be written
   4  out of memory
 ";

@@ -27,6 +27,16 @@ adds-more old mid new report (warnings, is, all) more warns = (
   All-append IsWarning warnings (report_content report ∷ []) all (all-one (report_content report) warns),
 )
 
+-- more warnings may follow
+pub checks_more : (schema : Schema) (root : Node) (reports more : List ReportContent) → ChecksWith schema root reports → AddsWarnings reports more → ChecksWith schema root more
+checks_more schema root reports more (errors, is, first, same, all) (others, after, each) = (
+  errors,
+  is,
+  first ++ others,
+  after ∙ ap (λ l. l ++ others) same ∙ append_assoc errors first others,
+  All-append IsWarning first others all each,
+)
+
 pub checks-with : (schema : Schema) (root : Node) (errors reports : List Report) → valid schema schema.depth root ≡ Some (length errors == 0) →
     AddsWarnings (map report_content errors) (map report_content reports) → ChecksWith schema root (map report_content reports)
 checks-with schema root errors reports is adds =

@@ -22,15 +22,22 @@ fn trimmed(line: &str) -> &str {
     line.trim_matches([' ', '\t', '\r'].as_slice())
 }
 
-/// Returns the directive in a line, or `None` if no address follows `#:schema` and a space or tab. `start` is the byte
-/// offset of the line in the file.
+/// Returns the directive in a line, or `None` if no address follows `#:schema` and a space or tab. The address ends before
+/// a space or tab and `#`. `start` is the byte offset of the line in the file.
 fn directive_in<'t>(line: &'t str, start: usize) -> Option<Directive<'t>> {
-    let (_, rest) = line.split_once(SCHEMA)?;
+    let (front, rest) = line.split_once(SCHEMA)?;
+    // (a comment may follow)
+    let spaced = rest.split_once(" #").map_or(rest, |parts| parts.0);
+    let rest = spaced.split_once("\t#").map_or(spaced, |parts| parts.0);
     let address = trimmed(rest);
     if address.is_empty() || !rest.starts_with([' ', '\t'].as_slice()) {
         return None;
     }
-    let end = start.saturating_add(line.trim_end_matches([' ', '\t', '\r'].as_slice()).len());
+    let size = rest.trim_end_matches([' ', '\t', '\r'].as_slice()).len();
+    let end = start
+        .saturating_add(front.len())
+        .saturating_add(SCHEMA.len())
+        .saturating_add(size);
     Some(Directive {
         address,
         span: Span {

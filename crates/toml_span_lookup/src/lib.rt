@@ -10,4 +10,5 @@ pub mod disk;
 mod findings;
 pub mod lookup;
 pub mod options;
+mod places;
 mod reasons;

@@ -306,6 +306,7 @@ impl Schema {
         if let Some(message) = size_message(alloc, placed, value)? {
             return Ok(message);
         }
+        let is_local_time = value.type_str() == "datetime" && limit == "`time`";
         let text = match (&placed.keyword, cause) {
             (Keyword::Contains(_, least, most, _), Cause::Count(found)) => {
                 let is_less = (found as u64) < *least;
@@ -334,6 +335,9 @@ impl Schema {
             (Keyword::ExclusiveMaximum(_), _) => "the number must be less than ",
             (Keyword::MultipleOf(_, _), _) => "the number must be a multiple of ",
             (Keyword::Pattern(_), _) => "the string must match the regular expression ",
+            (Keyword::Format(_, _, true), _) if is_local_time => {
+                "the format `time` needs an offset, which no local time of TOML has"
+            }
             (Keyword::Format(_, _, _) | Keyword::RegexFormat, _) => {
                 "the string must have the format "
             }
