@@ -55,7 +55,15 @@ class LanguageClient {
     this.ended = once(this.process, "exit");
     this.process.stdout.on("data", (data) => this.receive(data));
     const { initializationOptions } = this.options;
-    const capabilities = { general: { positionEncodings: ["utf-16"] } };
+    const capabilities = {
+      general: { positionEncodings: ["utf-16"] },
+      textDocument: {
+        codeAction: { codeActionLiteralSupport: { codeActionKind: { valueSet: ["", "quickfix", "refactor"] } } },
+        documentSymbol: { hierarchicalDocumentSymbolSupport: true },
+        hover: { contentFormat: ["markdown", "plaintext"] },
+        publishDiagnostics: { relatedInformation: true },
+      },
+    };
     const params = { processId: null, rootUri: null, capabilities, initializationOptions };
     const { serverInfo } = await this.request("initialize", params);
     this.send({ method: "initialized", params: {} });
@@ -113,6 +121,9 @@ async function run() {
   const changed = { ...textDocument, version: 2 };
   client.send({ method: "textDocument/didChange", params: { textDocument: changed, contentChanges } });
   const symbols = await client.request("textDocument/documentSymbol", { textDocument });
+  while (client.diagnostics.length < 2) {
+    await new Promise((done) => setTimeout(done, 10));
+  }
   say("repaired", client.diagnostics[1].diagnostics);
   say("symbols", symbols.map((symbol) => [symbol.name, symbol.children.map((child) => child.name)]));
   say("hover", (await client.request("textDocument/hover", { textDocument, position: at(4, 1) })).contents.value);

@@ -12,6 +12,8 @@ pub(crate) struct Settings {
     pub width: Option<usize>,
     /// The version of TOML against which documents are checked.
     pub version: Version,
+    /// Whether there is a setting `schema`, so that the schemas that documents name are not used.
+    pub has_schema: bool,
 }
 
 impl Settings {
@@ -19,6 +21,7 @@ impl Settings {
     pub(crate) const USUAL: Settings = Settings {
         width: None,
         version: Version::Auto,
+        has_schema: false,
     };
 }
 
@@ -145,6 +148,7 @@ fn read_paths(
         None => {}
         Some(Value::String(schema)) => {
             read.all.options.schema = address_in(alloc, root, *schema)?;
+            read.all.settings.has_schema = !schema.is_empty();
         }
         Some(_) => push_fault(&mut read.faults, "`schema` must be a path or a URL")?,
     }
