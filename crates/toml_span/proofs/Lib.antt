@@ -29,3 +29,4 @@ pub mod BuiltArrays
 pub mod LateValues
 pub mod RootTable
 pub mod FinishedRoot
+pub mod FastFaults

@@ -111,8 +111,10 @@ pub fn parse_with_limit<'de>(
     // Nothing is allocated for a text of comments and blank lines.
     ensures memory { (start : ℕ) × FirstPlace s.now start × AllocatesOnlyAfterGap s.now start result }
 {
-    if let Some(root) = plain_tree(alloc, s, limit) {
-        return Ok(root);
+    match plain_tree(alloc, s, limit) {
+        Ok(root) => return Ok(root),
+        Err(Some(fault)) => return Err(Stop::Fault(error_of(s, fault))),
+        Err(None) => {}
     }
     match assemble(alloc, s, limit) {
         Ok(assembly) => tree_of(assembly, s),

@@ -1,9 +1,14 @@
 -- The assignments of a section, each placed as soon as it is read.
-use Rattle.std.specs.Prelude.{◌≡◌, ℕ, ◌≤◌, ◌⊎◌, List, [], Ok, length, slice_index}
+use Rattle.std.specs.Prelude.{◌≡◌, ℕ, ◌≤◌, ◌⊎◌, List, [], Result, Ok, Err, Option, Some, None, IfErr, IfSome, length}
+use Rattle.std.specs.Prelude.{slice_index}
 use Rattle.std.specs.Str.{IsCharBoundary}
+use Rattle.toml_span_lex.specs.declared.stop.Stop.{Stop}
+use Rattle.toml_span_lex.specs.declared.stop.Stop.TheVariants as stops
 use Rattle.toml_span_lex.specs.Bytes.{left_bracket}
 use Rattle.toml_span_read.specs.Data.{ParsedAssignment, last_end}
-use Rattle.toml_span_read.specs.Read.{assignment_lines}
+use Rattle.toml_span_read.specs.Faults.{StartsInside}
+use Rattle.toml_span_read.specs.Read.{assignment_lines, Reading}
+use Rattle.toml_span_read.specs.declared.fault.Fault.{Fault}
 use Rattle.toml_span_tree.specs.Value.{inner_view}
 use Rattle.toml_span_tree.specs.declared.value.ValueInner.TheVariants.{Table as table_inner}
 use Rattle.toml_span.specs.declared.branch.Branch.{Branch}
@@ -13,6 +18,16 @@ use Rattle.toml_span.specs.Claims.{assignments_claims}
 use Rattle.toml_span.specs.code.Borrowed.{branch_strings, own_table}
 use Rattle.toml_span.specs.code.Placing.{Places, ScopeGives}
 use Rattle.toml_span.specs.code.Tree.{counts, IsScope}
+
+-- the fault, unless an allocation failed
+abbrev pub fault_in : Stop Fault → Option Fault
+fault_in (stops.Memory e) = None
+fault_in (stops.Fault fault) = Some fault
+
+-- If the result is a fault, m has this fault, and it starts inside the text or at its end. Nothing is stated about
+-- `None`, which a function of the fast path returns where it gives up.
+abbrev pub RefusesAs : {A B : Type 0} → List ℕ → Reading B → Result A (Option Fault) → Type 0
+RefusesAs text m r = IfErr r (λ o. IfSome o (λ fault. m (Err fault) × StartsInside text fault.span))
 
 -- These assignments are read from `from` on, and have been placed in the branch. The last one ends at `end` (`from`
 -- without assignments), and the next section, or the end of the text, is at `next`.
