@@ -1,19 +1,42 @@
 -- Names that must not be repeated in a list.
-use Rattle.std.specs.Prelude.{ℕ, List, [], ◌∷◌, ◌++◌, codes, Option, None, option_map, String, string_bytes}
-use Rattle.std.specs.Global.{Global}
+use Rattle.std.specs.Prelude.{ℕ, List, [], ◌∷◌, ◌++◌, codes, Option, Some, None, option_map, option_and_then}
+use Rattle.std.specs.Borrow.{Bor}
 use Rattle.std.specs.Map.{lookup}
 use Rattle.std.specs.Option.{option_to_list}
 use Rattle.std.specs.Str.{bytes_eq}
 use Rattle.toml_span_lex.specs.declared.span.Span.{Span}
-use Rattle.toml_span_lex.specs.declared.spanned.Spanned.{Spanned}
 use Rattle.toml_span_tree.specs.Error.{ErrorContent, marked}
+use Rattle.toml_span_tree.specs.Node.{Items, Node, array, get_member, item, no_items, node}
+use Rattle.toml_span_tree.specs.Value.{inner_of, members_in, span_of, text_in}
 
 -- a name and its span
 abbrev pub Name : Type 0
 Name = List ℕ × Span
 
-abbrev pub named : Spanned (String Global) → Name
-named s = (string_bytes s.value, s.span)
+abbrev pub named : Bor (List ℕ) × Span → Name
+named n = (n.0.now, n.1)
+
+-- the string of a value, with its span
+abbrev pub string_at : Node → Option Name
+string_at value = option_map (λ s. (s, span_of value)) (text_in (inner_of value))
+
+-- the string with this key, if the value is a table that has one
+abbrev pub name_in : List ℕ → Node → Option Name
+name_in key value = option_and_then string_at (option_and_then (get_member key) (members_in (inner_of value)))
+
+-- The names of elements, whatever else is in them: the strings with this key. Other elements have no name.
+abbrev pub names_of : List ℕ → Items → List Name
+names_of key no_items = []
+names_of key (item value values) = option_to_list (name_in key value) ++ names_of key values
+
+-- the names of the elements, if the value is an array
+abbrev pub names_in : List ℕ → Node → List Name
+names_in key (node (array values) span) = names_of key values
+names_in key value = []
+
+abbrev pub names_at : List ℕ → Option Node → List Name
+names_at key None = []
+names_at key (Some value) = names_in key value
 
 -- the error for the name n, which also occurs at `before`; the error is at the span of n and marks `before` too
 abbrev pub duplicate_name_error : Name → Span → ErrorContent

@@ -10,7 +10,7 @@
 /// - `tags: Option<Vec<String>>;`: `None` if the key is absent. If the field has a type alias for this type, write
 ///   `tags: Vec<String>, optional;`
 /// - `port: u16, or(80);`: the value `80` if the key is absent. `80` can be any expression, and is not evaluated if the
-///   field has been read;
+///   field has been read. For a `String`, it can be a literal: `host: String, or("localhost");`;
 /// - `port: u16, range(1..=65535);`: an error for an integer outside this range (`InRange`). The type may also be an
 ///   `Option`, a `Spanned` or an `Option` of a `Spanned`. With any other type, `or(..)` may follow;
 /// - `level: Level, parsed;`: a string that `FromStr` reads. As with `range`, the type may also be an `Option`, a
@@ -18,7 +18,9 @@
 /// - `max_body: u64 = "max-body", alias("max_body");`: read from the key or from an old name
 ///   (`TableHelper::read_either`). Other options may follow, except `flatten` and `with_warnings`;
 /// - `servers: Vec<Server>, unique(name);`: an error for each server whose field `name`, a `Spanned<String>`, equals
-///   the field `name` of an earlier server (`TableHelper::keep_repeated`);
+///   the field `name` of an earlier server (`TableHelper::keep_repeated`). If the read fails, the strings with the key
+///   `name` are compared instead (`TableHelper::repeated_at`); for a field with another key, write
+///   `unique(name = "id")`;
 /// - `limits: Limits, flatten;`, as the last field: a type that reads the remaining keys (`TableHelper::read_rest`).
 ///
 /// Other keys are an error. With `..` after the last field they are allowed, and are put back into the value. All
@@ -51,8 +53,26 @@ macro_rules! read_table {
         compile_error!(concat!("`read_table!`: `", stringify!($field), "` has `flatten`, so it must be the last field"))
     };
 
-    // each field: its name, the form of its type (`Option`, `Spanned`, both or neither), the type inside, its key, and
-    // its options
+    // the bounds of a range are integers
+    (@fields $read:tt $done:tt $field:ident: f64 $(= $key:literal)?, range $($rest:tt)*) => {
+        $crate::read_table!(@float $field)
+    };
+    (@fields $read:tt $done:tt $field:ident: f32 $(= $key:literal)?, range $($rest:tt)*) => {
+        $crate::read_table!(@float $field)
+    };
+    (@fields $read:tt $done:tt $field:ident: Option<f64> $(= $key:literal)?, range $($rest:tt)*) => {
+        $crate::read_table!(@float $field)
+    };
+    (@fields $read:tt $done:tt $field:ident: Option<f32> $(= $key:literal)?, range $($rest:tt)*) => {
+        $crate::read_table!(@float $field)
+    };
+    (@float $field:ident) => {
+        compile_error!(concat!("`read_table!`: `", stringify!($field), "` is a float, and `range` is for integers: give ",
+            "it a type of your own, whose `deserialize` reads an `f64` and checks it"))
+    };
+
+    // each field: its name, the form of its type (`Option`, `Spanned`, both or neither; `text` for a `String`), the type
+    // inside, its key, and its options
     (@fields $read:tt [$($done:tt)*]
         $field:ident: Option<Spanned<$ty:ty>> $(= $key:literal)? $(, $how:ident $(($($word:tt)*))?)*; $($rest:tt)*
     ) => {
@@ -72,6 +92,13 @@ macro_rules! read_table {
     ) => {
         $crate::read_table!(@fields $read [
             $($done)* $field [spanned] [$ty] [$($key)?] [$($how $(($($word)*))?,)*];
+        ] $($rest)*)
+    };
+    (@fields $read:tt [$($done:tt)*]
+        $field:ident: String $(= $key:literal)? $(, $how:ident $(($($word:tt)*))?)*; $($rest:tt)*
+    ) => {
+        $crate::read_table!(@fields $read [
+            $($done)* $field [text] [String] [$($key)?] [$($how $(($($word)*))?,)*];
         ] $($rest)*)
     };
     (@fields $read:tt [$($done:tt)*]
@@ -106,6 +133,12 @@ macro_rules! read_table {
 
     (@key $field:ident) => { stringify!($field) };
     (@key $field:ident $key:literal) => { $key };
+
+    // the key at which the value of a field is
+    (@place $helper:ident [$key:expr]) => { $key };
+    (@place $helper:ident [$key:expr, $old:expr $(, deprecated)?]) => {
+        if $helper.contains($key) { $key } else { $old }
+    };
 
     (@append []) => { () };
     (@append [$new:ident $warnings:ident]) => { $warnings.append(&mut $new)? };
@@ -143,6 +176,15 @@ macro_rules! read_table {
     (@words $read:tt $form:tt [$ty:ty] [$($keys:tt)*] deprecated($old:literal), $($words:tt)*) => {
         $crate::read_table!(@words $read $form [$ty] [$($keys)*, $old, deprecated] $($words)*)
     };
+    (@words [$helper:ident, $warnings:tt, $field:ident] [text] [$ty:ty] $keys:tt or($text:literal),) => {
+        match $crate::read_table!(@some [$helper, $warnings, $field], $ty, $keys) {
+            Some(field) => field,
+            None => $helper.text($text)?,
+        }
+    };
+    (@words $read:tt [text] [$ty:ty] $keys:tt $($words:tt)*) => {
+        $crate::read_table!(@words $read [] [$ty] $keys $($words)*)
+    };
     (@words $read:tt $form:tt [$ty:ty] $keys:tt parsed, $($words:tt)*) => {
         $crate::read_table!(@held $read $form $crate::Parsed<$ty>, $keys $($words)*)
     };
@@ -176,14 +218,20 @@ macro_rules! read_table {
     (@words [$helper:ident, [$new:ident $warnings:ident], $field:ident] [] [$ty:ty] [$key:expr] with_warnings,) => {
         $helper.read_with_warnings::<$ty>($key, &mut $new)?
     };
-    (@words [$helper:ident, $warnings:tt, $field:ident] [] [$ty:ty] $keys:tt unique($name:ident),) => {{
+    (@words [$helper:ident, $warnings:tt, $field:ident] [] [$ty:ty] $keys:tt unique($name:ident $(= $named:literal)?),) => {{
+        let repeated = $helper.repeated_at(
+            $crate::read_table!(@place $helper $keys),
+            $crate::read_table!(@key $name $($named)?),
+        )?;
         let list = $crate::read_table!(@one [$helper, $warnings, $field], $ty, $keys);
         if let Some(list) = &list {
             let mut names = $helper.no_names();
             for entry in list.iter() {
-                names.push(&entry.$name)?;
+                names.push((entry.$name.value.as_str(), entry.$name.span))?;
             }
             $helper.keep_repeated(names.as_slice())?;
+        } else {
+            $helper.keep_errors(repeated)?;
         }
         list
     }};
@@ -267,6 +315,7 @@ macro_rules! read_table {
     };
 
     // the value for the field of the struct; at this point, no read has failed
+    (@field [text] $($rest:tt)*) => { $crate::read_table!(@field [] $($rest)*) };
     (@field $form:tt $field:ident alias $old:tt, $($words:tt)*) => {
         $crate::read_table!(@field $form $field $($words)*)
     };

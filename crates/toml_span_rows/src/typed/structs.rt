@@ -104,6 +104,35 @@ fn range_of<'s>(
     Ok(Range { low, high })
 }
 
+/// A peer, whose name is unique in its list.
+#[derive(Debug, Drop)]
+pub struct Peer {
+    name: Spanned<String>,
+    weight: u8,
+}
+
+impl<'de> Deserialize<'de> for Peer {
+    fn deserialize(alloc: Global, value: &mut Value<'de>) -> Result<Self, Stop<DeserError<'de>>> {
+        read_table!(alloc, value, Peer { name: Spanned<String> = "id"; weight: u8; })
+    }
+}
+
+/// A name with a default, and a list of peers, which also has an old name.
+#[derive(Debug, Drop)]
+pub struct Relay {
+    name: String,
+    peers: Vec<Peer>,
+}
+
+impl<'de> Deserialize<'de> for Relay {
+    fn deserialize(alloc: Global, value: &mut Value<'de>) -> Result<Self, Stop<DeserError<'de>>> {
+        read_table!(alloc, value, Relay {
+            name: String, alias("title"), or("relay");
+            peers: Vec<Peer>, alias("nodes"), unique(name = "id");
+        })
+    }
+}
+
 /// The target of output.
 #[derive(Debug, Drop)]
 pub enum Target {

@@ -108,6 +108,14 @@ impl<'de> TableHelper<'de> {
         self.table.contains_key(&Key::named(name))
     }
 
+    /// Returns a copy of the text, for a field whose default it is.
+    #[doc(hidden)]
+    pub fn text(&self, text: &str) -> Result<String, AllocError>
+        ensures { IfOk result (λ copy. string_bytes copy ≡ text.now) }
+    {
+        String::from_str(self.alloc, text)
+    }
+
     /// Records the name, and moves its entry out of the table. Returns the entry, or `None` if the table has no entry
     /// of this name. If an allocation fails, nothing has changed.
     #[tactic(auto, using(crate::proofs::Whole::without_whole))]

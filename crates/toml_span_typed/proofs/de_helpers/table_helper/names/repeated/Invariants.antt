@@ -7,4 +7,4 @@ use Rattle.toml_span_typed.proofs.de_helpers.table_helper.names.repeated.Given a
 abbrev pub invariant-loop-name : goal.invariant-loop-name
 invariant-loop-name l =
     (before : List Name) × ((q : List ℕ) → get_by (λ k. slice_cmp nat_cmp q k.now) l.places ≡ lookup (λ name. bytes_eq name q) before)
-    × (map content_of l.errors.items ++ spec.repeated_after before (map (λ name. named name.now) (drop l.name-index l.names)) ≡ spec.repeated (map (λ name. named name.now) l.names))
+    × (map content_of l.errors.items ++ spec.repeated_after before (map named (drop l.name-index l.names)) ≡ spec.repeated (map named l.names))
