@@ -1,5 +1,5 @@
 -- Reports of violations, followed by warnings.
-use Rattle.toml_span_lex.proofs.Common.{◌≡◌, ◌<◌, ◌==◌, ◌∙◌, ◌++◌, ap, sym, inr, ℕ, zero, suc, List, [], ◌∷◌, map, length, Some, append_assoc, map-append, length-map, arith}
+use Rattle.toml_span_lex.proofs.Common.{◌≡◌, ◌<◌, ◌==◌, ◌∙◌, ◌++◌, ap, sym, subst, inl, inr, ℕ, zero, suc, List, [], ◌∷◌, map, length, Option, Some, Result, Ok, Err, IfOk, AllocError, Global, Vec, append_assoc, map-append, length-map, arith}
 use Rattle.std.specs.List.{All}
 use Rattle.std.proofs.lemmas.List.{append-nil}
 use Rattle.std.proofs.lemmas.List.Elements.{All-append}
@@ -9,7 +9,8 @@ use Rattle.toml_span_report.specs.declared.report.Report.{Report}
 use Rattle.toml_span_report.specs.declared.report.Severity.TheVariants.{Warning}
 use Rattle.toml_span_schema.specs.Valid.{valid}
 use Rattle.toml_span_schema.specs.declared.schema.Schema.{Schema}
-use Rattle.toml_span_lookup.specs.Findings.{AddsWarnings, ChecksWith, IsWarning}
+use Rattle.toml_span_schema.specs.declared.guide.Guide.{Guide}
+use Rattle.toml_span_lookup.specs.Findings.{AddsWarnings, ChecksWith, IsWarning, ReportsOf}
 
 pub adds-none : (reports : List ReportContent) → AddsWarnings reports reports
 adds-none reports = ([], sym (append-nil reports), λ k d within. absurd (omega arith))
@@ -26,6 +27,28 @@ adds-more old mid new report (warnings, is, all) more warns = (
       ∙ append_assoc old warnings (report_content report ∷ []),
   All-append IsWarning warnings (report_content report ∷ []) all (all-one (report_content report) warns),
 )
+
+-- more warnings may follow
+pub checks_more : (schema : Schema) (root : Node) (reports more : List ReportContent) → ChecksWith schema root reports → AddsWarnings reports more → ChecksWith schema root more
+checks_more schema root reports more (errors, is, (first, same, all)) (others, after, each) = (
+  errors,
+  is,
+  (
+    first ++ others,
+    after ∙ ap (λ l. l ++ others) same ∙ append_assoc errors first others,
+    All-append IsWarning first others all each,
+  ),
+)
+
+-- the reports of a check, with more warnings
+pub noted : (r : Result (Vec Report Global) AllocError) (found : Option Guide) (guide : Guide) (name : List ℕ) (root : Node) (reports : List ReportContent) (before after : List ℕ) →
+    found ≡ Some guide → ChecksWith guide.schema root reports →
+    IfOk r (λ all. AddsWarnings reports (map report_content all.items) × (after ≡ before)) →
+    IfOk r (λ all. ReportsOf found name root (map report_content all.items) before after)
+noted (Ok all) found guide name root reports before after is checks (adds, same) =
+    subst (λ g. ReportsOf g name root (map report_content all.items) before after) (sym is)
+    (inl (checks_more guide.schema root reports (map report_content all.items) checks adds, same))
+noted (Err e) found guide name root reports before after is checks adds = tt
 
 pub checks-with : (schema : Schema) (root : Node) (errors reports : List Report) → valid schema schema.depth root ≡ Some (length errors == 0) →
     AddsWarnings (map report_content errors) (map report_content reports) → ChecksWith schema root (map report_content reports)

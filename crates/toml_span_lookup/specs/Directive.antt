@@ -1,4 +1,4 @@
--- The directive `#:schema`, a comment before the first header or assignment.
+-- The directive `#:schema`, a comment before the first header or assignment, and the key `"$schema"`.
 use Rattle.std.specs.Prelude.{ℕ, nat_eq, Bool, true, false, not, ◌==◌, ◌&&◌, ◌||◌, List, [], ◌∷◌, codes, drop, if◌then◌else◌}
 use Rattle.std.specs.List.{starts_with}
 use Rattle.toml_span_report.specs.Places.{bom_end}
@@ -7,12 +7,18 @@ use Rattle.toml_span_report.specs.Places.{bom_end}
 abbrev pub is_head : ℕ → Bool
 is_head c = c == 32 || (c == 9 || (c == 13 || (c == 10 || c == 35)))
 
--- Whether a comment before the first header or assignment begins with `#:schema`. `in_comment` says whether the text
--- begins inside a comment.
+-- whether the text begins with the directive, or with the key in either form of quotes
+abbrev pub names_here : List ℕ → Bool
+names_here text =
+    (starts_with nat_eq text (codes "#:schema") || starts_with nat_eq text (codes "\"$schema\""))
+    || starts_with nat_eq text (codes "'$schema'")
+
+-- Whether a comment before the first header or assignment begins with `#:schema`, or the first key is `"$schema"`.
+-- `in_comment` says whether the text begins inside a comment.
 abbrev pub head_names : Bool → List ℕ → Bool
 head_names in_comment [] = false
 head_names in_comment (c ∷ cs) =
-    if not in_comment && starts_with nat_eq (c ∷ cs) (codes "#:schema") then true
+    if not in_comment && names_here (c ∷ cs) then true
     else if not in_comment && not (is_head c) then false
     else head_names (not (c == 10) && (in_comment || c == 35)) cs
 

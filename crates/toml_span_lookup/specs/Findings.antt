@@ -17,11 +17,13 @@ use Rattle.toml_span_schema.specs.declared.guide.Guide.{Guide}
 use Rattle.toml_span_schema.specs.declared.schema.Schema.{Schema}
 use Rattle.toml_span_tree.specs.Node.{Node}
 
--- options may choose a schema, or a comment before the first header or assignment begins with `#:schema`
+-- options may choose a schema, or a comment before the first header or assignment begins with `#:schema`, or the first
+-- key is `"$schema"`
 abbrev pub MayHaveSchema : Chooser → List ℕ → Type 0
 MayHaveSchema chooser text = (chooser ≡ Arguments) ⊎ (names_schema text ≡ true)
 
--- only directives choose a schema, and no comment before the first header or assignment begins with `#:schema`
+-- only directives choose a schema, no comment before the first header or assignment begins with `#:schema`, and the
+-- first key is not `"$schema"`
 abbrev pub HasNoSchema : Chooser → List ℕ → Type 0
 HasNoSchema chooser text = (chooser ≡ Files) × (names_schema text ≡ false)
 

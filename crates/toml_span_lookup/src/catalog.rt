@@ -1,8 +1,15 @@
 //! Catalogs of schemas in SchemaStore's format.
 use json::{Reader, Scratch, Value as Json};
 use std::alloc::{AllocError, Global};
+use std::slice;
 use toml_span_check::patterns::{Pattern, last_match, pattern_of};
 use toml_span_report::line_column;
+
+/// The maximum number of brackets in a pattern of `fileMatch` that are expanded, and about the maximum number of
+/// patterns for which it may stand.
+const MOST_BRACKETS: usize = 4;
+
+const MOST_PATTERNS: usize = 1_000;
 
 /// A schema of a catalog.
 #[derive(Drop)]
@@ -25,40 +32,100 @@ fn text_of<'a>(value: &Json<'a>, name: &str) -> Option<&'a str> {
     value.get(name).and_then(|member| member.as_str())
 }
 
-/// Returns the elements of the array in the member `name`, or `None` if the member is missing or not an array.
-fn elements_of<'v, 'a>(value: &'v Json<'a>, name: &str) -> Option<&'v [Json<'a>]> {
-    match value.get(name) {
-        Some(Json::Array(items)) => Some(items.as_slice()),
-        _ => None,
+/// Returns the elements of an array, or the value itself if it is not an array.
+fn elements_of<'v, 'a>(value: &'v Json<'a>) -> &'v [Json<'a>] {
+    match value {
+        Json::Array(items) => items.as_slice(),
+        _ => slice::from_ref(value),
     }
 }
 
-/// Parses a pattern of `fileMatch`. The result matches in all folders. Returns `None` if `pattern_of` does not support
-/// the pattern.
-fn glob_of(alloc: Global, text: &str) -> Result<Option<Pattern>, AllocError> {
+/// Returns the alternatives of `{a,b}` or, if `is_class`, the characters of `[ab]` and `[a-z]`, from the text between
+/// the brackets.
+fn words_of(alloc: Global, inside: &str, is_class: bool) -> Result<Vec<String>, AllocError> {
+    let mut words = Vec::new(alloc);
+    if !is_class {
+        for word in inside.split(',') {
+            words.push(String::from_str(alloc, word)?)?;
+        }
+        return Ok(words);
+    }
+    let mut first = '\0';
+    let mut is_range = false;
+    for c in inside.chars() {
+        if c == '-' && !is_range && first != '\0' {
+            is_range = true;
+            continue;
+        }
+        for code in 0..128u8 {
+            let other = char::from(code);
+            if other == c || is_range && first < other && other < c {
+                words.push(format!(in alloc; "{other}")?)?;
+            }
+        }
+        first = c;
+        is_range = false;
+    }
+    Ok(words)
+}
+
+/// Returns patterns in which the first brackets of each of `texts` are replaced by each of their alternatives. Returns
+/// at most about `MOST_PATTERNS`.
+fn expanded(
+    alloc: Global,
+    texts: &[String],
+    open: &str,
+    close: &str,
+) -> Result<Vec<String>, AllocError> {
+    let mut out = Vec::new(alloc);
+    for text in texts {
+        let text = text.as_str();
+        let Some((before, rest)) = text.split_once(open) else {
+            out.push(String::from_str(alloc, text)?)?;
+            continue;
+        };
+        let (inside, after) = rest.split_once(close).unwrap_or((rest, ""));
+        for word in words_of(alloc, inside, open == "[")?.as_slice() {
+            let word = word.as_str();
+            if out.len() < MOST_PATTERNS {
+                out.push(format!(in alloc; "{before}{word}{after}")?)?;
+            }
+        }
+    }
+    Ok(out)
+}
+
+/// Parses a pattern of `fileMatch`, and appends the patterns for which it stands to `patterns`. They match in all
+/// folders. Leaves out patterns that `pattern_of` does not support.
+fn push_globs(alloc: Global, text: &str, patterns: &mut Vec<Pattern>) -> Result<(), AllocError> {
     let (mark, rest) = match text.strip_prefix('!') {
         Some(rest) => ("!", rest),
         None => ("", text),
     };
     let rest = rest.strip_prefix('/').unwrap_or(rest);
-    let pattern = format!(in alloc; "{mark}**/{rest}")?;
-    pattern_of(alloc, pattern.as_str())
+    let mut texts = vec![in alloc; format!(in alloc; "{mark}**/{rest}")?]?;
+    for _ in 0..MOST_BRACKETS {
+        texts = expanded(alloc, texts.as_slice(), "{", "}")?;
+        texts = expanded(alloc, texts.as_slice(), "[", "]")?;
+    }
+    for text in texts.as_slice() {
+        if let Some(pattern) = pattern_of(alloc, text.as_str())? {
+            patterns.push(pattern)?;
+        }
+    }
+    Ok(())
 }
 
 /// Parses an entry of a catalog, and leaves out patterns that are not strings or not supported. Returns `None` if `url`
-/// is not a string or `fileMatch` is not an array.
+/// is not a string or `fileMatch` is missing.
 fn entry_of(alloc: Global, entry: &Json<'_>) -> Result<Option<Listed>, AllocError> {
-    let (Some(address), Some(globs)) = (text_of(entry, "url"), elements_of(entry, "fileMatch"))
-    else {
+    let (Some(address), Some(globs)) = (text_of(entry, "url"), entry.get("fileMatch")) else {
         return Ok(None);
     };
     let mut patterns = Vec::new(alloc);
-    for glob in globs {
-        let Some(text) = glob.as_str() else {
-            continue;
-        };
-        if let Some(pattern) = glob_of(alloc, text)? {
-            patterns.push(pattern)?;
+    for glob in elements_of(globs) {
+        if let Some(text) = glob.as_str() {
+            push_globs(alloc, text, &mut patterns)?;
         }
     }
     Ok(Some(Listed {
@@ -76,11 +143,11 @@ pub(crate) fn catalog_of(alloc: Global, text: &str) -> Result<Option<Catalog>, A
         Err(json::Error::OutOfMemory) => return Err(AllocError),
         Err(_) => return Ok(None),
     };
-    let Some(entries) = elements_of(&value, "schemas") else {
+    let Some(Json::Array(entries)) = value.get("schemas") else {
         return Ok(None);
     };
     let mut schemas = Vec::new(alloc);
-    for entry in entries {
+    for entry in entries.as_slice() {
         if let Some(schema) = entry_of(alloc, entry)? {
             schemas.push(schema)?;
         }

@@ -1,13 +1,21 @@
 //! Reads and compiles a schema with the documents to which it refers.
-use crate::addresses::{address_of, folder_of, path_of_address, without_fragment};
+use crate::addresses::{
+    address_of, folder_of, is_remote, path_of_address, push_decoded, without_fragment,
+};
 use crate::disk::{Disk, Stamp};
-use crate::options::Options;
-use crate::reasons::{complain, json_reason, missing_reason};
+use crate::metaschemas::metaschema;
+use crate::options::{LocalCopy, Options};
+use crate::places::place_in;
+use crate::reasons::{complain, flaw_reason, json_reason, remote_reason};
 use std::alloc::{AllocError, Global};
-use toml_span_schema::{Document, Guide, SchemaError};
+use toml_span_report::Report;
+use toml_span_schema::{Document, Flaw, Guide, SchemaError};
 
 /// The maximum number of other documents that a schema may refer to.
 const MOST_DOCUMENTS: usize = 100;
+
+/// The size of the largest file that is read, in bytes.
+const LONGEST: usize = 16_777_216;
 
 /// A file that a schema needs, with its stamp from before the file was read.
 #[derive(Drop)]
@@ -24,6 +32,10 @@ pub(crate) struct Used {
     pub(crate) guide: Option<Guide>,
     /// The files of the schema and of the documents to which it refers.
     pub(crate) files: Vec<ReadFile>,
+    /// A warning for each part of the schema that is not checked.
+    pub(crate) warnings: Vec<Report>,
+    /// The documents to which the schema refers and whose local copies do not exist.
+    pub(crate) absent: Vec<LocalCopy>,
 }
 
 /// The document of a schema, or a document to which the schema refers.
@@ -32,6 +44,13 @@ struct Loaded {
     path: String,
     address: String,
     text: String,
+}
+
+/// The documents of a schema that have been read so far, and the addresses of all missing ones so far.
+#[derive(Drop)]
+struct Loading {
+    documents: Vec<Loaded>,
+    tried: Vec<String>,
 }
 
 /// Compiles the schema in the first of `documents`. The schema may refer to the other documents. Fails as
@@ -52,8 +71,9 @@ fn compile(alloc: Global, documents: &[Loaded]) -> Result<Guide, SchemaError> {
     Guide::from_json(alloc, root.as_str(), others.as_slice())
 }
 
-/// Returns the text of the file at `path`. If the file can't be read or is not valid UTF-8, returns `None` and adds an
-/// error to `complaint`. `what` names the failed action in this error, such as `read the catalog`.
+/// Returns the text of the file at `path` without a byte order mark. If the file can't be read, is larger than 16 MiB
+/// or is not valid UTF-8, returns `None` and adds an error to `complaint`. `what` names the failed action in this
+/// error, such as `read the catalog`.
 pub(crate) fn text_of<D: Disk>(
     alloc: Global,
     disk: &mut D,
@@ -61,48 +81,64 @@ pub(crate) fn text_of<D: Disk>(
     what: &str,
     path: &str,
 ) -> Result<Option<String>, AllocError> {
-    match disk.read_file(alloc, path)? {
-        Ok(bytes) => match str::from_utf8(bytes.as_slice()) {
-            Ok(text) => Ok(Some(String::from_str(alloc, text)?)),
-            Err(_) => {
-                complain(complaint, what, path, "it is not valid UTF-8")?;
-                Ok(None)
+    let reason = match disk.read_file(alloc, path)? {
+        Ok(bytes) => {
+            let text = str::from_utf8(bytes.as_slice());
+            if bytes.len() > LONGEST {
+                String::from_str(alloc, "it is larger than 16 MiB")?
+            } else if let Ok(text) = text {
+                let text = text.strip_prefix('\u{feff}').unwrap_or(text);
+                return Ok(Some(String::from_str(alloc, text)?));
+            } else {
+                String::from_str(alloc, "it is not valid UTF-8")?
             }
-        },
-        Err(reason) => {
-            complain(complaint, what, path, reason.as_str())?;
-            Ok(None)
         }
-    }
-}
-
-/// Returns the path of the document at `address`, to which a schema in `folder` refers, or of its local copy. Returns
-/// `None` if the document has no local copy and is not a local file.
-fn path_for(
-    alloc: Global,
-    options: &Options,
-    folder: &str,
-    address: &str,
-) -> Result<Option<String>, AllocError> {
-    match options.copy_of(address) {
-        Some(file) => Ok(Some(String::from_str(alloc, file)?)),
-        None => path_of_address(alloc, folder, address),
-    }
-}
-
-/// Returns the address, without its fragment, of the document that `error` reports as missing. Returns `None` if
-/// `error` is another error, or if the document is among `documents`.
-fn missing_address<'e>(documents: &[Loaded], error: &'e SchemaError) -> Option<&'e str> {
-    let SchemaError::Missing { address, .. } = error else {
-        return None;
+        Err(reason) => reason,
     };
-    let address = without_fragment(address.as_str());
+    complain(complaint, what, path, reason.as_str())?;
+    Ok(None)
+}
+
+/// Returns the document at `address`, or `None` if `documents` has none.
+fn at_address<'d>(documents: &'d [Loaded], address: &str) -> Option<&'d Loaded> {
     for document in documents {
         if document.address.as_str() == address {
-            return None;
+            return Some(document);
         }
     }
-    Some(address)
+    None
+}
+
+/// Returns the path of the document at `address`, which `flaw` reports as missing, or of its local copy: the one that
+/// the options name, or the file that is as far from the file of the reference as its address from that of the
+/// reference. Returns `None` if the document has no local copy and is not a local file.
+fn path_for<D: Disk>(
+    alloc: Global,
+    disk: &mut D,
+    options: &Options,
+    documents: &[Loaded],
+    flaw: &Flaw,
+    address: &str,
+) -> Result<Option<String>, AllocError> {
+    if let Some(file) = options.copy_of(alloc, address)? {
+        return Ok(Some(file));
+    }
+    let first = documents
+        .first()
+        .map_or("", |document| document.path.as_str());
+    if let Some(path) = path_of_address(alloc, folder_of(first), address)? {
+        return Ok(Some(path));
+    }
+    let Some(document) = at_address(documents, flaw.document.as_str()) else {
+        return Ok(None);
+    };
+    let Some(rest) = address.strip_prefix(folder_of(flaw.base.as_str())) else {
+        return Ok(None);
+    };
+    let mut path = String::from_str(alloc, folder_of(document.path.as_str()))?;
+    push_decoded(alloc, &mut path, rest)?;
+    let is_there = disk.stamp(path.as_str()).is_some();
+    Ok(if is_there { Some(path) } else { None })
 }
 
 /// Adds an error to `complaint` that says why the document at `address` can't be parsed (see `json_reason`). Does
@@ -127,8 +163,7 @@ fn refuse_text(
     Ok(())
 }
 
-/// Adds an error to `complaint` that says why the schema at `path` can't be compiled. If `error` is `Json`, the added
-/// error is about the document that can't be parsed instead.
+/// Adds an error to `complaint` for each reason why the schema at `path` can't be compiled.
 fn refuse(
     alloc: Global,
     options: &Options,
@@ -137,47 +172,165 @@ fn refuse(
     documents: &[Loaded],
     error: &SchemaError,
 ) -> Result<(), AllocError> {
-    let reason = match error {
+    match error {
         SchemaError::Json { address } => {
-            return refuse_text(alloc, complaint, documents, address.as_str());
+            refuse_text(alloc, complaint, documents, address.as_str())
         }
-        SchemaError::Missing { place, address } => {
-            missing_reason(alloc, options.place, place.as_str(), address.as_str())?
+        SchemaError::Wrong { flaws } => {
+            let flaws = flaws.as_slice();
+            if let Some(reason) = remote_reason(alloc, options.place, flaws)? {
+                complain(complaint, "use the schema", path, reason.as_str())?;
+            }
+            refuse_flaws(alloc, complaint, documents, flaws)
         }
-        _ => error.message(alloc)?,
-    };
-    complain(complaint, "use the schema", path, reason.as_str())
+        _ => {
+            let reason = error.message(alloc)?;
+            complain(complaint, "use the schema", path, reason.as_str())
+        }
+    }
 }
 
-/// Reads the document that `error` reports as missing, and appends it to `documents` and its file to `used.files`.
-/// Returns `false` if `error` is another error, or if the document is among `documents`, has no local file or can't be
-/// read. If the document can't be read, adds an error to `complaint`.
+/// A flaw of a schema, with the path of its document and what is wrong there.
+#[derive(Drop)]
+struct ExplainedFlaw<'d, 'f> {
+    flaw: &'f Flaw,
+    path: &'d str,
+    reason: String,
+}
+
+/// Returns what is wrong at each flaw. The flaws of a document are in the order of its text.
+fn explain_flaws<'d, 'f>(
+    alloc: Global,
+    documents: &'d [Loaded],
+    flaws: &'f [Flaw],
+) -> Result<Vec<ExplainedFlaw<'d, 'f>>, AllocError> {
+    let mut all = Vec::new(alloc);
+    for document in documents {
+        let (text, path) = (document.text.as_str(), document.path.as_str());
+        let mut found = Vec::new(alloc);
+        for (at, flaw) in flaws.iter().enumerate() {
+            if flaw.document.as_str() == document.address.as_str() {
+                found.push((place_in(alloc, text, flaw.place.as_str())?, at))?;
+            }
+        }
+        found.sort_by_key(|entry| entry.0)?;
+        for (place, at) in found {
+            if let Some(flaw) = flaws.get(at) {
+                let reason = flaw_reason(alloc, text, place, flaw)?;
+                all.push(ExplainedFlaw { flaw, path, reason })?;
+            }
+        }
+    }
+    Ok(all)
+}
+
+/// Adds an error to `complaint` for each flaw, except for missing documents on servers.
+fn refuse_flaws(
+    alloc: Global,
+    complaint: &mut String,
+    documents: &[Loaded],
+    flaws: &[Flaw],
+) -> Result<(), AllocError> {
+    for one in explain_flaws(alloc, documents, flaws)? {
+        let (flaw, path) = (one.flaw, one.path);
+        if !is_remote(flaw.missing.as_str()) {
+            let (help, reason) = (flaw.help.as_str(), one.reason.as_str());
+            let semicolon = if help.is_empty() { "" } else { "; " };
+            let message = format!(in alloc; "{reason}{semicolon}{help}")?;
+            complain(complaint, "use the schema", path, message.as_str())?;
+        }
+    }
+    Ok(())
+}
+
+/// Returns a warning for each part of a schema that is not checked.
+fn warnings_of(
+    alloc: Global,
+    documents: &[Loaded],
+    flaws: &[Flaw],
+) -> Result<Vec<Report>, AllocError> {
+    let mut reports = Vec::new(alloc);
+    for one in explain_flaws(alloc, documents, flaws)? {
+        let (path, reason) = (one.path, one.reason.as_str());
+        let message = format!(in alloc; "the schema `{path}`: {reason}")?;
+        let report = Report::warning(alloc, "schema-not-checked", message.as_str())?;
+        let help = one.flaw.help.as_str();
+        reports.push(if help.is_empty() {
+            report
+        } else {
+            report.help(help)?
+        })?;
+    }
+    Ok(reports)
+}
+
+/// Reads the documents that `flaws` report as missing, and appends them to `loading.documents` and their files to
+/// `used.files`. Metaschemas are built in, unless there are local copies. Returns whether there are any such documents.
+/// If a document can't be read, adds an error to `complaint`.
 fn push_missing<D: Disk>(
     alloc: Global,
     disk: &mut D,
     options: &Options,
     complaint: &mut String,
     used: &mut Used,
-    documents: &mut Vec<Loaded>,
-    error: &SchemaError,
+    loading: &mut Loading,
+    flaws: &[Flaw],
 ) -> Result<bool, AllocError> {
-    let Some(address) = missing_address(documents.as_slice(), error) else {
-        return Ok(false);
+    let known = loading.documents.len();
+    for flaw in flaws {
+        let address = without_fragment(flaw.missing.as_str());
+        let is_tried = loading.tried.iter().any(|tried| tried.as_str() == address);
+        if address.is_empty() || is_tried {
+            continue;
+        }
+        let documents = loading.documents.as_slice();
+        let path = path_for(alloc, disk, options, documents, flaw, address)?;
+        loading.tried.push(String::from_str(alloc, address)?)?;
+        if let Some(document) = document_at(alloc, disk, complaint, used, address, path)? {
+            loading.documents.push(document)?;
+        }
+    }
+    Ok(loading.documents.len() > known)
+}
+
+/// Returns the missing document at `address`, whose file or local copy is at `path`, or the metaschema that is built in
+/// if there is no such file. If the file can't be read, returns `None` and adds an error to `complaint`.
+fn document_at<D: Disk>(
+    alloc: Global,
+    disk: &mut D,
+    complaint: &mut String,
+    used: &mut Used,
+    address: &str,
+    path: Option<String>,
+) -> Result<Option<Loaded>, AllocError> {
+    let is_there = match &path {
+        Some(path) => disk.stamp(path.as_str()).is_some(),
+        None => false,
     };
-    let folder = folder_of(used.path.as_str());
-    let Some(path) = path_for(alloc, options, folder, address)? else {
-        return Ok(false);
+    if let (false, Some(text)) = (is_there, metaschema(address)) {
+        return Ok(Some(Loaded {
+            path: String::from_str(alloc, address)?,
+            address: String::from_str(alloc, address)?,
+            text: String::from_str(alloc, text)?,
+        }));
+    }
+    let Some(path) = path else {
+        return Ok(None);
     };
+    if is_remote(address) && !is_there {
+        used.absent.push(LocalCopy {
+            address: String::from_str(alloc, address)?,
+            path: String::from_str(alloc, path.as_str())?,
+        })?;
+    }
     let Some(text) = read_part(alloc, disk, complaint, used, path.as_str())? else {
-        return Ok(false);
+        return Ok(None);
     };
-    let address = String::from_str(alloc, address)?;
-    documents.push(Loaded {
+    Ok(Some(Loaded {
         path,
-        address,
+        address: String::from_str(alloc, address)?,
         text,
-    })?;
-    Ok(true)
+    }))
 }
 
 /// Adds the file at `path` to `used.files`, and returns its text. If the file can't be read or is not valid UTF-8,
@@ -197,19 +350,21 @@ fn read_part<D: Disk>(
     text_of(alloc, disk, complaint, "read the schema", path)
 }
 
-/// Compiles the schema in the first of `documents`, and stores it in `used`. Reads the other documents to which the
-/// schema refers. If the schema can't be compiled, adds an error to `complaint`.
+/// Compiles the schema in the first of `loading.documents`, and stores it in `used`. Reads the other documents to which
+/// the schema refers. If the schema can't be compiled, adds an error to `complaint`.
 fn compile_used<D: Disk>(
     alloc: Global,
     disk: &mut D,
     options: &Options,
     complaint: &mut String,
     used: &mut Used,
-    mut documents: Vec<Loaded>,
+    mut loading: Loading,
 ) -> Result<(), AllocError> {
     for _ in 0..=MOST_DOCUMENTS {
-        let error = match compile(alloc, documents.as_slice()) {
+        let error = match compile(alloc, loading.documents.as_slice()) {
             Ok(mut guide) => {
+                let (documents, flaws) = (loading.documents.as_slice(), guide.warnings.as_slice());
+                used.warnings = warnings_of(alloc, documents, flaws)?;
                 guide.schema.set_formats(options.has_formats);
                 used.guide = Some(guide);
                 return Ok(());
@@ -217,10 +372,16 @@ fn compile_used<D: Disk>(
             Err(SchemaError::OutOfMemory) => return Err(AllocError),
             Err(error) => error,
         };
-        let all = &mut documents;
-        if !push_missing(alloc, disk, options, complaint, used, all, &error)? {
+        let is_more = match &error {
+            SchemaError::Wrong { flaws } if loading.documents.len() <= MOST_DOCUMENTS => {
+                let (loading, flaws) = (&mut loading, flaws.as_slice());
+                push_missing(alloc, disk, options, complaint, used, loading, flaws)?
+            }
+            _ => false,
+        };
+        if !is_more {
             let path = used.path.as_str();
-            let documents = documents.as_slice();
+            let documents = loading.documents.as_slice();
             return refuse(alloc, options, complaint, path, documents, &error);
         }
     }
@@ -228,7 +389,17 @@ fn compile_used<D: Disk>(
     complain(complaint, "use the schema", used.path.as_str(), reason)
 }
 
-/// Reads and compiles the schema at a path. If the schema can't be used, adds an error to `complaint`, and returns a
+/// Returns the address of the schema at `path`, against which its relative references are resolved. `address` is the path
+/// or the URL that names the schema.
+pub(crate) fn base_of(alloc: Global, address: &str, path: &str) -> Result<String, AllocError> {
+    if is_remote(address) && !address.contains('"') && !address.contains('\\') {
+        String::from_str(alloc, without_fragment(address))
+    } else {
+        address_of(alloc, path)
+    }
+}
+
+/// Reads and compiles the schema at a path, whose address is `address`. If the schema can't be used, adds an error to `complaint`, and returns a
 /// `Used` without a compiled schema.
 pub(crate) fn used_from<D: Disk>(
     alloc: Global,
@@ -236,20 +407,26 @@ pub(crate) fn used_from<D: Disk>(
     options: &Options,
     complaint: &mut String,
     path: &str,
+    address: String,
 ) -> Result<Used, AllocError> {
     let mut used = Used {
         path: String::from_str(alloc, path)?,
         guide: None,
         files: Vec::new(alloc),
+        warnings: Vec::new(alloc),
+        absent: Vec::new(alloc),
     };
     if let Some(text) = read_part(alloc, disk, complaint, &mut used, path)? {
-        let mut documents = Vec::new(alloc);
-        documents.push(Loaded {
+        let mut loading = Loading {
+            documents: Vec::new(alloc),
+            tried: Vec::new(alloc),
+        };
+        loading.documents.push(Loaded {
             path: String::from_str(alloc, path)?,
-            address: address_of(alloc, path)?,
+            address,
             text,
         })?;
-        compile_used(alloc, disk, options, complaint, &mut used, documents)?;
+        compile_used(alloc, disk, options, complaint, &mut used, loading)?;
     }
     Ok(used)
 }

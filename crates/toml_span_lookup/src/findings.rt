@@ -10,7 +10,7 @@ use toml_span_report::{Report, Severity};
 use toml_span_schema::{CheckError, Schema};
 
 /// Appends to `reports` the warnings in `found`.
-fn push_warnings(reports: &mut Vec<Report>, found: Vec<Report>) -> Result<(), AllocError>
+pub(crate) fn push_warnings(reports: &mut Vec<Report>, found: Vec<Report>) -> Result<(), AllocError>
     ensures { OnOk result (AddsWarnings (map report_content reports.old.items) (map report_content reports.new.items)) }
 {
     for report in found {

@@ -9,5 +9,7 @@ pub mod directive;
 pub mod disk;
 mod findings;
 pub mod lookup;
+mod metaschemas;
 pub mod options;
+mod places;
 mod reasons;

@@ -1,18 +1,18 @@
 //! Finds the schemas of files, and checks documents against them.
 ghost use Rattle.std.specs.Prelude.{◌≡◌, IfOk, map, option_map, string_bytes};
 ghost use Rattle.toml_span_lookup.specs.Findings as spec;
-ghost use Rattle.toml_span_lookup.specs.Findings.{ReportsFor, ReportsOf, file_says};
+ghost use Rattle.toml_span_lookup.specs.Findings.{AddsWarnings, ReportsFor, ReportsOf, file_says};
 ghost use Rattle.toml_span_report.specs.Report.{report_content};
 ghost use Rattle.toml_span_tree.specs.Value.{view};
 
 use crate::addresses::{folder_of, is_remote, joined, push_decoded};
 use crate::catalog::{Catalog, catalog_of};
-use crate::compiling::{Used, text_of, used_from};
+use crate::compiling::{Used, base_of, text_of, used_from};
 use crate::directive::{Directive, directive_of, names_schema};
 use crate::disk::{Disk, Stamp};
-use crate::findings::{findings, not_fetched};
-use crate::options::Options;
-use crate::reasons::{catalog_reason, complain, copy_help, remote_reason};
+use crate::findings::{findings, not_fetched, push_warnings};
+use crate::options::{LocalCopy, Options, Place};
+use crate::reasons::{catalog_reason, complain, copy_help, remote_message};
 use std::alloc::{AllocError, Global};
 use std::mem;
 use toml_span::{Span, Value};
@@ -92,8 +92,8 @@ impl Lookup {
         address: &str,
         folder: &str,
     ) -> Result<Option<String>, AllocError> {
-        if let Some(file) = self.options.copy_of(address) {
-            return Ok(Some(String::from_str(alloc, file)?));
+        if let Some(file) = self.options.copy_of(alloc, address)? {
+            return Ok(Some(file));
         }
         if is_remote(address) {
             return Ok(None);
@@ -203,8 +203,10 @@ impl Lookup {
             path: String::from_str(alloc, address)?,
             guide: None,
             files: Vec::new(alloc),
+            warnings: Vec::new(alloc),
+            absent: Vec::new(alloc),
         })?;
-        let reason = remote_reason(alloc, self.options.place, address)?;
+        let reason = remote_message(alloc, self.options.place, &[address])?;
         complain(
             &mut self.complaint,
             "read the schema",
@@ -228,8 +230,8 @@ impl Lookup {
                 if self.position_of(path.as_str()).is_none() {
                     let complaint = &mut self.complaint;
                     let path = path.as_str();
-                    self.used
-                        .push(used_from(alloc, disk, &self.options, complaint, path)?)?;
+                    let base = base_of(alloc, path, path)?;
+                    self.used.push(used_from(alloc, disk, &self.options, complaint, path, base)?)?;
                 }
                 Ok(())
             }
@@ -303,6 +305,85 @@ impl Lookup {
         }
     }
 
+    /// Returns `reports`, followed by a warning for each part of the schema at a path that is not checked. Each such
+    /// warning is returned once, and not in an editor.
+    fn with_notes(
+        &mut self,
+        alloc: Global,
+        path: &str,
+        mut reports: Vec<Report>,
+    ) -> Result<Vec<Report>, AllocError>
+        ensures { IfOk result (λ all. AddsWarnings (map report_content reports.items) (map report_content all.items)
+            × (string_bytes self.new.complaint ≡ string_bytes self.old.complaint)) }
+    {
+        let notes = match self.position_of(path) {
+            Some(at) => match self.used.get_mut(at) {
+                Some(used) => mem::replace(&mut used.warnings, Vec::new(alloc)),
+                None => Vec::new(alloc),
+            },
+            None => Vec::new(alloc),
+        };
+        if self.options.place == Place::Arguments {
+            push_warnings(&mut reports, notes)?;
+        }
+        Ok(reports)
+    }
+
+    /// Checks the schema at `address`, a path or URL. Returns a warning for each part that is not checked. If the
+    /// schema can't be used, `take_complaint` returns the reasons. Fails if an allocation fails.
+    pub fn check_schema<D: Disk>(
+        &mut self,
+        alloc: Global,
+        disk: &mut D,
+        address: &str,
+    ) -> Result<Vec<Report>, AllocError> {
+        let Some(path) = self.path_of(alloc, address, "")? else {
+            self.refuse_remote(alloc, address)?;
+            return Ok(Vec::new(alloc));
+        };
+        let base = base_of(alloc, address, path.as_str())?;
+        let used = used_from(
+            alloc,
+            disk,
+            &self.options,
+            &mut self.complaint,
+            path.as_str(),
+            base,
+        )?;
+        let Used { warnings, .. } = used;
+        Ok(warnings)
+    }
+
+    /// Returns the documents that the schema at `address`, a URL, needs, including itself, and whose local copies do
+    /// not exist. If the schema can't be used for another reason, `take_complaint` returns it. Fails if an allocation
+    /// fails.
+    pub fn absent_copies<D: Disk>(
+        &mut self,
+        alloc: Global,
+        disk: &mut D,
+        address: &str,
+    ) -> Result<Vec<LocalCopy>, AllocError> {
+        let mut copies = Vec::new(alloc);
+        let Some(path) = self.path_of(alloc, address, "")? else {
+            self.refuse_remote(alloc, address)?;
+            return Ok(copies);
+        };
+        if is_remote(address) && disk.stamp(path.as_str()).is_none() {
+            let address = String::from_str(alloc, address)?;
+            copies.push(LocalCopy { address, path })?;
+            return Ok(copies);
+        }
+        let mut complaint = String::new(alloc);
+        let base = base_of(alloc, address, path.as_str())?;
+        let path = path.as_str();
+        let used = used_from(alloc, disk, &self.options, &mut complaint, path, base)?;
+        let Used { absent, .. } = used;
+        if absent.is_empty() {
+            self.complaint.push_str(complaint.as_str())?;
+        }
+        Ok(absent)
+    }
+
     /// Checks the document `root` of the file `name` against the schema at a path. Returns no reports if the schema has
     /// not been read or can't be used. If the check can't be completed, returns no reports, and adds an error to
     /// `complaint`.
@@ -320,7 +401,7 @@ impl Lookup {
             return Ok(Vec::new(alloc));
         };
         match findings(alloc, &guide.schema, root) {
-            Ok(reports) => Ok(reports),
+            Ok(reports) => self.with_notes(alloc, path, reports),
             Err(CheckError::OutOfMemory) => Err(AllocError),
             Err(error) => {
                 complain(&mut self.complaint, "check", name, error.message())?;

@@ -1,6 +1,6 @@
 //! The options about schemas, from the command line or an editor.
 use crate::addresses::without_fragment;
-use std::alloc::Global;
+use std::alloc::{AllocError, Global};
 
 /// Where people can name a local copy of a schema.
 #[derive(Clone, Copy, PartialEq, Eq)]
@@ -14,9 +14,9 @@ pub enum Place {
 /// A local copy of a schema.
 #[derive(Clone, Drop)]
 pub struct LocalCopy {
-    /// The URL of the schema.
+    /// The URL of the schema or, if it ends with a slash, the beginning of the URLs of several schemas.
     pub address: String,
-    /// The path of the local copy.
+    /// The path of the local copy, or of the folder with the local copies.
     pub path: String,
 }
 
@@ -48,13 +48,32 @@ impl Options {
     }
 
     /// Returns the path of the local copy of the schema at `address`, or `None` if the schema has no local copy.
-    /// Ignores fragments.
-    pub(crate) fn copy_of(&self, address: &str) -> Option<&str> {
+    /// Ignores fragments. If the address of a copy ends with a slash, its path is a folder with the files of all
+    /// addresses that begin with it, by the rest of the address, in which percent escapes stay. The rest can't lead out
+    /// of the folder.
+    pub(crate) fn copy_of(
+        &self,
+        alloc: Global,
+        address: &str,
+    ) -> Result<Option<String>, AllocError> {
+        let address = without_fragment(address);
         for copy in self.copies.as_slice() {
-            if without_fragment(copy.address.as_str()) == without_fragment(address) {
-                return Some(copy.path.as_str());
+            let known = without_fragment(copy.address.as_str());
+            if known == address {
+                return Ok(Some(String::from_str(alloc, copy.path.as_str())?));
+            }
+            let Some(rest) = address.strip_prefix(known) else {
+                continue;
+            };
+            if known.ends_with("/") && !rest.split('/').any(|part| part == "..") {
+                let mut path = String::from_str(alloc, copy.path.as_str())?;
+                if !path.as_str().ends_with("/") {
+                    path.push('/')?;
+                }
+                path.push_str(rest)?;
+                return Ok(Some(path));
             }
         }
-        None
+        Ok(None)
     }
 }

@@ -12,29 +12,29 @@ use Rattle.regex_syntax.specs.Grammar.{read}
 use Rattle.regex_syntax.specs.declared.error.Error.{Error as SyntaxError}
 use Rattle.regex_syntax.specs.declared.error.ErrorKind.{ErrorKind}
 use Rattle.regex_syntax.specs.declared.error.ErrorKind.TheVariants.{OutOfMemory, NestLimitExceeded}
-use Rattle.toml_span_schema.specs.Patterns.{character, in_class_after, translated_from}
+use Rattle.toml_span_schema.specs.Patterns.{character, in_class_after, next_state, translated_from}
 
-pub pattern_step : (escaped in_class : Bool) (out new : List ℕ) (c : ℕ) (seen : List ℕ) (after inside : Bool)
-    → ((rest : List ℕ) → out ++ translated_from escaped in_class rest ≡ translated_from false false (seen ++ rest))
-    → new ≡ out ++ character escaped in_class c
-    → after ≡ (not escaped && c == 92)
-    → inside ≡ in_class_after escaped in_class c
-    → (rest : List ℕ) → new ++ translated_from after inside rest ≡ translated_from false false ((seen ++ c ∷ []) ++ rest)
-pattern_step escaped in_class out new c seen after inside before e1 e2 e3 rest =
+pub pattern_step : (state : ℕ) (in_class : Bool) (out new : List ℕ) (c : ℕ) (seen : List ℕ) (after : ℕ) (inside : Bool)
+    → ((rest : List ℕ) → out ++ translated_from state in_class rest ≡ translated_from 0 false (seen ++ rest))
+    → new ≡ out ++ character state in_class c
+    → after ≡ next_state state c
+    → inside ≡ in_class_after state in_class c
+    → (rest : List ℕ) → new ++ translated_from after inside rest ≡ translated_from 0 false ((seen ++ c ∷ []) ++ rest)
+pattern_step state in_class out new c seen after inside before e1 e2 e3 rest =
     ap (λ x. x ++ translated_from after inside rest) e1
-    ∙ ap (λ a. (out ++ character escaped in_class c) ++ translated_from a inside rest) e2
-    ∙ ap (λ b. (out ++ character escaped in_class c) ++ translated_from (not escaped && c == 92) b rest) e3
-    ∙ append_assoc out (character escaped in_class c) (translated_from (not escaped && c == 92) (in_class_after escaped in_class c) rest)
+    ∙ ap (λ a. (out ++ character state in_class c) ++ translated_from a inside rest) e2
+    ∙ ap (λ b. (out ++ character state in_class c) ++ translated_from (next_state state c) b rest) e3
+    ∙ append_assoc out (character state in_class c) (translated_from (next_state state c) (in_class_after state in_class c) rest)
     ∙ before (c ∷ rest)
-    ∙ ap (translated_from false false) (sym (append_assoc seen (c ∷ []) rest))
+    ∙ ap (translated_from 0 false) (sym (append_assoc seen (c ∷ []) rest))
 
-pub pattern_end : (escaped in_class : Bool) (out new seen all : List ℕ)
-    → ((rest : List ℕ) → out ++ translated_from escaped in_class rest ≡ translated_from false false (seen ++ rest))
-    → new ≡ out ++ (if escaped then 92 ∷ [] else [])
+pub pattern_end : (state : ℕ) (in_class : Bool) (out new seen all : List ℕ)
+    → ((rest : List ℕ) → out ++ translated_from state in_class rest ≡ translated_from 0 false (seen ++ rest))
+    → new ≡ out ++ (if state == 0 then [] else 92 ∷ [])
     → seen ≡ all
-    → new ≡ translated_from false false all
-pattern_end escaped in_class out new seen all before e same =
-    e ∙ before [] ∙ ap (translated_from false false) (append-nil seen ∙ same)
+    → new ≡ translated_from 0 false all
+pattern_end state in_class out new seen all before e same =
+    e ∙ before [] ∙ ap (translated_from 0 false) (append-nil seen ∙ same)
 
 some_and : {T : Type 0} (P : T → Type 0) (o : Option T) → IsSomeAnd o P → is_some o ≡ true
 some_and P None h = absurd h

@@ -1,3 +1,4 @@
+pub mod DateSteps
 pub mod Differ
 pub mod Expressions
 pub mod Judged

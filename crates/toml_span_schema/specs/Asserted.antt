@@ -11,6 +11,7 @@ use Rattle.toml_span_tree.specs.Node.{text, integer, float, boolean, datetime, F
 use Rattle.toml_span_tree.specs.Value.{inner_of}
 use Rattle.toml_span_schema.specs.Applied.{matches}
 use Rattle.toml_span_schema.specs.Canonical.{canonical, forms, all_new}
+use Rattle.toml_span_schema.specs.Dates.{rfc3339}
 use Rattle.toml_span_schema.specs.Formats.{fits_leap_second}
 use Rattle.toml_span_schema.specs.Numbers.{Quantity, plain, decimal_of, is_whole, compare_quantity, is_multiple_quantity, quantity_in}
 use Rattle.toml_span_schema.specs.Parts.{has_key, items_count, members_count}
@@ -108,7 +109,7 @@ allows_quantity k (Some x) = allows_number k x
 -- whether a keyword for one type of values allows a value; it allows all values of other types
 unfoldable pub allows_kind : Schema → Keyword → Node → Inner → Bool
 allows_kind s k n (scalar (text t)) = allows_text s k t
-allows_kind s k n (scalar (datetime t)) = allows_text s k t
+allows_kind s k n (scalar (datetime t)) = allows_text s k (rfc3339 t)
 allows_kind s k n (array ns) = allows_items k ns
 allows_kind s k n (table ms) = allows_table_of k (members_count ms) n
 allows_kind s k n i = allows_quantity k (quantity_in i)

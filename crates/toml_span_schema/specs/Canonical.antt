@@ -7,6 +7,7 @@ use Rattle.std.specs.Fmt.{decimal}
 use Rattle.std.specs.List.{flat_map, list_any}
 use Rattle.toml_span_tree.specs.Node.{Node, node, Inner, taken, scalar, array, table, Items, no_items, item, Members, no_members, member}
 use Rattle.toml_span_tree.specs.Node.{Scalar, text, integer, float, boolean, datetime}
+use Rattle.toml_span_schema.specs.Dates.{rfc3339}
 use Rattle.toml_span_schema.specs.Numbers.{Plain, Quantity, exact, endless, no_number, float_quantity, decimal_of}
 use Rattle.std.specs.Fmt.{signed_decimal}
 
@@ -25,13 +26,13 @@ quantity_form (endless true) = 60 ∷ []
 quantity_form (endless false) = 62 ∷ []
 quantity_form no_number = 63 ∷ []
 
--- the canonical text of a scalar; dates and times are strings
+-- the canonical text of a scalar; dates and times are strings as in RFC 3339
 abbrev pub scalar_form : Scalar → List ℕ
 scalar_form (text t) = text_form t
 scalar_form (integer z) = plain_form (decimal_of (signed_decimal z))
 scalar_form (float x) = quantity_form (float_quantity x)
 scalar_form (boolean b) = (if b then 116 else 102) ∷ []
-scalar_form (datetime t) = text_form t
+scalar_form (datetime t) = text_form (rfc3339 t)
 
 abbrev mutual
   pub canonical : Node → List ℕ

@@ -10,6 +10,7 @@ ghost use Rattle.toml_span_schema.specs.Numbers.{quantity};
 
 use crate::applied::{has_key, matches};
 use crate::canonical::{all_differ, canonical};
+use crate::dates::rfc3339;
 use crate::decimal::number_in;
 use crate::error::CheckError;
 use crate::formats::fits_leap_second;
@@ -217,7 +218,10 @@ fn allows_kind(
     }
     match value.as_ref() {
         ValueInner::String(text) => allows_text(alloc, schema, keyword, text.as_ref()),
-        ValueInner::Datetime(date) => allows_text(alloc, schema, keyword, date.text()),
+        ValueInner::Datetime(date) => {
+            let text = rfc3339(alloc, date.text())?;
+            allows_text(alloc, schema, keyword, text.as_str())
+        }
         ValueInner::Array(array) => allows_items(alloc, keyword, array.as_slice()),
         ValueInner::Table(table) => Ok(allows_table(keyword, value, table.len())),
         _ => match number_in(alloc, value)? {

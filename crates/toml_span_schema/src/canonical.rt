@@ -6,6 +6,7 @@ ghost use Rattle.toml_span_schema.specs.Canonical.{all_new, canonical, inner_for
 ghost use Rattle.toml_span_schema.specs.Canonical.{plain_form, quantity_form, text_form};
 ghost use Rattle.toml_span_schema.specs.Numbers.{plain, quantity};
 
+use crate::dates::rfc3339;
 use crate::decimal::number_in;
 use crate::error::CheckError;
 use crate::numbers::{Decimal, Number};
@@ -66,7 +67,10 @@ fn push_canonical(out: &mut String, depth: usize, value: &Value<'_>) -> Result<(
     }
     match value.as_ref() {
         ValueInner::String(text) => push_text(out, text.as_ref())?,
-        ValueInner::Datetime(date) => push_text(out, date.text())?,
+        ValueInner::Datetime(date) => {
+            let text = rfc3339(*out.allocator(), date.text())?;
+            push_text(out, text.as_str())?;
+        }
         ValueInner::Boolean(truth) => out.push(if *truth { 't' } else { 'f' })?,
         ValueInner::Array(array) => {
             out.push('[')?;

@@ -3,22 +3,25 @@
 //! set of dynamic anchors in `Compiler::scopes`.
 
 use crate::canonical::LEVELS;
-use crate::cycles::longest_chain;
+use crate::cycles::{Longest, longest_chain};
 use crate::documents::Document;
 use crate::error::SchemaError;
 use crate::formats::expanded;
 use crate::guide::Guide;
 use crate::keyword::{Node, Placed};
 use crate::notes::{Notes, read_notes};
-use crate::pointers::with_step;
+use crate::pointers::{push_step, with_step};
 use crate::schema::Schema;
 use crate::sources::{
-    Dialect, Draft, MOST_SCHEMAS, Resource, Source, Sources, decoded, joined, without_fragment,
+    Dialect, Draft, MOST_SCHEMAS, Resource, Source, Sources, decoded, joined, push_flaw, too_many,
+    without_fragment,
 };
 use json::{Scratch, Value as Json, is_valid};
 use regex::Regex;
 use std::alloc::{AllocError, Global};
 use std::collections::BTreeMap;
+use std::mem;
+use url::Url;
 
 /// The maximum length of a chain of references and combinations, such as `allOf`, that apply to the same value.
 const LONGEST: usize = 64;
@@ -65,7 +68,7 @@ pub(crate) struct Target {
 #[derive(Drop)]
 pub(crate) struct Compiler<'v, 'a> {
     pub(crate) alloc: Global,
-    sources: Sources<'v, 'a>,
+    pub(crate) sources: Sources<'v, 'a>,
     /// The task at index `i` is for the compiled schema at index `i`.
     tasks: Vec<Task<'v, 'a>>,
     known: BTreeMap<String, usize>,
@@ -87,14 +90,6 @@ fn scope_among(scopes: &[Vec<usize>], scope: &[usize]) -> Option<usize> {
         }
     }
     None
-}
-
-/// Returns the error that the reference at `place` names `address`, which does not exist.
-fn missing(alloc: Global, place: &str, address: &str) -> Result<SchemaError, AllocError> {
-    Ok(SchemaError::Missing {
-        place: String::from_str(alloc, place)?,
-        address: String::from_str(alloc, address)?,
-    })
 }
 
 /// Returns the text of a JSON array of the documents. Fails with `Json` if a text is not JSON or nests more than 128
@@ -142,6 +137,11 @@ pub(crate) fn compile(
     let mut documents = Vec::new(alloc);
     documents.push(root)?;
     documents.extend_from_slice(others)?;
+    // (the schema for what is not checked)
+    documents.push(Document {
+        address: "true:",
+        text: "true",
+    })?;
     let text = joined_texts(alloc, documents.as_slice())?;
     let mut scratch = Scratch::new(alloc);
     let values = parsed(alloc, text.as_str(), &mut scratch)?;
@@ -159,7 +159,9 @@ fn parsed<'a>(
     match Json::parse(alloc, text, scratch) {
         Ok(values) => Ok(values),
         Err(json::Error::OutOfMemory) => Err(SchemaError::OutOfMemory),
-        Err(_deeper) => Err(SchemaError::TooLarge),
+        Err(_deeper) => Err(SchemaError::TooLarge {
+            limit: "it nests more than 127 levels deep",
+        }),
     }
 }
 
@@ -190,18 +192,31 @@ fn compile_sources(alloc: Global, sources: Sources<'_, '_>) -> Result<Guide, Sch
     let _root = compiler.node_at(0, "", 0)?;
     let nodes = compiler.nodes()?;
     let longest = longest_chain(alloc, nodes.as_slice())?;
-    if longest > LONGEST {
-        return Err(SchemaError::TooLarge);
+    if longest.length > LONGEST {
+        compiler.refuse_chain(&longest)?;
+    }
+    if !compiler.sources.errors.is_empty() {
+        let flaws = mem::replace(&mut compiler.sources.errors, Vec::new(alloc));
+        return Err(SchemaError::Wrong { flaws });
     }
     let notes = compiler.notes()?;
-    let Compiler { patterns, .. } = compiler;
+    let Compiler {
+        patterns,
+        sources,
+        ..
+    } = compiler;
+    let Sources { warnings, .. } = sources;
     let schema = Schema {
         nodes,
         patterns,
-        depth: longest.saturating_add(2).saturating_mul(LEVELS),
+        depth: longest.length.saturating_add(2).saturating_mul(LEVELS),
         formats: true,
     };
-    Ok(Guide { schema, notes })
+    Ok(Guide {
+        schema,
+        notes,
+        warnings,
+    })
 }
 
 impl<'v, 'a> Compiler<'v, 'a> {
@@ -215,7 +230,7 @@ impl<'v, 'a> Compiler<'v, 'a> {
             };
             nodes.push(self.read_node(site)?)?;
         }
-        Err(SchemaError::TooLarge)
+        Err(too_many())
     }
 
     /// Returns the schema of the task at the position `at`, or `None` if `at` is out of range.
@@ -313,29 +328,77 @@ impl<'v, 'a> Compiler<'v, 'a> {
             .sources
             .resources
             .len()
-            .saturating_add(self.sources.anchors.len());
+            .saturating_add(self.sources.dynamic.len());
         self.work = self
             .work
             .saturating_add(more)
             .saturating_add(self.scopes.len());
         if self.work > MOST_WORK {
-            return Err(SchemaError::TooLarge);
+            return Err(SchemaError::TooLarge {
+                limit: "finding its addresses takes more than 20,000,000 steps",
+            });
         }
         Ok(())
     }
 
-    /// Returns the index of the compiled form of the schema at a place that is reached in the scope `outer`. If the
-    /// place does not exist, fails with `Missing`, otherwise like `node`.
+    /// Returns the index of the compiled form of the schema at a place that is reached in the scope `outer`, or `None`
+    /// if the place does not exist. Fails like `node`.
     fn node_at(
         &mut self,
         source: usize,
         pointer: &str,
         outer: usize,
-    ) -> Result<usize, SchemaError> {
-        let alloc = self.alloc;
-        match self.sources.value_at(alloc, source, pointer)? {
-            Some(value) => self.node(value, source, pointer, outer, false),
-            None => Err(missing(alloc, "", pointer)?),
+    ) -> Result<Option<usize>, SchemaError> {
+        let Some(value) = self.sources.value_at(self.alloc, source, pointer)? else {
+            return Ok(None);
+        };
+        let known = self.tasks.len();
+        let node = self.node(value, source, pointer, outer, false)?;
+        if node == known {
+            self.sources
+                .read_hidden(self.alloc, source, pointer, value)?;
+        }
+        Ok(Some(node))
+    }
+
+    /// Returns the index of the schema that allows every value, for a keyword that is not checked.
+    pub(crate) fn anything(&mut self) -> Result<usize, SchemaError> {
+        let source = self.sources.documents.len().saturating_sub(1);
+        Ok(self.node_at(source, "", 0)?.unwrap_or(0))
+    }
+
+    /// Adds the error that a chain of schemas that apply to the same value is a cycle or too long.
+    fn refuse_chain(&mut self, chain: &Longest) -> Result<(), SchemaError> {
+        let Some(site) = self.site(chain.start)? else {
+            return Ok(());
+        };
+        let message = if chain.is_cycle {
+            "this reference leads back to itself"
+        } else {
+            "more than 64 references and combinations, such as `allOf`, apply to the same value"
+        };
+        Ok(self.complain(&site, &[], message, true)?)
+    }
+
+    /// Adds the error or warning `message` about the value to which `steps` lead from the schema `site`.
+    pub(crate) fn complain(
+        &mut self,
+        site: &Site<'v, 'a>,
+        steps: &[&str],
+        message: &str,
+        is_error: bool,
+    ) -> Result<(), AllocError> {
+        let mut place = String::from_str(self.alloc, site.pointer.as_str())?;
+        for step in steps {
+            push_step(&mut place, *step)?;
+        }
+        let flaw = self
+            .sources
+            .flaw(self.alloc, site.source, place.as_str(), message)?;
+        if is_error {
+            push_flaw(&mut self.sources.errors, flaw)
+        } else {
+            push_flaw(&mut self.sources.warnings, flaw)
         }
     }
 
@@ -368,10 +431,13 @@ impl<'v, 'a> Compiler<'v, 'a> {
             all.extend_from_slice(bound.as_slice())?;
         }
         if let Some(resource) = self.resource(source, pointer) {
-            for (i, anchor) in self.sources.anchors.as_slice().iter().enumerate() {
+            for at in self.sources.dynamic.as_slice() {
+                let Some(anchor) = self.sources.anchors.get(*at) else {
+                    continue;
+                };
                 let is_new = self.bound(all.as_slice(), anchor.name.as_str()).is_none();
-                if is_new && anchor.dynamic && anchor.is_in(resource) {
-                    all.push(i)?;
+                if is_new && anchor.is_in(resource) {
+                    all.push(*at)?;
                 }
             }
         }
@@ -444,21 +510,56 @@ impl<'v, 'a> Compiler<'v, 'a> {
         )
     }
 
-    /// Returns the place that a reference in the schema `site` names. Fails with `Reference` if the reference can't be
-    /// resolved to a URL. Fails with `Missing` if the named document or anchor does not exist.
-    fn target(&self, site: &Site<'v, 'a>, reference: &str) -> Result<Target, SchemaError> {
-        let alloc = self.alloc;
-        let place = site.pointer.as_str();
-        let base = match self.resource(site.source, place) {
+    /// Resolves a reference in the schema `site`, as `joined` does.
+    fn resolved(&self, site: &Site<'v, 'a>, reference: &str) -> Result<Option<Url>, AllocError> {
+        let base = match self.resource(site.source, site.pointer.as_str()) {
             Some(resource) => resource.address.as_str(),
             None => "",
         };
-        let url = joined(alloc, base, reference, place)?;
+        joined(self.alloc, base, reference)
+    }
+
+    /// Returns the place that a reference in the schema `site` names. Returns `None` and adds an error if the reference
+    /// is not a URL, or if the named document or anchor does not exist.
+    fn target(
+        &mut self,
+        site: &Site<'v, 'a>,
+        keyword: &str,
+        reference: &str,
+    ) -> Result<Option<Target>, SchemaError> {
+        let alloc = self.alloc;
+        let Some(url) = self.resolved(site, reference)? else {
+            self.complain(site, &[keyword], "this is not a URL", true)?;
+            return Ok(None);
+        };
         let fragment = decoded(alloc, url.fragment().unwrap_or(""))?;
-        match self.target_in(without_fragment(url.as_str()), fragment.as_str())? {
-            Some(target) => Ok(target),
-            None => Err(missing(alloc, place, url.as_str())?),
+        let address = without_fragment(url.as_str());
+        if let Some(target) = self.target_in(address, fragment.as_str())? {
+            return Ok(Some(target));
         }
+        self.refuse_missing(site, keyword, reference, url.as_str())?;
+        Ok(None)
+    }
+
+    /// Adds the error that `reference`, the value of `keyword` in the schema `site`, names `address`, which does not
+    /// exist.
+    fn refuse_missing(
+        &mut self,
+        site: &Site<'v, 'a>,
+        keyword: &str,
+        reference: &str,
+        address: &str,
+    ) -> Result<(), AllocError> {
+        let alloc = self.alloc;
+        let place = with_step(alloc, site.pointer.as_str(), keyword)?;
+        let message = format!(in alloc; "there is no `{reference}`")?;
+        let mut flaw = self
+            .sources
+            .flaw(alloc, site.source, place.as_str(), message.as_str())?;
+        if self.sources.find(without_fragment(address)).is_none() {
+            flaw.missing.push_str(address)?;
+        }
+        push_flaw(&mut self.sources.errors, flaw)
     }
 
     /// Returns the place that `fragment`, a JSON pointer or the name of an anchor, names in the resource at `address`.
@@ -468,8 +569,13 @@ impl<'v, 'a> Compiler<'v, 'a> {
         let Some(resource) = self.sources.find(address) else {
             return Ok(None);
         };
-        let anchor = self.sources.anchor(resource, fragment);
-        if !fragment.is_empty() && !fragment.starts_with("/") {
+        let is_pointer = fragment.starts_with("/");
+        let anchor = if is_pointer {
+            None
+        } else {
+            self.sources.anchor(resource, fragment)
+        };
+        if !fragment.is_empty() && !is_pointer {
             return self.anchored(anchor);
         }
         let mut pointer = String::from_str(alloc, resource.pointer.as_str())?;
@@ -493,51 +599,39 @@ impl<'v, 'a> Compiler<'v, 'a> {
         }))
     }
 
-    /// Returns the index of the compiled form of the schema that the `$ref` `text` in the schema `site` names. Fails
-    /// like `target` and `node_of`.
+    /// Returns the index of the compiled form of the schema that `text`, the value of `keyword` in the schema `site`,
+    /// names. If `keyword` is not `$ref`, and `text` names a dynamic anchor, and the scope of `site` has an anchor with
+    /// the same name, the result is the schema of the anchor in the scope. Returns `None` and adds an error if the
+    /// named schema does not exist. Fails like `node`.
     pub(crate) fn reference(
         &mut self,
         site: &Site<'v, 'a>,
+        keyword: &str,
         text: &str,
-    ) -> Result<usize, SchemaError> {
-        let target = self.target(site, text)?;
-        self.node_of(site, &target)
-    }
-
-    /// Returns the index of the compiled form of the schema at `target`, which a reference in the schema `site` names.
-    /// If `target` does not exist, fails with `Missing` and the place of `site`, otherwise like `node`.
-    fn node_of(&mut self, site: &Site<'v, 'a>, target: &Target) -> Result<usize, SchemaError> {
-        match self.node_at(target.source, target.pointer.as_str(), site.scope) {
-            Err(SchemaError::Missing { address, .. }) => Err(SchemaError::Missing {
-                place: String::from_str(self.alloc, site.pointer.as_str())?,
-                address,
-            }),
-            other => other,
+    ) -> Result<Option<usize>, SchemaError> {
+        let Some(mut target) = self.target(site, keyword, text)? else {
+            return Ok(None);
+        };
+        if keyword != "$ref" {
+            if let Some(bound) = self.anchored(self.first_bound(site, &target))? {
+                target = bound;
+            }
         }
-    }
-
-    /// Resolves `text`, the value of a `$dynamicRef` or `$recursiveRef` in the schema `site`, and returns the index of
-    /// the compiled schema. If `text` names a dynamic anchor, and the scope of `site` has an anchor with the same name,
-    /// the result is the schema of the anchor in the scope. Otherwise, the result is the schema that `text` names.
-    /// Fails like `reference`.
-    pub(crate) fn dynamic_reference(
-        &mut self,
-        site: &Site<'v, 'a>,
-        text: &str,
-    ) -> Result<usize, SchemaError> {
-        let target = self.target(site, text)?;
-        let first = self.first_bound(site, &target);
-        match self.anchored(first)? {
-            Some(bound) => self.node_of(site, &bound),
-            None => self.node_of(site, &target),
+        let node = self.node_at(target.source, target.pointer.as_str(), site.scope)?;
+        if node.is_none() {
+            let (alloc, pointer) = (self.alloc, target.pointer.as_str());
+            let message = format!(in alloc; "there is no `{pointer}`")?;
+            self.complain(site, &[keyword], message.as_str(), true)?;
         }
+        Ok(node)
     }
 
     /// Returns the position of the anchor in the scope of `site` that has the same name as the dynamic anchor of
     /// `target`. Returns `None` if `target` has no dynamic anchor, or if the scope has no anchor with this name.
     fn first_bound(&self, site: &Site<'v, 'a>, target: &Target) -> Option<usize> {
-        let anchor = self.sources.anchors.get(target.anchor?)?;
-        if !anchor.dynamic {
+        let at = target.anchor?;
+        let anchor = self.sources.anchors.get(at)?;
+        if !self.sources.dynamic.contains(&at) {
             return None;
         }
         let scope = self.scopes.get(site.scope)?;

@@ -1,6 +1,5 @@
 //! Finds cycles, and the longest chain, of references and combinations that apply to the same value.
 
-use crate::error::SchemaError;
 use crate::keyword::{Keyword, Node};
 use std::alloc::{AllocError, Global};
 
@@ -113,9 +112,18 @@ fn settle(
     Ok(length)
 }
 
-/// Returns the length of the longest chain of the schemas `nodes`: the number of schemas in the chain minus 1. Fails
-/// with `Cycle` if a chain has the same schema twice.
-pub(crate) fn longest_chain(alloc: Global, nodes: &[Node]) -> Result<usize, SchemaError> {
+/// The longest chain of compiled schemas.
+#[derive(Clone, Copy)]
+pub(crate) struct Longest {
+    /// The number of schemas in the chain minus 1, or the highest number if the chain is a cycle.
+    pub(crate) length: usize,
+    /// The index of the schema at which the chain begins.
+    pub(crate) start: usize,
+    pub(crate) is_cycle: bool,
+}
+
+/// Returns the longest chain of the schemas `nodes`, or a cycle if there is one.
+pub(crate) fn longest_chain(alloc: Global, nodes: &[Node]) -> Result<Longest, AllocError> {
     let mut chains = chains_of(alloc, nodes)?;
     let mut known = Vec::new(alloc);
     for (i, chain) in chains.as_slice().iter().enumerate() {
@@ -123,24 +131,36 @@ pub(crate) fn longest_chain(alloc: Global, nodes: &[Node]) -> Result<usize, Sche
             known.push(i)?;
         }
     }
-    let mut longest = 0usize;
+    let mut longest = Longest {
+        length: 0,
+        start: 0,
+        is_cycle: false,
+    };
     for at in 0..nodes.len() {
-        let Some(node) = known.get(at).copied() else {
-            return Err(cycle(alloc, nodes, chains.as_slice())?);
+        let Some(start) = known.get(at).copied() else {
+            return Ok(cycle(chains.as_slice()));
         };
-        longest = longest.max(settle(alloc, &mut chains, &mut known, node)?);
+        let length = settle(alloc, &mut chains, &mut known, start)?;
+        // (the first schema may only refer to the document of the others)
+        if length > longest.length {
+            longest.length = length;
+            longest.start = if start > 0 { start } else { longest.start };
+        }
     }
     Ok(longest)
 }
 
-/// Returns the error that a chain has the same schema twice. The error names the last of the schemas whose longest
-/// chains are not known.
-fn cycle(alloc: Global, nodes: &[Node], chains: &[Chain]) -> Result<SchemaError, AllocError> {
-    let mut place = String::new(alloc);
-    for (node, chain) in nodes.iter().zip(chains.iter()) {
+/// Returns a cycle from the last of the schemas whose longest chains are not known.
+fn cycle(chains: &[Chain]) -> Longest {
+    let mut start = 0;
+    for (at, chain) in chains.iter().enumerate() {
         if chain.open > 0 {
-            place = String::from_str(alloc, node.place.as_str())?;
+            start = at;
         }
     }
-    Ok(SchemaError::Cycle { place })
+    Longest {
+        length: usize::MAX,
+        start,
+        is_cycle: true,
+    }
 }

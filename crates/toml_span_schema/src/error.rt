@@ -1,45 +1,36 @@
 //! Why a schema can't be compiled, and why a value can't be checked.
 
 use std::alloc::{AllocError, AllocFailed, Global};
+use std::fmt::Write;
 use url::ParseError;
 
-/// Why a schema can't be compiled. Each `place` is a JSON pointer.
+/// What is wrong with a schema, or why a part of it is not checked.
+#[derive(Debug, Drop)]
+pub struct Flaw {
+    /// The address of the document.
+    pub document: String,
+    /// The address against which references at the place are resolved.
+    pub base: String,
+    /// A JSON pointer to the place in the document.
+    pub place: String,
+    pub message: String,
+    /// How to correct the flaw, or an empty text.
+    pub help: String,
+    /// The URL that a reference or `$schema` names, if its document was not given. Otherwise an empty text.
+    pub missing: String,
+}
+
+/// Why a schema can't be compiled.
 #[derive(Debug, Drop)]
 pub enum SchemaError {
     /// An allocation failed.
     OutOfMemory,
     /// The document with this address is not JSON, or nests more than 128 levels deep.
-    Json {
-        address: String,
-    },
-    /// The keyword at `place` has a wrong value, or the schema at `place` is neither an object nor a boolean.
-    /// `expected` says which values are right.
-    Keyword {
-        place: String,
-        expected: &'static str,
-    },
-    /// A regular expression of the keyword at `place` is malformed or too large, or uses syntax that is not supported,
-    /// such as lookahead.
-    Pattern {
-        place: String,
-    },
-    /// The reference or `$id` in the schema at `place` is not a URL.
-    Reference {
-        place: String,
-    },
-    /// A reference in the schema at `place` names a document that was not given, or a place or an anchor that the named
-    /// document does not have. For a `$schema` that names no known draft or document, `place` is always `/$schema`.
-    Missing {
-        place: String,
-        address: String,
-    },
-    /// References and combinations that apply to the same value lead from the schema at `place` into a cycle.
-    Cycle {
-        place: String,
-    },
-    /// The schema nests too deep, contains too many schemas, or takes too many steps to compile. Or a chain of
-    /// references and combinations, such as `allOf`, that apply to the same value is too long.
-    TooLarge,
+    Json { address: String },
+    /// At least one keyword has a wrong value, or names something that does not exist. At most 100 flaws are listed.
+    Wrong { flaws: Vec<Flaw> },
+    /// The schema exceeds this limit: it nests too deep, has too many schemas, or takes too many steps to compile.
+    TooLarge { limit: &'static str },
 }
 
 /// Returns a JSON pointer as messages show it: unchanged, except that the empty pointer becomes `the root`.
@@ -48,32 +39,21 @@ fn shown(place: &str) -> &str {
 }
 
 impl SchemaError {
-    /// Returns the message. Fails if an allocation fails.
+    /// Returns the message, with a line for each flaw. Fails if an allocation fails.
     pub fn message(&self, alloc: Global) -> Result<String, AllocError> {
         match self {
             SchemaError::OutOfMemory => String::from_str(alloc, "out of memory"),
             SchemaError::Json { address } => format!(in alloc; "{address} is not JSON"),
-            SchemaError::Keyword { place, expected } => {
-                let place = shown(place.as_str());
-                format!(in alloc; "{place}: expected {expected}")
+            SchemaError::Wrong { flaws } => {
+                let mut out = String::new(alloc);
+                for flaw in flaws.as_slice() {
+                    let line = if out.is_empty() { "" } else { "\n" };
+                    let (place, message) = (shown(flaw.place.as_str()), flaw.message.as_str());
+                    write!(&mut out, "{line}{place}: {message}")?;
+                }
+                Ok(out)
             }
-            SchemaError::Pattern { place } => {
-                let place = shown(place.as_str());
-                format!(in alloc; "{place}: this regular expression is not supported")
-            }
-            SchemaError::Reference { place } => {
-                let place = shown(place.as_str());
-                format!(in alloc; "{place}: this is not a URL")
-            }
-            SchemaError::Missing { place, address } => {
-                let place = shown(place.as_str());
-                format!(in alloc; "{place}: there is no `{address}`")
-            }
-            SchemaError::Cycle { place } => {
-                let place = shown(place.as_str());
-                format!(in alloc; "{place}: this reference leads back to itself")
-            }
-            SchemaError::TooLarge => String::from_str(alloc, "the schema is too large"),
+            SchemaError::TooLarge { limit } => String::from_str(alloc, *limit),
         }
     }
 }
@@ -100,7 +80,9 @@ impl From<CheckError> for SchemaError {
     fn from(refused: CheckError) -> SchemaError {
         match refused {
             CheckError::OutOfMemory => SchemaError::OutOfMemory,
-            _ => SchemaError::TooLarge,
+            _ => SchemaError::TooLarge {
+                limit: "a constant in it nests too deep",
+            },
         }
     }
 }

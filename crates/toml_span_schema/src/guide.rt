@@ -2,7 +2,7 @@
 
 use crate::compile::compile;
 use crate::documents::Document;
-use crate::error::SchemaError;
+use crate::error::{Flaw, SchemaError};
 use crate::notes::Notes;
 use crate::schema::Schema;
 use std::alloc::Global;
@@ -14,6 +14,9 @@ pub struct Guide {
     pub schema: Schema,
     /// The notes of each compiled schema, in the order of `Schema::nodes`.
     pub(crate) notes: Vec<Notes>,
+    /// What is not checked: regular expressions and references that are not supported, and words that are near to known
+    /// keywords and formats. At most 100.
+    pub warnings: Vec<Flaw>,
 }
 
 impl Guide {

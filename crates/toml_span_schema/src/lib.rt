@@ -2,7 +2,8 @@
 //!
 //! - `Schema::from_json(alloc, text, others)` compiles a schema of draft 4, 6, 7, 2019-09 or 2020-12. `others` is a
 //!   slice of `Document`s (`address`, `text`) that references in the schema may name. Fails with a `SchemaError`, whose
-//!   `message(alloc)` says why. For a missing document, the message has the document's address.
+//!   `message(alloc)` says why. `SchemaError::Wrong` lists each `Flaw`, such as a wrong value of a keyword or a missing
+//!   document.
 //! - `schema.set_formats(false)` turns the keyword `format` off.
 //! - `schema.check(alloc, &value)` returns a `Vec<Report>` with a report for each violation, in the order of the text.
 //!   The vector is empty if the value is valid. Fails with a `CheckError` (`message()`).
@@ -25,12 +26,14 @@ mod asserted;
 mod canonical;
 mod compile;
 mod cycles;
+mod dates;
 mod decimal;
 mod documents;
 mod error;
 mod formats;
 mod guide;
 mod keyword;
+mod keywords;
 mod listed;
 mod messages;
 mod notes;
@@ -46,7 +49,7 @@ mod valid;
 mod walk;
 
 pub use documents::Document;
-pub use error::{CheckError, SchemaError};
+pub use error::{CheckError, Flaw, SchemaError};
 pub use guide::Guide;
 pub use notes::Notes;
 pub use schema::Schema;

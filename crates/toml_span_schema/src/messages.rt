@@ -6,6 +6,7 @@ use crate::keyword::{Keyword, Placed, Types};
 use crate::listed::Part;
 use crate::schema::Schema;
 use crate::walk::{Cause, Violation};
+use json::{Scratch, is_valid};
 use std::alloc::{AllocError, Global};
 use std::borrow::CowStr;
 use std::fmt::Write;
@@ -306,6 +307,7 @@ impl Schema {
         if let Some(message) = size_message(alloc, placed, value)? {
             return Ok(message);
         }
+        let is_local_time = value.type_str() == "datetime" && limit == "`time`";
         let text = match (&placed.keyword, cause) {
             (Keyword::Contains(_, least, most, _), Cause::Count(found)) => {
                 let is_less = (found as u64) < *least;
@@ -334,6 +336,9 @@ impl Schema {
             (Keyword::ExclusiveMaximum(_), _) => "the number must be less than ",
             (Keyword::MultipleOf(_, _), _) => "the number must be a multiple of ",
             (Keyword::Pattern(_), _) => "the string must match the regular expression ",
+            (Keyword::Format(_, _, true), _) if is_local_time => {
+                "the format `time` needs an offset, which no local time of TOML has"
+            }
             (Keyword::Format(_, _, _) | Keyword::RegexFormat, _) => {
                 "the string must have the format "
             }
@@ -382,7 +387,7 @@ impl Schema {
         let value = violation.part.value();
         if let Some(text) = value.as_str() {
             let is_meant = !types.string
-                && (is_number(text, &types)
+                && (is_number(alloc, text, &types)?
                     || types.boolean && (text == "true" || text == "false"));
             let quoted = format!(in alloc; "`{text}`")?;
             if is_meant || constants.iter().any(|one| *one == quoted.as_str()) {
@@ -400,7 +405,12 @@ impl Schema {
 }
 
 /// Returns whether a text spells a number of these types.
-fn is_number(text: &str, types: &Types) -> bool {
-    let is_integer = fast_float::parse_i64(text.as_bytes()).is_ok();
-    is_integer && (types.integer || types.number)
+fn is_number(alloc: Global, text: &str, types: &Types) -> Result<bool, AllocError> {
+    if fast_float::parse_i64(text.as_bytes()).is_ok() {
+        return Ok(types.integer || types.number);
+    }
+    let mut scratch = Scratch::new(alloc);
+    let is_plain = text.chars().all(|c| c.is_ascii_digit()
+        || matches!(c, '.' | 'e' | 'E' | '+' | '-'));
+    Ok(types.number && is_plain && is_valid(text, &mut scratch)?)
 }

@@ -1,5 +1,5 @@
 //! Translates regular expressions of ECMA-262, which JSON Schema uses, to the syntax of the crate `regex`.
-ghost use Rattle.std.specs.Prelude.{◌≡◌, ◌++◌, ◌==◌, ◌&&◌, ◌||◌, ◌∷◌, [], not, if◌then◌else◌, IfOk, OnOk};
+ghost use Rattle.std.specs.Prelude.{◌≡◌, ◌++◌, ◌==◌, ◌||◌, ◌∷◌, [], if◌then◌else◌, IfOk, OnOk};
 ghost use Rattle.std.specs.Prelude.{string_bytes};
 ghost use Rattle.std.specs.Char.{encode_utf8};
 ghost use Rattle.std.specs.Option.{is_some};
@@ -7,16 +7,16 @@ ghost use Rattle.std.specs.Str.{chars};
 ghost use Rattle.regex.specs.Patterns.{default_config};
 ghost use Rattle.regex.specs.Strings.{regex_source};
 ghost use Rattle.regex_syntax.specs.Grammar.{read};
-ghost use Rattle.toml_span_schema.specs.Patterns.{character, escape, in_class_after, is_pattern, plain_character};
-ghost use Rattle.toml_span_schema.specs.Patterns.{translated};
+ghost use Rattle.toml_span_schema.specs.Patterns.{character, control, escape, in_class_after, is_pattern};
+ghost use Rattle.toml_span_schema.specs.Patterns.{next_state, plain_character, translated};
 
-use crate::error::{CheckError, SchemaError};
+use crate::error::CheckError;
 use regex::{Error, Regex};
 use regex_syntax::ErrorKind;
 use std::alloc::{AllocError, Global};
 
 /// Appends the translation of the escape that consists of a backslash and the character `c`. In ECMA-262, `\d` and `\w`
-/// match only ASCII.
+/// match only ASCII. Appends nothing for `\c`.
 fn push_escape(out: &mut String, c: char) -> Result<(), AllocError>
     ensures { OnOk result (string_bytes out.new ≡ string_bytes out.old ++ escape c) }
 {
@@ -28,8 +28,20 @@ fn push_escape(out: &mut String, c: char) -> Result<(), AllocError>
         's' => out.push_str("[\\s\\x{FEFF}]"),
         'S' => out.push_str("[^\\s\\x{FEFF}]"),
         // Escapes of `regex`, but not of ECMA-262. `regex` rejects the `(?!)`, and so the whole expression.
-        'A' | 'z' | 'Z' | 'a' => out.push_str("(?!)"),
+        'A' | 'z' | 'Z' | 'a' | '<' | '>' => out.push_str("(?!)"),
+        'c' => Ok(()),
         _ => push_escaped(out, c),
+    }
+}
+
+/// Appends the translation of the character after `\c`: the control character of a letter. `regex` rejects the rest.
+fn push_control(out: &mut String, c: char) -> Result<(), AllocError>
+    ensures { OnOk result (string_bytes out.new ≡ string_bytes out.old ++ control c) }
+{
+    if c.is_ascii_alphabetic() {
+        out.push(char::from((u32::from(c) % 32) as u8))
+    } else {
+        out.push_str("(?!)")
     }
 }
 
@@ -49,7 +61,7 @@ fn is_special(c: char) -> bool
 }
 
 /// Appends the translation of a character that is not escaped. Appends nothing for a backslash, which escapes the next
-/// character. `in_class` says whether the character is inside brackets.
+/// character. `in_class` says whether the character is inside brackets. In ECMA-262, `.` matches no end of a line.
 fn push_plain(out: &mut String, in_class: bool, c: char) -> Result<(), AllocError>
     ensures { OnOk result (string_bytes out.new ≡ string_bytes out.old ++ plain_character in_class c) }
 {
@@ -57,34 +69,33 @@ fn push_plain(out: &mut String, in_class: bool, c: char) -> Result<(), AllocErro
         Ok(())
     } else if in_class && is_special(c) {
         push_escaped(out, c)
+    } else if !in_class && c == '.' {
+        out.push_str("[^\\n\\r\\x{2028}\\x{2029}]")
     } else {
         out.push(c)
     }
 }
 
-/// Appends the translation of a character. `escaped` says whether the character is escaped, and `in_class` whether the
-/// character is inside brackets.
-fn push_character(
-    out: &mut String,
-    escaped: bool,
-    in_class: bool,
-    c: char,
-) -> Result<(), AllocError>
-    ensures { OnOk result (string_bytes out.new ≡ string_bytes out.old ++ character escaped in_class c) }
+/// Appends the translation of a character. `state` is 0, 1 after a backslash, and 2 after `\c`. `in_class` says whether
+/// the character is inside brackets.
+fn push_character(out: &mut String, state: u8, in_class: bool, c: char) -> Result<(), AllocError>
+    ensures { OnOk result (string_bytes out.new ≡ string_bytes out.old ++ character state in_class c) }
 {
-    if escaped {
+    if state == 0 {
+        push_plain(out, in_class, c)
+    } else if state == 1 {
         push_escape(out, c)
     } else {
-        push_plain(out, in_class, c)
+        push_control(out, c)
     }
 }
 
-/// Returns whether the text after the character `c` is inside brackets. `escaped` says whether `c` is escaped, and
-/// `in_class` whether `c` is inside brackets.
-fn in_class_after(escaped: bool, in_class: bool, c: char) -> bool
-    ensures { result ≡ in_class_after escaped in_class c }
+/// Returns whether the text after the character `c` is inside brackets. `state` and `in_class` are as for
+/// `push_character`.
+fn in_class_after(state: u8, in_class: bool, c: char) -> bool
+    ensures { result ≡ in_class_after state in_class c }
 {
-    if escaped {
+    if state != 0 {
         in_class
     } else if c == '[' {
         true
@@ -95,19 +106,25 @@ fn in_class_after(escaped: bool, in_class: bool, c: char) -> bool
     }
 }
 
-/// Returns whether a character is a backslash that escapes the next character. `escaped` says whether the character
-/// itself is escaped.
-fn escapes_next(escaped: bool, c: char) -> bool
-    ensures { result ≡ (not escaped && c == 92) }
+/// Returns the state after a character, from the `state` before it.
+fn next_state(state: u8, c: char) -> u8
+    ensures { result ≡ next_state state c }
 {
-    !escaped && c == '\\'
+    if state == 0 {
+        if c == '\\' { 1 } else { 0 }
+    } else if state == 1 && c == 'c' {
+        2
+    } else {
+        0
+    }
 }
 
-/// Appends a backslash if `escaped` is set, because the regular expression then ends with a backslash.
-fn push_end(out: &mut String, escaped: bool) -> Result<(), AllocError>
-    ensures { OnOk result (string_bytes out.new ≡ string_bytes out.old ++ (if escaped then 92 ∷ [] else [])) }
+/// Appends a backslash unless `state` is 0. `regex` then rejects the regular expression, whose last escape is not
+/// complete.
+fn push_end(out: &mut String, state: u8) -> Result<(), AllocError>
+    ensures { OnOk result (string_bytes out.new ≡ string_bytes out.old ++ (if state == 0 then [] else 92 ∷ [])) }
 {
-    if escaped { out.push('\\') } else { Ok(()) }
+    if state == 0 { Ok(()) } else { out.push('\\') }
 }
 
 /// Translates a regular expression of ECMA-262 to the syntax of the crate `regex`. The result need not be valid.
@@ -115,34 +132,52 @@ fn translated(alloc: Global, pattern: &str) -> Result<String, AllocError>
     ensures { IfOk result (λ t. string_bytes t ≡ translated pattern.now) }
 {
     let mut out = String::new(alloc);
-    let mut escaped = false;
+    let mut state = 0;
     let mut in_class = false;
     for c in pattern.chars() {
-        push_character(&mut out, escaped, in_class, c)?;
-        in_class = in_class_after(escaped, in_class, c);
-        escaped = escapes_next(escaped, c);
+        push_character(&mut out, state, in_class, c)?;
+        in_class = in_class_after(state, in_class, c);
+        state = next_state(state, c);
     }
-    push_end(&mut out, escaped)?;
+    push_end(&mut out, state)?;
     Ok(out)
 }
 
-/// Compiles a regular expression of ECMA-262. `place` is a JSON pointer to its keyword in the schema. Fails with
-/// `Pattern` if the expression is malformed, too large or not supported.
-pub(crate) fn compile_pattern(
-    alloc: Global,
-    pattern: &str,
-    place: &str,
-) -> Result<Regex, SchemaError>
+/// Compiles a regular expression of ECMA-262. Fails if the expression is malformed, too large or not supported.
+pub(crate) fn compile_pattern(alloc: Global, pattern: &str) -> Result<Regex, Error>
     ensures { IfOk result (λ regex. regex_source regex ≡ translated pattern.now) }
 {
     let text = translated(alloc, pattern)?;
-    match Regex::new(alloc, text.as_str()) {
-        Ok(regex) => Ok(regex),
-        Err(Error::OutOfMemory) => Err(SchemaError::OutOfMemory),
-        Err(_) => Err(SchemaError::Pattern {
-            place: String::from_str(alloc, place)?,
-        }),
+    Regex::new(alloc, text.as_str())
+}
+
+/// Returns what a regular expression of ECMA-262 has that is not supported, and the number of the character where it
+/// begins, counted from 1. Returns `None` if it has nothing of that kind.
+pub(crate) fn unsupported(pattern: &str) -> Option<(&'static str, usize)> {
+    let mut rest = pattern.as_bytes();
+    let mut is_escaped = false;
+    let mut character: usize = 0;
+    for _ in 0..pattern.len() {
+        let (byte, more) = rest.split_first()?;
+        if *byte & 0xC0 != 0x80 {
+            character = character.saturating_add(1);
+        }
+        if is_escaped && matches!(*byte, b'1'..=b'9' | b'k') {
+            return Some(("a backreference", character.saturating_sub(1)));
+        }
+        let is_group = !is_escaped && *byte == b'(';
+        if is_group && (more.starts_with(b"?=".as_slice()) || more.starts_with(b"?!".as_slice())) {
+            return Some(("lookahead", character));
+        }
+        if is_group
+            && (more.starts_with(b"?<=".as_slice()) || more.starts_with(b"?<!".as_slice()))
+        {
+            return Some(("lookbehind", character));
+        }
+        is_escaped = !is_escaped && *byte == b'\\';
+        rest = more;
     }
+    None
 }
 
 /// Returns whether `text` is a regular expression of the crate `regex`. Fails with `TooLong` if the expression is too

@@ -23,11 +23,6 @@ pub(crate) fn with_step(alloc: Global, pointer: &str, name: &str) -> Result<Stri
     Ok(made)
 }
 
-/// Returns `pointer` followed by a slash and the position `at`.
-pub(crate) fn with_position(alloc: Global, pointer: &str, at: usize) -> Result<String, AllocError> {
-    format!(in alloc; "{pointer}/{at}")
-}
-
 /// Returns a step of a pointer with the escapes `~0` and `~1` decoded, or `None` if the step has another escape.
 fn unescaped(alloc: Global, step: &str) -> Result<Option<String>, AllocError> {
     let mut name = String::new(alloc);

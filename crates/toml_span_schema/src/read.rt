@@ -5,12 +5,13 @@ use crate::compile::{Compiler, Site};
 use crate::error::SchemaError;
 use crate::formats::format_of;
 use crate::keyword::{Keyword, Node, Placed, Types};
+use crate::keywords::Want;
 use crate::numbers::Decimal;
-use crate::patterns::compile_pattern;
-use crate::pointers::with_step;
+use crate::patterns::{compile_pattern, unsupported};
 use crate::sources::{Draft, is_true, text_of};
 use fast_float::Numeral;
 use json::Value as Json;
+use regex::Error;
 use std::alloc::{AllocError, Global};
 use std::borrow::CowStr;
 use std::collections::{BTreeMap, BTreeSet};
@@ -67,22 +68,6 @@ fn shown(alloc: Global, value: &Json<'_>, quotes: bool) -> Result<String, AllocE
     Ok(out)
 }
 
-/// Returns the error that the keyword `name` of the schema `site` has a wrong value or, if `name` is empty, that `site`
-/// itself is wrong. `expected` says which values are right.
-fn refused(
-    alloc: Global,
-    site: &Site<'_, '_>,
-    name: &str,
-    expected: &'static str,
-) -> Result<SchemaError, AllocError> {
-    let place = if name.is_empty() {
-        String::from_str(alloc, site.pointer.as_str())?
-    } else {
-        with_step(alloc, site.pointer.as_str(), name)?
-    };
-    Ok(SchemaError::Keyword { place, expected })
-}
-
 /// Returns the keyword that requires a value to be valid against the subschema at index `schema`.
 fn all_of(alloc: Global, schema: usize) -> Result<Keyword, AllocError> {
     let mut list = Vec::new(alloc);
@@ -90,10 +75,9 @@ fn all_of(alloc: Global, schema: usize) -> Result<Keyword, AllocError> {
     Ok(Keyword::AllOf(list))
 }
 
-/// Adds the type called `name` to `types`. Adds nothing for `null`. Returns false for an unknown name.
-fn add_type(types: &mut Types, name: &str, draft: Draft) -> bool {
+/// Adds the type called `name` to `types`. Adds nothing for `null` and unknown names.
+fn add_type(types: &mut Types, name: &str, draft: Draft) {
     match name {
-        "null" => {}
         "boolean" => types.boolean = true,
         "object" => types.object = true,
         "array" => types.array = true,
@@ -103,31 +87,22 @@ fn add_type(types: &mut Types, name: &str, draft: Draft) -> bool {
             types.integer = true;
             types.whole = draft > Draft::Four;
         }
-        _ => return false,
+        _ => {}
     }
-    true
 }
 
-/// Returns the types that `value`, the value of `type`, names. Returns `None` if `value` is neither the name of a type
-/// nor an array of names of types.
-fn types_in(value: &Json<'_>, draft: Draft) -> Option<Types> {
+/// Returns the types that `value`, the value of `type`, names. Leaves out what is not the name of a type.
+fn types_in(value: &Json<'_>, draft: Draft) -> Types {
     let mut types = Types::NONE;
     match value {
-        Json::String(name) => {
-            if !add_type(&mut types, *name, draft) {
-                return None;
-            }
-        }
         Json::Array(names) => {
             for name in names.as_slice() {
-                if !add_type(&mut types, name.as_str()?, draft) {
-                    return None;
-                }
+                add_type(&mut types, name.as_str().unwrap_or(""), draft);
             }
         }
-        _ => return None,
+        _ => add_type(&mut types, value.as_str().unwrap_or(""), draft),
     }
-    Some(types)
+    types
 }
 
 /// Returns the keyword for the values of `enum`, or for the value of `const`. Constants that are or contain `null` are
@@ -252,19 +227,15 @@ fn size_limit(name: &str, limit: u64) -> Keyword {
     }
 }
 
-/// Returns the strings in an array, or `None` if the value is not an array of strings.
-fn texts(alloc: Global, value: &Json<'_>) -> Result<Option<Vec<String>>, AllocError> {
-    let Json::Array(items) = value else {
-        return Ok(None);
-    };
+/// Returns the strings in an array. Returns an empty list for other values.
+fn texts(alloc: Global, value: &Json<'_>) -> Result<Vec<String>, AllocError> {
     let mut list = Vec::new(alloc);
-    for item in items.as_slice() {
-        match item.as_str() {
-            Some(text) => list.push(String::from_str(alloc, text)?)?,
-            None => return Ok(None),
+    if let Json::Array(items) = value {
+        for item in items.as_slice() {
+            list.push(String::from_str(alloc, item.as_str().unwrap_or(""))?)?;
         }
     }
-    Ok(Some(list))
+    Ok(list)
 }
 
 /// Returns a map from names to the indices of their schemas. If a name occurs twice, its last schema counts.
@@ -281,15 +252,19 @@ fn by_name(
 }
 
 impl<'v, 'a> Compiler<'v, 'a> {
-    /// Compiles the schema `site`. Fails with `Keyword` if the schema is neither an object nor a boolean, otherwise
-    /// like `read_object`.
+    /// Compiles the schema `site`, and adds an error if the schema is neither an object nor a boolean. Fails like
+    /// `read_object`.
     pub(crate) fn read_node(&mut self, mut site: Site<'v, 'a>) -> Result<Node, SchemaError> {
         let alloc = self.alloc;
         match site.value {
             Json::Bool(true) => {}
             Json::Bool(false) => site.put("false", Keyword::Never)?,
             Json::Object(_) => self.read_object(&mut site)?,
-            _ => return Err(refused(alloc, &site, "", "an object or a boolean")?),
+            other => {
+                let place = site.pointer.as_str();
+                self.sources
+                    .refuse_value(alloc, site.source, place, Want::Schema, other)?;
+            }
         }
         let title = match text_of(site.value, "title") {
             Some(title) => Some(title),
@@ -307,19 +282,14 @@ impl<'v, 'a> Compiler<'v, 'a> {
         })
     }
 
-    /// Reads the keywords of the schema object `site`. Up to draft 7, `$ref` hides the other keywords. Fails with
-    /// `Keyword` if a keyword has a wrong value, and with `Pattern` if a regular expression can't be compiled. Fails
-    /// with `Reference` or `Missing` if a reference can't be resolved, and with `TooLarge` if compiling takes too many
-    /// steps.
+    /// Reads the keywords of the schema object `site`, and ignores wrong values. Up to draft 7, `$ref` hides the other
+    /// keywords. Adds an error if a regular expression is malformed or a reference can't be resolved. Fails with
+    /// `TooLarge` if compiling takes too many steps.
     fn read_object(&mut self, site: &mut Site<'v, 'a>) -> Result<(), SchemaError> {
         let draft = site.dialect.draft;
-        let reference = text_of(site.value, "$ref");
-        if let Some(text) = reference {
-            let target = self.reference(site, text)?;
-            site.put("$ref", all_of(self.alloc, target)?)?;
-            if draft <= Draft::Seven {
-                return Ok(());
-            }
+        self.read_reference(site, "$ref")?;
+        if text_of(site.value, "$ref").is_some() && draft <= Draft::Seven {
+            return Ok(());
         }
         let items = site.value.get("unevaluatedItems").is_some();
         let properties = site.value.get("unevaluatedProperties").is_some();
@@ -327,7 +297,11 @@ impl<'v, 'a> Compiler<'v, 'a> {
             site.keywords.clear();
             return self.read_unevaluated(site);
         }
-        self.read_dynamic(site)?;
+        match draft {
+            Draft::Of2020 => self.read_reference(site, "$dynamicRef")?,
+            Draft::Of2019 => self.read_reference(site, "$recursiveRef")?,
+            _ => {}
+        }
         if site.dialect.validates {
             self.read_any(site)?;
             self.read_numbers(site)?;
@@ -359,40 +333,29 @@ impl<'v, 'a> Compiler<'v, 'a> {
         Ok(())
     }
 
-    /// Reads `$dynamicRef` or `$recursiveRef`. Fails like `Compiler::dynamic_reference`.
-    fn read_dynamic(&mut self, site: &mut Site<'v, 'a>) -> Result<(), SchemaError> {
-        let name = match site.dialect.draft {
-            Draft::Of2020 => "$dynamicRef",
-            Draft::Of2019 => "$recursiveRef",
-            _ => return Ok(()),
-        };
+    /// Reads a keyword that names a schema by its address. Fails like `Compiler::reference`.
+    fn read_reference(
+        &mut self,
+        site: &mut Site<'v, 'a>,
+        name: &'static str,
+    ) -> Result<(), SchemaError> {
         if let Some(text) = text_of(site.value, name) {
-            let target = self.dynamic_reference(site, text)?;
-            site.put(name, all_of(self.alloc, target)?)?;
+            if let Some(target) = self.reference(site, name, text)? {
+                site.put(name, all_of(self.alloc, target)?)?;
+            }
         }
         Ok(())
     }
 
-    /// Reads `type`, `enum` and, from draft 6 on, `const`. Fails with `Keyword` if `type` or `enum` has a wrong value.
+    /// Reads `type`, `enum` and, from draft 6 on, `const`.
     fn read_any(&mut self, site: &mut Site<'v, 'a>) -> Result<(), SchemaError> {
         let alloc = self.alloc;
         if let Some(value) = site.value.get("type") {
-            match types_in(value, site.dialect.draft) {
-                Some(types) => site.put("type", Keyword::Type(types))?,
-                None => return Err(refused(
-                    alloc,
-                    site,
-                    "type",
-                    "the name of a type, or an array",
-                )?),
-            }
+            let types = types_in(value, site.dialect.draft);
+            site.put("type", Keyword::Type(types))?;
         }
-        match site.value.get("enum") {
-            Some(Json::Array(values)) => {
-                site.put("enum", constants(alloc, values.as_slice())?)?;
-            }
-            Some(_) => return Err(refused(alloc, site, "enum", "an array")?),
-            None => {}
+        if let Some(Json::Array(values)) = site.value.get("enum") {
+            site.put("enum", constants(alloc, values.as_slice())?)?;
         }
         match site.value.get("const") {
             Some(value) if site.dialect.draft > Draft::Four => {
@@ -403,23 +366,16 @@ impl<'v, 'a> Compiler<'v, 'a> {
         Ok(())
     }
 
-    /// Returns the number in the member `name`, or `None` if the member is missing. Fails with `Keyword` if the member
-    /// is not a number.
-    fn limit(
-        &self,
-        site: &Site<'v, 'a>,
-        name: &'static str,
-    ) -> Result<Option<Decimal>, SchemaError> {
+    /// Returns the number in the member `name`, or `None` if the member is missing or not a number.
+    fn limit(&self, site: &Site<'v, 'a>, name: &str) -> Result<Option<Decimal>, AllocError> {
         match site.value.get(name) {
             Some(Json::Number(text)) => Ok(Some(Decimal::parse(self.alloc, *text)?)),
-            Some(_) => Err(refused(self.alloc, site, name, "a number")?),
-            None => Ok(None),
+            _ => Ok(None),
         }
     }
 
     /// Reads the keywords for numbers: the four limits and `multipleOf`. In draft 4, `exclusiveMinimum` and
-    /// `exclusiveMaximum` say whether the limits in `minimum` and `maximum` are excluded. Fails like `limit` and
-    /// `read_divisor`.
+    /// `exclusiveMaximum` say whether the limits in `minimum` and `maximum` are excluded.
     fn read_numbers(&mut self, site: &mut Site<'v, 'a>) -> Result<(), SchemaError> {
         let is_old = site.dialect.draft == Draft::Four;
         for (name, excluding) in [
@@ -437,45 +393,28 @@ impl<'v, 'a> Compiler<'v, 'a> {
                 }
             }
         }
-        self.read_divisor(site)
-    }
-
-    /// Reads `multipleOf`. Fails with `Keyword` if its value is not a number above 0 with at most 18 digits, not
-    /// counting zeros at the start and at the end.
-    fn read_divisor(&self, site: &mut Site<'v, 'a>) -> Result<(), SchemaError> {
-        let Some(divisor) = self.limit(site, "multipleOf")? else {
-            return Ok(());
-        };
-        match divisor.size() {
-            Some(size) if !divisor.negative && size > 0 && size < 1_000_000_000_000_000_000 => {
+        if let Some(divisor) = self.limit(site, "multipleOf")? {
+            if let Some(size) = divisor.size() {
                 let keyword = Keyword::MultipleOf(size, divisor.exponent());
                 site.put("multipleOf", keyword)?;
-                Ok(())
-            }
-            _ => {
-                let expected = "a number above 0 with at most 18 digits";
-                Err(refused(self.alloc, site, "multipleOf", expected)?)
             }
         }
+        Ok(())
     }
 
-    /// Returns the count in the member `name`, or `None` if the member is missing. A count above `u64::MAX` becomes
-    /// `u64::MAX`. Fails with `Keyword` if the member is not an integer of at least 0.
-    fn count(&self, site: &Site<'v, 'a>, name: &'static str) -> Result<Option<u64>, SchemaError> {
-        let Some(value) = site.value.get(name) else {
-            return Ok(None);
-        };
-        if let Json::Number(text) = value {
-            let number = Decimal::parse(self.alloc, *text)?;
-            if !number.negative && number.is_whole() {
+    /// Returns the count in the member `name`, or `None` if the member is missing or not a number. A count above
+    /// `u64::MAX` becomes `u64::MAX`.
+    fn count(&self, site: &Site<'v, 'a>, name: &str) -> Option<u64> {
+        match site.value.get(name) {
+            Some(Json::Number(text)) => {
                 let numeral = Numeral::scan(text.as_bytes());
-                return Ok(Some(numeral.whole_u64().unwrap_or(u64::MAX)));
+                Some(numeral.whole_u64().unwrap_or(u64::MAX))
             }
+            _ => None,
         }
-        Err(refused(self.alloc, site, name, "an integer of at least 0")?)
     }
 
-    /// Reads the keywords that limit the length of a string, or the number of elements or keys. Fails like `count`.
+    /// Reads the keywords that limit the length of a string, or the number of elements or keys.
     fn read_counts(&self, site: &mut Site<'v, 'a>) -> Result<(), SchemaError> {
         for name in [
             "minLength",
@@ -485,22 +424,22 @@ impl<'v, 'a> Compiler<'v, 'a> {
             "minProperties",
             "maxProperties",
         ] {
-            if let Some(number) = self.count(site, name)? {
+            if let Some(number) = self.count(site, name) {
                 site.put(name, size_limit(name, number))?;
             }
         }
         Ok(())
     }
 
-    /// Reads `uniqueItems` and `pattern`, and ignores values of wrong types. Fails like `compile_pattern`.
+    /// Reads `uniqueItems` and `pattern`. Fails like `add_pattern`.
     fn read_others(&mut self, site: &mut Site<'v, 'a>) -> Result<(), SchemaError> {
         if is_true(site.value, "uniqueItems") {
             site.put("uniqueItems", Keyword::UniqueItems)?;
         }
         if let Some(pattern) = text_of(site.value, "pattern") {
-            let place = with_step(self.alloc, site.pointer.as_str(), "pattern")?;
-            let at = self.add_pattern(pattern, place.as_str())?;
-            site.put("pattern", Keyword::Pattern(at))?;
+            if let Some(at) = self.add_pattern(site, &["pattern"], pattern)? {
+                site.put("pattern", Keyword::Pattern(at))?;
+            }
         }
         Ok(())
     }
@@ -522,33 +461,57 @@ impl<'v, 'a> Compiler<'v, 'a> {
         Ok(())
     }
 
-    /// Compiles a regular expression, and appends it to `self.patterns`. Returns its position there. `place` is a JSON
-    /// pointer to its keyword, for errors. Fails like `compile_pattern`.
-    fn add_pattern(&mut self, pattern: &str, place: &str) -> Result<usize, SchemaError> {
-        let at = self.patterns.len();
-        let regex = compile_pattern(self.alloc, pattern, place)?;
-        self.patterns.push(regex)?;
-        Ok(at)
+    /// Compiles a regular expression, to which `steps` lead from the schema `site`, and appends it to `self.patterns`.
+    /// Returns its position there. Returns `None` if the expression is not supported, with a warning, or malformed,
+    /// with an error.
+    fn add_pattern(
+        &mut self,
+        site: &Site<'v, 'a>,
+        steps: &[&str],
+        pattern: &str,
+    ) -> Result<Option<usize>, SchemaError> {
+        let alloc = self.alloc;
+        match compile_pattern(alloc, pattern) {
+            Ok(regex) => {
+                let at = self.patterns.len();
+                self.patterns.push(regex)?;
+                return Ok(Some(at));
+            }
+            Err(Error::OutOfMemory) => return Err(SchemaError::OutOfMemory),
+            Err(Error::Syntax(_)) => {}
+            Err(_) => {
+                let message = format!(in alloc; "not checked: `{pattern}` is too large")?;
+                self.complain(site, steps, message.as_str(), false)?;
+                return Ok(None);
+            }
+        }
+        let (message, is_error) = match unsupported(pattern) {
+            Some((name, at)) => {
+                let message = format!(in alloc;
+                    "not checked: `{pattern}` has {name} at character {at}, which is not supported"
+                )?;
+                (message, false)
+            }
+            None => {
+                let message = format!(in alloc; "`{pattern}` is not a regular expression")?;
+                (message, true)
+            }
+        };
+        self.complain(site, steps, message.as_str(), is_error)?;
+        Ok(None)
     }
 
-    /// Reads `required` and, from draft 2019-09 on, `dependentRequired`. Fails with `Keyword` if `required` or a member
-    /// of `dependentRequired` is not an array of strings. Ignores a `dependentRequired` that is not an object.
+    /// Reads `required` and, from draft 2019-09 on, `dependentRequired`.
     fn read_names(&mut self, site: &mut Site<'v, 'a>) -> Result<(), SchemaError> {
         let alloc = self.alloc;
         if let Some(value) = site.value.get("required") {
-            match texts(alloc, value)? {
-                Some(names) => site.put("required", Keyword::Required(names))?,
-                None => return Err(refused(alloc, site, "required", "an array of strings")?),
-            }
+            site.put("required", Keyword::Required(texts(alloc, value)?))?;
         }
         match site.value.get("dependentRequired") {
             Some(Json::Object(members)) if site.dialect.draft >= Draft::Of2019 => {
                 let mut list = Vec::new(alloc);
                 for member in members.as_slice() {
-                    let Some(names) = texts(alloc, &member.1)? else {
-                        let expected = "an object of arrays of strings";
-                        return Err(refused(alloc, site, "dependentRequired", expected)?);
-                    };
+                    let names = texts(alloc, &member.1)?;
                     list.push((String::from_str(alloc, member.0)?, names))?;
                 }
                 site.put("dependentRequired", Keyword::DependentRequired(list))?;
@@ -559,18 +522,14 @@ impl<'v, 'a> Compiler<'v, 'a> {
     }
 
     /// Returns the indices of the compiled forms of the schemas in the array `name` of the schema `site`. Returns
-    /// `None` if the member `name` is missing. Fails with `Keyword` if the member is not an array, otherwise like
-    /// `Compiler::node`.
+    /// `None` if the member `name` is missing or not an array. Fails like `Compiler::node`.
     fn list(
         &mut self,
         site: &Site<'v, 'a>,
         name: &'static str,
     ) -> Result<Option<Vec<usize>>, SchemaError> {
-        let Some(value) = site.value.get(name) else {
+        let Some(Json::Array(items)) = site.value.get(name) else {
             return Ok(None);
-        };
-        let Json::Array(items) = value else {
-            return Err(refused(self.alloc, site, name, "an array of schemas")?);
         };
         let mut nodes = Vec::new(self.alloc);
         for (at, value) in items.as_slice().iter().enumerate() {
@@ -649,7 +608,7 @@ impl<'v, 'a> Compiler<'v, 'a> {
     }
 
     /// Reads `contains` from draft 6 on, with `minContains` and `maxContains` from draft 2019-09 on. Fails like
-    /// `Compiler::node` and `count`.
+    /// `Compiler::node`.
     fn read_contains(&mut self, site: &mut Site<'v, 'a>) -> Result<(), SchemaError> {
         let draft = site.dialect.draft;
         if draft == Draft::Four {
@@ -660,12 +619,12 @@ impl<'v, 'a> Compiler<'v, 'a> {
         };
         let counts = draft >= Draft::Of2019 && site.dialect.validates;
         let least = if counts {
-            self.count(site, "minContains")?
+            self.count(site, "minContains")
         } else {
             None
         };
         let most = if counts {
-            self.count(site, "maxContains")?
+            self.count(site, "maxContains")
         } else {
             None
         };
@@ -682,8 +641,7 @@ impl<'v, 'a> Compiler<'v, 'a> {
     }
 
     /// Returns the names in the object `name` of the schema `site`, each with the index of the compiled form of its
-    /// schema. The list is empty if the member `name` is missing. Fails with `Keyword` if the member is not an object,
-    /// otherwise like `Compiler::node`.
+    /// schema. The list is empty if the member `name` is missing or not an object. Fails like `Compiler::node`.
     fn members(
         &mut self,
         site: &Site<'v, 'a>,
@@ -691,28 +649,26 @@ impl<'v, 'a> Compiler<'v, 'a> {
     ) -> Result<Vec<(String, usize)>, SchemaError> {
         let alloc = self.alloc;
         let mut list = Vec::new(alloc);
-        match site.value.get(name) {
-            Some(Json::Object(members)) => {
-                for member in members.as_slice() {
-                    let node = self.inside(site, name, member.0, &member.1)?;
-                    list.push((String::from_str(alloc, member.0)?, node))?;
-                }
+        if let Some(Json::Object(members)) = site.value.get(name) {
+            for member in members.as_slice() {
+                let node = self.inside(site, name, member.0, &member.1)?;
+                list.push((String::from_str(alloc, member.0)?, node))?;
             }
-            Some(_) => return Err(refused(alloc, site, name, "an object of schemas")?),
-            None => {}
         }
         Ok(list)
     }
 
-    /// Reads `properties`, `patternProperties`, `additionalProperties` and, from draft 6 on, `propertyNames`. Fails
-    /// like `members` and `compile_pattern`.
+    /// Reads `properties`, `patternProperties`, `additionalProperties` and, from draft 6 on, `propertyNames`. A pattern
+    /// that is not supported matches all keys, with the schema `true`. Fails like `members` and `add_pattern`.
     fn read_properties(&mut self, site: &mut Site<'v, 'a>) -> Result<(), SchemaError> {
         let named = self.members(site, "properties")?;
         let mut matching = Vec::new(self.alloc);
         for member in self.members(site, "patternProperties")?.as_slice() {
-            let place = with_step(self.alloc, site.pointer.as_str(), "patternProperties")?;
-            let pattern = self.add_pattern(member.0.as_str(), place.as_str())?;
-            matching.push((pattern, member.1))?;
+            let pattern = member.0.as_str();
+            match self.add_pattern(site, &["patternProperties", pattern], pattern)? {
+                Some(pattern) => matching.push((pattern, member.1))?,
+                None => matching.push((self.format("")?, self.anything()?))?,
+            }
         }
         let rest = self.one(site, "additionalProperties")?;
         if !named.is_empty() || !matching.is_empty() || rest.is_some() {
@@ -758,12 +714,11 @@ impl<'v, 'a> Compiler<'v, 'a> {
         let mut schemas = Vec::new(alloc);
         for member in members.as_slice() {
             let key = String::from_str(alloc, member.0)?;
-            match texts(alloc, &member.1)? {
-                Some(required) => names.push((key, required))?,
-                None => {
-                    let node = self.inside(site, "dependencies", member.0, &member.1)?;
-                    schemas.push((key, node))?;
-                }
+            if let Json::Array(_) = &member.1 {
+                names.push((key, texts(alloc, &member.1)?))?;
+            } else {
+                let node = self.inside(site, "dependencies", member.0, &member.1)?;
+                schemas.push((key, node))?;
             }
         }
         if site.dialect.validates {

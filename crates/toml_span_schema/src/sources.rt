@@ -1,14 +1,23 @@
 //! The documents of a schema, with the addresses and anchors inside them.
 
-use crate::error::SchemaError;
-use crate::pointers::{pointed, with_position, with_step};
+use crate::error::{Flaw, SchemaError};
+use crate::keywords::{
+    ASSERTING, FORMATS, TYPES, Want, chosen, expected_text, fits, found_text, is_keyword, part_of,
+    want_of,
+};
+use crate::pointers::{pointed, with_step};
 use json::Value as Json;
 use percent_encoding::{DecodeError, percent_decode};
 use std::alloc::{AllocError, Global};
+use std::collections::{BTreeMap, BTreeSet};
+use toml_span_report::nearest;
 use url::{ParseError, Url};
 
 /// Compiling fails if a document has this many schemas, or if this many schemas must be compiled.
 pub(crate) const MOST_SCHEMAS: usize = 1_000_000;
+
+/// The maximum number of errors, of warnings, and of different unknown words that are compared with known ones.
+const MOST_FLAWS: usize = 100;
 
 /// A version of JSON Schema.
 #[derive(Clone, Copy, PartialEq, Eq, PartialOrd, Ord)]
@@ -53,7 +62,6 @@ pub(crate) struct Anchor {
     pub(crate) base: String,
     pub(crate) name: String,
     pub(crate) pointer: String,
-    pub(crate) dynamic: bool,
 }
 
 impl Anchor {
@@ -63,90 +71,71 @@ impl Anchor {
     }
 }
 
-/// The documents with their resources and anchors.
+/// The documents with their resources and anchors, and what is wrong with them.
 #[derive(Drop)]
 pub(crate) struct Sources<'v, 'a> {
     pub(crate) documents: Vec<Source<'v, 'a>>,
     pub(crate) resources: Vec<Resource>,
     pub(crate) anchors: Vec<Anchor>,
+    /// The positions in `anchors` of the dynamic ones.
+    pub(crate) dynamic: Vec<usize>,
+    /// Schemas by the position of their document, a space, and their JSON pointer.
+    schemas: BTreeMap<String, &'v Json<'a>>,
+    pub(crate) errors: Vec<Flaw>,
+    pub(crate) warnings: Vec<Flaw>,
+    /// The unknown keywords and formats so far.
+    unknown: BTreeSet<String>,
 }
 
-/// A value that may be a schema, its JSON pointer, and the position of the resource around it.
+/// A value that fits `want`, its JSON pointer, and the position of the resource around it.
 #[derive(Drop)]
 struct Visit<'v, 'a> {
+    want: Want,
     value: &'v Json<'a>,
     pointer: String,
     resource: usize,
+    /// Whether schemas in the value may have addresses and anchors.
+    has_names: bool,
 }
 
-/// Where the subschemas of a keyword are.
-#[derive(Clone, Copy)]
-enum Shape {
-    /// The keyword's value is a subschema, or an array of subschemas.
-    Whole,
-    /// The members of the keyword's value are subschemas.
-    Members,
-}
-
-/// Returns where the subschemas of a keyword are, or `None` if the keyword has none.
-fn shape_of(keyword: &str) -> Option<Shape> {
-    match keyword {
-        "additionalItems"
-        | "additionalProperties"
-        | "allOf"
-        | "anyOf"
-        | "contains"
-        | "contentSchema"
-        | "else"
-        | "if"
-        | "items"
-        | "not"
-        | "oneOf"
-        | "prefixItems"
-        | "propertyNames"
-        | "then"
-        | "unevaluatedItems"
-        | "unevaluatedProperties" => { Some(Shape::Whole) }
-        "$defs"
-        | "definitions"
-        | "dependencies"
-        | "dependentSchemas"
-        | "patternProperties"
-        | "properties" => Some(Shape::Members),
-        _ => None,
-    }
+/// Returns an address without its scheme `http` or `https` and without an empty fragment.
+fn without_scheme(address: &str) -> &str {
+    let address = address.strip_suffix("#").unwrap_or(address);
+    let rest = address.strip_prefix("https://");
+    rest.unwrap_or(address.strip_prefix("http://").unwrap_or(address))
 }
 
 /// Returns the draft that `address`, the value of `$schema`, names, or `None` if the draft is unknown.
 fn draft_of(address: &str) -> Option<Draft> {
-    match address.strip_suffix("#").unwrap_or(address) {
-        "http://json-schema.org/draft-04/schema" => Some(Draft::Four),
-        "http://json-schema.org/draft-06/schema" => Some(Draft::Six),
-        "http://json-schema.org/draft-07/schema" => Some(Draft::Seven),
-        "https://json-schema.org/draft/2019-09/schema" => Some(Draft::Of2019),
-        "https://json-schema.org/draft/2020-12/schema" => Some(Draft::Of2020),
+    match without_scheme(address) {
+        "json-schema.org/draft-04/schema" => Some(Draft::Four),
+        "json-schema.org/draft-06/schema" => Some(Draft::Six),
+        "json-schema.org/draft-07/schema" => Some(Draft::Seven),
+        "json-schema.org/draft/2019-09/schema" => Some(Draft::Of2019),
+        "json-schema.org/draft/2020-12/schema" => Some(Draft::Of2020),
         _ => None,
     }
 }
 
-/// Resolves a reference against the address `base`. Fails with `Reference` at the JSON pointer `place` if `base` or the
-/// result is not a URL.
+/// Returns whether an address is that of a metaschema of any draft.
+pub(crate) fn is_metaschema(address: &str) -> bool {
+    without_scheme(address).starts_with("json-schema.org/")
+}
+
+/// Resolves a reference against the address `base`. Returns `None` if `base` or the result is not a URL.
 pub(crate) fn joined(
     alloc: Global,
     base: &str,
     reference: &str,
-    place: &str,
-) -> Result<Url, SchemaError> {
+) -> Result<Option<Url>, AllocError> {
     let found = match Url::parse(alloc, base) {
         Ok(base) => base.join(reference),
         Err(error) => Err(error),
     };
     match found {
-        Ok(url) => Ok(url),
-        Err(ParseError::OutOfMemory) => Err(SchemaError::OutOfMemory),
-        Err(_) => Err(SchemaError::Reference {
-            place: String::from_str(alloc, place)?,
-        }),
+        Ok(url) => Ok(Some(url)),
+        Err(ParseError::OutOfMemory) => Err(AllocError),
+        Err(_) => Ok(None),
     }
 }
 
@@ -172,9 +161,30 @@ pub(crate) fn text_of<'v, 'a>(value: &'v Json<'a>, name: &str) -> Option<&'a str
     value.get(name).and_then(|member| member.as_str())
 }
 
+/// Adds a flaw, unless there is one at the same place or there are too many.
+pub(crate) fn push_flaw(flaws: &mut Vec<Flaw>, flaw: Flaw) -> Result<(), AllocError> {
+    for other in flaws.as_slice() {
+        let is_same = other.document.as_str() == flaw.document.as_str();
+        if is_same && other.place.as_str() == flaw.place.as_str() {
+            return Ok(());
+        }
+    }
+    if flaws.len() < MOST_FLAWS {
+        flaws.push(flaw)?;
+    }
+    Ok(())
+}
+
+/// Returns the error that there are too many schemas.
+pub(crate) fn too_many() -> SchemaError {
+    SchemaError::TooLarge {
+        limit: "it has more than 1,000,000 schemas",
+    }
+}
+
 impl<'v, 'a> Sources<'v, 'a> {
-    /// Finds the resources and anchors of the documents. Fails with `Reference` if an `$id` can't be resolved to a URL,
-    /// with `Missing` if a dialect is unknown, and with `TooLarge` if there are too many schemas.
+    /// Finds the resources and anchors of the documents, and what is wrong with their keywords. Fails with `TooLarge`
+    /// if there are too many schemas.
     pub(crate) fn new(
         alloc: Global,
         documents: Vec<Source<'v, 'a>>,
@@ -183,6 +193,11 @@ impl<'v, 'a> Sources<'v, 'a> {
             documents,
             resources: Vec::new(alloc),
             anchors: Vec::new(alloc),
+            dynamic: Vec::new(alloc),
+            schemas: BTreeMap::new(alloc),
+            errors: Vec::new(alloc),
+            warnings: Vec::new(alloc),
+            unknown: BTreeSet::new(alloc),
         };
         for source in 0..made.documents.len() {
             made.read_document(alloc, source)?;
@@ -190,14 +205,40 @@ impl<'v, 'a> Sources<'v, 'a> {
         Ok(made)
     }
 
-    /// Returns the dialect that a schema names by `$schema`, or `other` if the schema names none. Fails with `Missing`
-    /// if the schema names neither a known draft nor one of the documents.
-    fn dialect(
+    /// Returns a flaw at the JSON pointer `place` of the document `source`.
+    pub(crate) fn flaw(
         &self,
         alloc: Global,
+        source: usize,
+        place: &str,
+        message: &str,
+    ) -> Result<Flaw, AllocError> {
+        let document = self
+            .documents
+            .get(source)
+            .map_or("", |document| document.address.as_str());
+        let resource = self.resources.get(self.resource_at(source, place));
+        let base = resource.map_or("", |resource| resource.address.as_str());
+        Ok(Flaw {
+            document: String::from_str(alloc, document)?,
+            base: String::from_str(alloc, base)?,
+            place: String::from_str(alloc, place)?,
+            message: String::from_str(alloc, message)?,
+            help: String::new(alloc),
+            missing: String::new(alloc),
+        })
+    }
+
+    /// Returns the dialect that a schema names by `$schema`, or `other` if the schema names none. If the schema names
+    /// neither a known draft nor one of the documents, adds an error, and returns `other`.
+    fn dialect(
+        &mut self,
+        alloc: Global,
+        source: usize,
+        pointer: &str,
         value: &'v Json<'a>,
         other: Dialect,
-    ) -> Result<Dialect, SchemaError> {
+    ) -> Result<Dialect, AllocError> {
         let Some(address) = text_of(value, "$schema") else {
             return Ok(other);
         };
@@ -212,13 +253,24 @@ impl<'v, 'a> Sources<'v, 'a> {
                 return Ok(own_dialect(document.value, other));
             }
         }
-        Err(SchemaError::Missing {
-            place: String::from_str(alloc, "/$schema")?,
-            address: String::from_str(alloc, address)?,
-        })
+        let place = with_step(alloc, pointer, "$schema")?;
+        let message = if is_metaschema(address) {
+            format!(in alloc;
+                "`{address}` is not supported, only drafts 4, 6, 7, 2019-09 and 2020-12"
+            )?
+        } else {
+            format!(in alloc; "there is no `{address}`")?
+        };
+        let mut flaw = self.flaw(alloc, source, place.as_str(), message.as_str())?;
+        if !is_metaschema(address) {
+            flaw.missing.push_str(address)?;
+        }
+        push_flaw(&mut self.errors, flaw)?;
+        Ok(other)
     }
 
-    /// Adds the resources and anchors of the document at the position `source`. Fails like `new`.
+    /// Adds the resources and anchors of the document at the position `source`, and what is wrong with its keywords.
+    /// Fails like `new`.
     fn read_document(&mut self, alloc: Global, source: usize) -> Result<(), SchemaError> {
         let Some(document) = self.documents.get(source) else {
             return Ok(());
@@ -229,7 +281,7 @@ impl<'v, 'a> Sources<'v, 'a> {
             draft: Draft::Of2020,
             validates: true,
         };
-        let dialect = self.dialect(alloc, value, first)?;
+        let dialect = self.dialect(alloc, source, "", value, first)?;
         let resource = self.resources.len();
         self.resources.push(Resource {
             source,
@@ -237,38 +289,222 @@ impl<'v, 'a> Sources<'v, 'a> {
             address,
             dialect,
         })?;
+        self.walk(
+            alloc,
+            Visit {
+                want: Want::Schema,
+                value,
+                pointer: String::new(alloc),
+                resource,
+                has_names: true,
+            },
+        )
+    }
+
+    /// Checks the keywords of a schema that no keyword contains, and of its subschemas. Does nothing if a keyword
+    /// contains the schema, which is at the JSON pointer `pointer` of the document `source`. Fails like `new`.
+    pub(crate) fn read_hidden(
+        &mut self,
+        alloc: Global,
+        source: usize,
+        pointer: &str,
+        value: &'v Json<'a>,
+    ) -> Result<(), SchemaError> {
+        let resource = self.resource_at(source, pointer);
+        let draft = self.draft_in(resource);
+        let mut want = Some(Want::Schema);
+        for step in pointer.split('/').skip(1) {
+            want = match want {
+                Some(Want::Schema) => want_of(step, draft),
+                Some(Want::Items) => Some(Want::Schema),
+                Some(want) => part_of(want),
+                None => None,
+            };
+        }
+        if matches!(want, Some(Want::Schema | Want::Items | Want::Dependency)) {
+            return Ok(());
+        }
+        self.walk(
+            alloc,
+            Visit {
+                want: Want::Schema,
+                value,
+                pointer: String::from_str(alloc, pointer)?,
+                resource,
+                has_names: false,
+            },
+        )
+    }
+
+    /// Returns the position in `documents` of the document with a resource.
+    fn source_of(&self, resource: usize) -> usize {
+        self.resources
+            .get(resource)
+            .map_or(0, |resource| resource.source)
+    }
+
+    /// Returns the draft of a resource.
+    fn draft_in(&self, resource: usize) -> Draft {
+        self.resources
+            .get(resource)
+            .map_or(Draft::Of2020, |resource| resource.dialect.draft)
+    }
+
+    /// Visits a value and the values inside it, as `visit` does. Fails like `new`.
+    fn walk(&mut self, alloc: Global, first: Visit<'v, 'a>) -> Result<(), SchemaError> {
         let mut visits = Vec::new(alloc);
-        visits.push(Visit {
-            value,
-            pointer: String::new(alloc),
-            resource,
-        })?;
+        visits.push(first)?;
         for _step in 0..MOST_SCHEMAS {
             let Some(visit) = visits.pop() else {
                 return Ok(());
             };
             self.visit(alloc, visit, &mut visits)?;
         }
-        Err(SchemaError::TooLarge)
+        Err(too_many())
     }
 
-    /// Adds to `self` the resource and the anchors that a schema defines, and to `visits` its subschemas. Fails like
-    /// `new`.
+    /// Adds the resource and the anchors that a schema defines, and what is wrong with the elements or members of a
+    /// value. Adds those elements and members to `visits` that have parts themselves. Fails like `new`.
     fn visit(
         &mut self,
         alloc: Global,
-        visit: Visit<'v, 'a>,
+        mut visit: Visit<'v, 'a>,
         visits: &mut Vec<Visit<'v, 'a>>,
     ) -> Result<(), SchemaError> {
-        let resource = self.read_address(alloc, &visit)?;
-        self.read_anchors(alloc, &visit, resource)?;
-        if let Json::Object(members) = visit.value {
-            for member in members.as_slice() {
-                if let Some(shape) = shape_of(member.0) {
-                    let pointer = with_step(alloc, visit.pointer.as_str(), member.0)?;
-                    push_visits(alloc, &member.1, shape, pointer, resource, visits)?;
+        let value = visit.value;
+        match value {
+            Json::Object(members) => {
+                let is_schema = visit.want == Want::Schema;
+                if is_schema && visit.has_names {
+                    self.note_schema(alloc, &visit)?;
+                    visit.resource = self.read_address(alloc, &visit)?;
+                    self.read_anchors(alloc, &visit)?;
+                }
+                for member in members.as_slice() {
+                    let want = if is_schema {
+                        self.want_in(alloc, &visit, member.0, &member.1)?
+                    } else {
+                        part_of(visit.want)
+                    };
+                    self.push_visit(alloc, &visit, member.0, want, &member.1, visits)?;
                 }
             }
+            Json::Array(items) => {
+                for (i, item) in items.as_slice().iter().enumerate() {
+                    let step = format!(in alloc; "{i}")?;
+                    let want = part_of(visit.want);
+                    self.push_visit(alloc, &visit, step.as_str(), want, item, visits)?;
+                }
+            }
+            _ => {}
+        }
+        Ok(())
+    }
+
+    /// Adds a schema to `schemas`.
+    fn note_schema(&mut self, alloc: Global, visit: &Visit<'v, 'a>) -> Result<(), AllocError> {
+        let (source, pointer) = (self.source_of(visit.resource), visit.pointer.as_str());
+        let key = format!(in alloc; "{source} {pointer}")?;
+        let _other = self.schemas.insert(key, visit.value)?;
+        Ok(())
+    }
+
+    /// Adds an error if a value is not what `want` says. Otherwise adds the value to `visits` if it has parts. `step`
+    /// is its name or position in `outer`. Does nothing if `want` is `None`.
+    fn push_visit(
+        &mut self,
+        alloc: Global,
+        outer: &Visit<'v, 'a>,
+        step: &str,
+        want: Option<Want>,
+        value: &'v Json<'a>,
+        visits: &mut Vec<Visit<'v, 'a>>,
+    ) -> Result<(), SchemaError> {
+        let Some(want) = want else {
+            return Ok(());
+        };
+        let want = chosen(want, value);
+        let is_right = fits(alloc, want, value)?;
+        if is_right && want != Want::Schema && part_of(want).is_none() {
+            return Ok(());
+        }
+        let pointer = with_step(alloc, outer.pointer.as_str(), step)?;
+        if is_right {
+            visits.push(Visit {
+                want,
+                value,
+                pointer,
+                resource: outer.resource,
+                has_names: outer.has_names,
+            })?;
+            return Ok(());
+        }
+        let source = self.source_of(outer.resource);
+        self.refuse_value(alloc, source, pointer.as_str(), want, value)
+    }
+
+    /// Adds the error that a value at a place is not what `want` says.
+    pub(crate) fn refuse_value(
+        &mut self,
+        alloc: Global,
+        source: usize,
+        pointer: &str,
+        want: Want,
+        value: &Json<'_>,
+    ) -> Result<(), SchemaError> {
+        let (expected, found) = (expected_text(want), found_text(alloc, value)?);
+        let message = format!(in alloc; "expected {expected}, found {found}")?;
+        let mut flaw = self.flaw(alloc, source, pointer, message.as_str())?;
+        if let (Want::TypeName, Some(word)) = (want, value.as_str()) {
+            flaw.help = meant_help(alloc, word, TYPES)?.unwrap_or(String::new(alloc));
+        }
+        push_flaw(&mut self.errors, flaw)?;
+        Ok(())
+    }
+
+    /// Returns what the value of the keyword `name` of a schema must be, or `None` if its draft has no such keyword.
+    /// Adds a warning if the keyword, or the format that `value` names, is unknown and near to a known one.
+    fn want_in(
+        &mut self,
+        alloc: Global,
+        visit: &Visit<'v, 'a>,
+        name: &str,
+        value: &Json<'_>,
+    ) -> Result<Option<Want>, AllocError> {
+        if name == "format" {
+            if let Some(format) = value.as_str() {
+                self.warn_unknown(alloc, visit, name, ("format", format), FORMATS)?;
+            }
+        } else if !is_keyword(name) {
+            self.warn_unknown(alloc, visit, name, ("keyword", name), ASSERTING)?;
+        }
+        Ok(want_of(name, self.draft_in(visit.resource)))
+    }
+
+    /// Adds a warning if the word `word.1`, which is a `word.0`, is not among the words `known`, but near to one of
+    /// them, and has not been seen yet. `name` is the keyword in the schema of `visit`.
+    fn warn_unknown(
+        &mut self,
+        alloc: Global,
+        visit: &Visit<'v, 'a>,
+        name: &str,
+        word: (&str, &str),
+        known: &'static str,
+    ) -> Result<(), AllocError> {
+        let (kind, word) = word;
+        if self.unknown.len() >= MOST_FLAWS || known.split(' ').any(|other| other == word) {
+            return Ok(());
+        }
+        if !self.unknown.insert(String::from_str(alloc, word)?)? {
+            return Ok(());
+        }
+        if let Some(help) = meant_help(alloc, word, known)? {
+            let place = with_step(alloc, visit.pointer.as_str(), name)?;
+            let message = format!(in alloc; "unknown {kind} `{word}`, which is not checked")?;
+            let source = self.source_of(visit.resource);
+            let mut flaw = self.flaw(alloc, source, place.as_str(), message.as_str())?;
+            flaw.help = help;
+            push_flaw(&mut self.warnings, flaw)?;
         }
         Ok(())
     }
@@ -287,9 +523,15 @@ impl<'v, 'a> Sources<'v, 'a> {
         if draft <= Draft::Seven && (id.starts_with("#") || visit.value.get("$ref").is_some()) {
             return Ok(visit.resource);
         }
-        let url = joined(alloc, outer.address.as_str(), id, visit.pointer.as_str())?;
+        let other = outer.dialect;
+        let Some(url) = joined(alloc, outer.address.as_str(), id)? else {
+            let place = with_step(alloc, visit.pointer.as_str(), keyword)?;
+            let flaw = self.flaw(alloc, source, place.as_str(), "this is not a URL")?;
+            push_flaw(&mut self.errors, flaw)?;
+            return Ok(visit.resource);
+        };
         let address = String::from_str(alloc, without_fragment(url.as_str()))?;
-        let dialect = self.dialect(alloc, visit.value, outer.dialect)?;
+        let dialect = self.dialect(alloc, source, visit.pointer.as_str(), visit.value, other)?;
         let made = self.resources.len();
         self.resources.push(Resource {
             source,
@@ -300,42 +542,46 @@ impl<'v, 'a> Sources<'v, 'a> {
         Ok(made)
     }
 
-    /// Adds the anchors that a schema defines. `resource` is the position of the innermost resource that contains the
-    /// schema.
-    fn read_anchors(
-        &mut self,
-        alloc: Global,
-        visit: &Visit<'v, 'a>,
-        resource: usize,
-    ) -> Result<(), SchemaError> {
-        let Some(resource) = self.resources.get(resource) else {
+    /// Adds the anchors that a schema defines.
+    fn read_anchors(&mut self, alloc: Global, visit: &Visit<'v, 'a>) -> Result<(), SchemaError> {
+        let Some(resource) = self.resources.get(visit.resource) else {
             return Ok(());
         };
-        let (draft, source) = (resource.dialect.draft, resource.source);
-        let base = String::from_str(alloc, resource.pointer.as_str())?;
+        let draft = resource.dialect.draft;
         for keyword in ["id", "$id", "$anchor", "$dynamicAnchor"] {
             let name = text_of(visit.value, keyword).and_then(|text| anchor_in(
                 draft, keyword, text,
             ));
             if let Some(name) = name {
-                self.anchors.push(Anchor {
-                    source,
-                    base: String::from_str(alloc, base.as_str())?,
-                    name: String::from_str(alloc, name)?,
-                    pointer: String::from_str(alloc, visit.pointer.as_str())?,
-                    dynamic: keyword == "$dynamicAnchor",
-                })?;
+                self.push_anchor(alloc, visit, name, keyword == "$dynamicAnchor")?;
             }
         }
         if draft == Draft::Of2019 && is_true(visit.value, "$recursiveAnchor") {
-            self.anchors.push(Anchor {
-                source,
-                base,
-                name: String::new(alloc),
-                pointer: String::from_str(alloc, visit.pointer.as_str())?,
-                dynamic: true,
-            })?;
+            self.push_anchor(alloc, visit, "", true)?;
         }
+        Ok(())
+    }
+
+    /// Adds an anchor with this name of the schema of `visit`.
+    fn push_anchor(
+        &mut self,
+        alloc: Global,
+        visit: &Visit<'v, 'a>,
+        name: &str,
+        is_dynamic: bool,
+    ) -> Result<(), AllocError> {
+        let Some(resource) = self.resources.get(visit.resource) else {
+            return Ok(());
+        };
+        if is_dynamic {
+            self.dynamic.push(self.anchors.len())?;
+        }
+        self.anchors.push(Anchor {
+            source: resource.source,
+            base: String::from_str(alloc, resource.pointer.as_str())?,
+            name: String::from_str(alloc, name)?,
+            pointer: String::from_str(alloc, visit.pointer.as_str())?,
+        })?;
         Ok(())
     }
 
@@ -364,6 +610,10 @@ impl<'v, 'a> Sources<'v, 'a> {
         source: usize,
         pointer: &str,
     ) -> Result<Option<&'v Json<'a>>, AllocError> {
+        let key = format!(in alloc; "{source} {pointer}")?;
+        if let Some(value) = self.schemas.get(key.as_str()) {
+            return Ok(Some(*value));
+        }
         match self.documents.get(source) {
             Some(document) => pointed(alloc, document.value, pointer),
             None => Ok(None),
@@ -388,6 +638,19 @@ impl<'v, 'a> Sources<'v, 'a> {
             }
         }
         None
+    }
+}
+
+/// Returns the help that names the nearest of the words in `known`, which are separated by spaces, if one is near
+/// enough.
+fn meant_help(alloc: Global, word: &str, known: &str) -> Result<Option<String>, AllocError> {
+    let mut words = Vec::new(alloc);
+    for other in known.split(' ') {
+        words.push(other)?;
+    }
+    match nearest(alloc, word, words.as_slice())? {
+        Some(meant) => Ok(Some(format!(in alloc; "did you mean `{meant}`?")?)),
+        None => Ok(None),
     }
 }
 
@@ -443,46 +706,4 @@ fn text_of_any<'t>(value: &'t Json<'_>, name: &str) -> Option<&'t str> {
         Some(member) => member.as_str(),
         None => None,
     }
-}
-
-/// Appends the subschemas in `value`, a keyword's value at the JSON pointer `pointer`, to `visits`. Appends nothing if
-/// `value` is a boolean or does not have the given shape. `resource` is the position of the resource around the
-/// subschemas.
-fn push_visits<'v, 'a>(
-    alloc: Global,
-    value: &'v Json<'a>,
-    shape: Shape,
-    pointer: String,
-    resource: usize,
-    visits: &mut Vec<Visit<'v, 'a>>,
-) -> Result<(), SchemaError> {
-    match (shape, value) {
-        (Shape::Members, Json::Object(members)) => {
-            for member in members.as_slice() {
-                let pointer = with_step(alloc, pointer.as_str(), member.0)?;
-                visits.push(Visit {
-                    value: &member.1,
-                    pointer,
-                    resource,
-                })?;
-            }
-        }
-        (Shape::Whole, Json::Array(items)) => {
-            for (i, value) in items.as_slice().iter().enumerate() {
-                let pointer = with_position(alloc, pointer.as_str(), i)?;
-                visits.push(Visit {
-                    value,
-                    pointer,
-                    resource,
-                })?;
-            }
-        }
-        (Shape::Whole, Json::Object(_)) => visits.push(Visit {
-            value,
-            pointer,
-            resource,
-        })?,
-        _ => {}
-    }
-    Ok(())
 }

@@ -5,4 +5,4 @@ use Rattle.toml_span_schema.proofs.patterns.translated.Given as goal
 abbrev pub invariant-loop-c : goal.invariant-loop-c
 invariant-loop-c l =
     (rest : List ℕ) →
-    string_bytes l.out ++ translated_from l.escaped l.in_class rest ≡ translated_from false false (l.yielded ++ rest)
+    string_bytes l.out ++ translated_from l.state l.in_class rest ≡ translated_from 0 false (l.yielded ++ rest)
