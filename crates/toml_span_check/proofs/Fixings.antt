@@ -7,7 +7,7 @@ use Rattle.toml_span_tree.specs.Error.{content_of}
 use Rattle.toml_span.specs.Parsing.{IsRefusal}
 use Rattle.toml_span_syntax.specs.declared.pieces.Piece.{Piece}
 use Rattle.toml_span_syntax.specs.declared.statements.Statement.{Statement}
-use Rattle.toml_span_check.specs.declared.fixing.FixLevel.TheVariants as levels
+use Rattle.toml_span_check.specs.declared.fixing.FixLevel.{FixLevel}
 use Rattle.toml_span_safety.specs.Drafts.{Parts, empty}
 use Rattle.toml_span_check.specs.Fixing.{AddsStatement, AddsUnit, CanFix, Checks, Drafts, FixOf, FixesError, IsUnit, Leads, Mends, NextFix, Progress, another, fix, fixed, nothing, one_more, start, way_of}
 use Rattle.toml_span_check.specs.Safety.{kept, may_fix}
@@ -63,7 +63,7 @@ drafts_more text pieces ss rest way i d p q below before is adds =
 -- a statement whose new text was checked
 pub fix_checked : (text : List ℕ) (pieces : List Piece) (s : Statement) (way : Way) (old : List ℕ) (own : List Piece) (field : Option Fixed) (made : Fixed) (r : Result (Option Fix) AllocError) →
     old ≡ own_bytes text pieces s → own ≡ own_pieces pieces s → Mends old way (option_map fixed field) → field ≡ Some made →
-    IfOk r (λ f. Checks text own (fixed made) (option_map fix f)) → may_fix text pieces s way.limit ≡ true → IfOk r (λ f. FixOf text pieces s way (option_map fix f))
+    IfOk r (λ f. Checks text own (fixed made) (option_map fix f)) → may_fix text pieces s way ≡ true → IfOk r (λ f. FixOf text pieces s way (option_map fix f))
 fix_checked text pieces s way old own field made (Err e) same_text same_own mends is checks within = tt
 fix_checked text pieces s way old own field made (Ok f) same_text same_own mends is checks within =
     inl (
@@ -74,19 +74,19 @@ fix_checked text pieces s way old own field made (Ok f) same_text same_own mends
       within,
     )
 
--- a unit that safe fixes fix, or not
-pub can_fix : (text : List ℕ) (pieces : List Piece) (ss : List Statement) (s unit : Statement) (way : Way) (field : Option Fix) (f : Fix) (r : Result Bool AllocError) →
-    way ≡ way_of pieces levels.Safe → IsUnit text pieces ss s unit → FixOf text pieces unit way (option_map fix field) → field ≡ Some f → r ≡ Ok true →
-    IfOk r (λ fixes. CanFix text pieces ss s fixes)
-can_fix text pieces ss s unit way field f r same of made is answer =
-    let yes : CanFix text pieces ss s true =
+-- a unit that fixes of this level fix, or not
+pub can_fix : (text : List ℕ) (pieces : List Piece) (ss : List Statement) (s unit : Statement) (level : FixLevel) (way : Way) (field : Option Fix) (f : Fix) (r : Result Bool AllocError) →
+    way ≡ way_of pieces level → IsUnit text pieces ss s unit → FixOf text pieces unit way (option_map fix field) → field ≡ Some f → r ≡ Ok true →
+    IfOk r (λ fixes. CanFix text pieces ss s level fixes)
+can_fix text pieces ss s unit level way field f r same of made is answer =
+    let yes : CanFix text pieces ss s level true =
     (unit, of, (fix f, subst (λ (w : Way). FixOf text pieces unit w (Some (fix f))) same (subst (λ (o : Option Fix). FixOf text pieces unit way (option_map fix o)) is made))) in
-    subst (λ (a : Result Bool AllocError). IfOk a (λ fixes. CanFix text pieces ss s fixes)) (sym answer) yes
+    subst (λ (a : Result Bool AllocError). IfOk a (λ fixes. CanFix text pieces ss s level fixes)) (sym answer) yes
 
-pub cannot_fix : (text : List ℕ) (pieces : List Piece) (ss : List Statement) (s unit : Statement) (way : Way) (field : Option Fix) (r : Result Bool AllocError) →
-    way ≡ way_of pieces levels.Safe → IsUnit text pieces ss s unit → FixOf text pieces unit way (option_map fix field) → field ≡ None → r ≡ Ok false →
-    IfOk r (λ fixes. CanFix text pieces ss s fixes)
-cannot_fix text pieces ss s unit way field r same of made is answer =
-    let no : CanFix text pieces ss s false =
+pub cannot_fix : (text : List ℕ) (pieces : List Piece) (ss : List Statement) (s unit : Statement) (level : FixLevel) (way : Way) (field : Option Fix) (r : Result Bool AllocError) →
+    way ≡ way_of pieces level → IsUnit text pieces ss s unit → FixOf text pieces unit way (option_map fix field) → field ≡ None → r ≡ Ok false →
+    IfOk r (λ fixes. CanFix text pieces ss s level fixes)
+cannot_fix text pieces ss s unit level way field r same of made is answer =
+    let no : CanFix text pieces ss s level false =
     (unit, of, subst (λ (w : Way). FixOf text pieces unit w None) same (subst (λ (o : Option Fix). FixOf text pieces unit way (option_map fix o)) is made)) in
-    subst (λ (a : Result Bool AllocError). IfOk a (λ fixes. CanFix text pieces ss s fixes)) (sym answer) no
+    subst (λ (a : Result Bool AllocError). IfOk a (λ fixes. CanFix text pieces ss s level fixes)) (sym answer) no

@@ -7,6 +7,7 @@ pub mod Judged
 mod Marks
 mod PatternLemmas
 pub mod Pieces
+pub mod Shows
 pub mod Statuses
 pub mod Collecting
 pub mod SafeFixes

@@ -13,7 +13,7 @@ use Rattle.toml_span_report.specs.Report.{ReportContent, bare}
 use Rattle.toml_span_report.specs.declared.report.Severity.TheVariants as severity
 use Rattle.toml_span_check.specs.Encoding.{not_utf8_report}
 use Rattle.toml_span_check.specs.Every.{Checks}
-use Rattle.toml_span_check.specs.Fixable.{count_of, no_error, one_error}
+use Rattle.toml_span_check.specs.Fixable.{AreShown, count_of, no_error, one_error}
 use Rattle.toml_span_check.specs.Formats.{fixable_report, formatted_report}
 use Rattle.toml_span_check.specs.Newer.{Lacks}
 use Rattle.toml_span_check.specs.Schemas.{Says, complaint_weight, errors_in}
@@ -66,10 +66,11 @@ report_text format is_fixable name text r =
 abbrev pub reports_text : Format → Bool → List ℕ → List ℕ → List ReportContent → List ℕ
 reports_text format are_fixable name text rs = flat_map (report_text format are_fixable name text) rs
 
--- `answer` has the numbers and the text of the reports that `Checks` allows for `text`
+-- `answer` has the numbers and the text of the reports that `Checks` allows for `text`, without the replacements that no
+-- fix makes (see `AreShown`)
 abbrev pub AreReported : Format → List ℕ → List ℕ → Answer → Type 0
 AreReported format name text answer =
-    (rs : List ReportContent) × Checks text rs
+    (made : List ReportContent) × Checks text made × (rs : List ReportContent) × AreShown text made rs
     × (answer ≡ (count_of rs, reports_text format true name text rs, []))
 
 -- The answer for a valid text. It counts the reports on newer forms (see `Lacks`), the errors among the reports of the

@@ -57,8 +57,8 @@ without source e copy =
 abbrev pub rest : Source → ℕ → List ℕ
 rest source next = blank 0 (offset_of source.text source.pieces next) source.text
 
--- the report of this error of a copy of the source; its replacements are marked as safe only if safe fixes fix the
--- statement with the error
+-- the report of this error of a copy of the source; its replacements are marked as safe if and only if safe fixes fix
+-- the statement with the error
 abbrev pub ReportsFixable : Source → ℕ → List ℕ → Error → ReportContent → Type 0
 ReportsFixable source from copy error report =
     (made : ReportContent) × ReportsError severity.Error copy (content_of error) made

@@ -1,13 +1,16 @@
 -- Which errors have fixes that `check --fix` applies.
-use Rattle.std.specs.Prelude.{◌≡◌, ◌≢◌, ◌⊎◌, ℕ, ◌+◌, Bool, true, false, not, List, [], ◌∷◌, map, length, codes}
+use Rattle.std.specs.Prelude.{◌≡◌, ◌⊎◌, ℕ, ◌+◌, Bool, true, false, not, List, [], ◌∷◌, ◌++◌, map, length, codes}
 use Rattle.std.specs.Prelude.{count_by, Option, Some, None, if◌then◌else◌}
 use Rattle.std.specs.List.{list_all}
 use Rattle.toml_span_report.specs.Report.{Repair, ReportContent}
 use Rattle.toml_span_syntax.specs.declared.pieces.Piece.{Piece}
 use Rattle.toml_span_syntax.specs.declared.statements.Statement.{Statement}
+use Rattle.toml_span_safety.specs.Drafts.{IsReading}
 use Rattle.toml_span_check.specs.Fixing.{CanFix}
+use Rattle.toml_span_check.specs.Statements.{faulty}
 use Rattle.toml_span_check.specs.declared.fixable.Count.{Count}
 use Rattle.toml_span_check.specs.declared.fixing.FixLevel.{FixLevel}
+use Rattle.toml_span_check.specs.declared.fixing.FixLevel.TheVariants as levels
 use Rattle.toml_span_check.specs.declared.fixing.FixLevel.TheVariants.{Safe, Unsafe}
 
 abbrev pub all_safe : List Repair → Bool
@@ -18,18 +21,45 @@ abbrev pub level_of : List Repair → Option FixLevel
 level_of [] = None
 level_of (first ∷ more) = if all_safe (first ∷ more) then Some Safe else Some Unsafe
 
--- ---- safe fixes
+-- ---- which fixes are made
 
-abbrev pub as_unsafe : Repair → Repair
-as_unsafe repair = record repair { is_safe = false }
+abbrev pub marked : Bool → Repair → Repair
+marked is_safe repair = record repair { is_safe = is_safe }
 
--- `settled` is the report `made` of an error in a statement. If all its replacements are marked as safe, but safe fixes
--- don't fix the statement, they are marked as unsafe.
+-- `settled` is the report `made` of an error in a statement. Its replacements are marked as safe if safe fixes fix the
+-- statement, and otherwise as unsafe.
 abbrev pub IsSettled : List ℕ → List Piece → List Statement → Statement → ReportContent → ReportContent → Type 0
 IsSettled text pieces ss s made settled =
-    ((settled ≡ made) × ((level_of made.replacements ≢ Some Safe) ⊎ CanFix text pieces ss s true))
-    ⊎ ((settled ≡ record made { replacements = map as_unsafe made.replacements })
-    × (level_of made.replacements ≡ Some Safe) × CanFix text pieces ss s false)
+    ((made.replacements ≡ []) × (settled ≡ made))
+    ⊎ ((is_safe : Bool) × CanFix text pieces ss s levels.Safe is_safe
+    × (settled ≡ record made { replacements = map (marked is_safe) made.replacements }))
+
+abbrev pub first_start : List Repair → ℕ
+first_start [] = 0
+first_start (repair ∷ repairs) = repair.span.start
+
+-- the statement with the first replacement
+abbrev pub repaired_statement : List ℕ → List Piece → List Statement → List Repair → Statement
+repaired_statement text pieces ss repairs = faulty text pieces ss 0 (first_start repairs) true
+
+-- `shown` is the report `made`, without its replacements if unsafe fixes don't fix the statement.
+abbrev pub IsShown : List ℕ → List Piece → List Statement → ReportContent → ReportContent → Type 0
+IsShown text pieces ss made shown =
+    ((made.replacements ≡ []) × (shown ≡ made))
+    ⊎ (CanFix text pieces ss (repaired_statement text pieces ss made.replacements) levels.Unsafe true × (shown ≡ made))
+    ⊎ (CanFix text pieces ss (repaired_statement text pieces ss made.replacements) levels.Unsafe false
+    × (shown ≡ record made { replacements = [] }))
+
+-- this of each report
+pub data AllShown (text : List ℕ) (pieces : List Piece) (ss : List Statement)
+    : List ReportContent → List ReportContent → Type 0 where
+  no_report : AllShown text pieces ss [] []
+  one_more : (rs shown : List ReportContent) (r made : ReportContent) → AllShown text pieces ss rs shown
+      → IsShown text pieces ss r made → AllShown text pieces ss (rs ++ r ∷ []) (shown ++ made ∷ [])
+
+abbrev pub AreShown : List ℕ → List ReportContent → List ReportContent → Type 0
+AreShown text rs shown =
+    (pieces : List Piece) × (ss : List Statement) × IsReading text pieces ss × AllShown text pieces ss rs shown
 
 -- ---- numbers of errors
 

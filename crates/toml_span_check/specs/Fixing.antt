@@ -99,9 +99,9 @@ Checks text own made None =
 abbrev pub FixOf : List ℕ → List Piece → Statement → Way → Option Mended → Type 0
 FixOf text pieces s way new =
     ((made : Made) × Mends (own_bytes text pieces s) way (Some made) × Checks text (own_pieces pieces s) made new
-    × (may_fix text pieces s way.limit ≡ true))
+    × (may_fix text pieces s way ≡ true))
     ⊎ ((Mends (own_bytes text pieces s) way None ⊎ ¬ IsUtf8 (own_bytes text pieces s)
-    ⊎ (may_fix text pieces s way.limit ≡ false)) × (new ≡ None))
+    ⊎ (may_fix text pieces s way ≡ false)) × (new ≡ None))
 
 -- ---- a text
 
@@ -190,13 +190,13 @@ Fixes text level made =
 
 -- ---- one fix
 
--- Safe fixes fix the errors of a statement and of the lines that continue it, or not.
-abbrev pub CanFix : List ℕ → List Piece → List Statement → Statement → Bool → Type 0
-CanFix text pieces ss s true =
+-- Fixes of this level fix the errors of a statement and of the lines that continue it, or not.
+abbrev pub CanFix : List ℕ → List Piece → List Statement → Statement → FixLevel → Bool → Type 0
+CanFix text pieces ss s level true =
     (unit : Statement) × IsUnit text pieces ss s unit
-    × ((m : Mended) × FixOf text pieces unit (way_of pieces levels.Safe) (Some m))
-CanFix text pieces ss s false =
-    (unit : Statement) × IsUnit text pieces ss s unit × FixOf text pieces unit (way_of pieces levels.Safe) None
+    × ((m : Mended) × FixOf text pieces unit (way_of pieces level) (Some m))
+CanFix text pieces ss s level false =
+    (unit : Statement) × IsUnit text pieces ss s unit × FixOf text pieces unit (way_of pieces level) None
 
 -- The statement with these replacements made has no error, and the same comments. It may be fixed.
 abbrev pub IsMade : List ℕ → List Piece → Statement → List Repair → Way → Mended → Type 0
@@ -204,7 +204,7 @@ IsMade text pieces s repairs way m =
     (Some m.text ≡ repaired (own_bytes text pieces s) (offset_of text pieces s.first) repairs way)
     × ((root : Value) × IsTree m.text depth_limit root) × IsReading m.text m.pieces m.statements
     × (same_comments text (own_pieces pieces s) m.text m.pieces ≡ true)
-    × (may_fix text pieces s way.limit ≡ true)
+    × (may_fix text pieces s way ≡ true)
 
 -- The text with these replacements made is that of the parts, and has their pieces and statements.
 abbrev pub Makes : List ℕ → List Repair → Bool → Parts → Type 0

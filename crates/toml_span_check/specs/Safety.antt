@@ -1,7 +1,7 @@
 -- What a fix must keep.
 use Rattle.std.specs.Prelude.{◌≡◌, ℕ, ◌+◌, ◌-◌, Bool, true, false, ◌&&◌, ◌==◌, List, [], ◌∷◌, map, length}
 use Rattle.std.specs.Prelude.{Option, Some, None, if◌then◌else◌, min, nat_le, not, position, slice_get, slice_index}
-use Rattle.std.specs.Prelude.{unwrap_or}
+use Rattle.std.specs.Prelude.{drop, unwrap_or}
 use Rattle.std.specs.List.{list_all}
 use Rattle.std.specs.Str.{bytes_eq}
 use Rattle.toml_span_lex.specs.declared.span.Span.{Span}
@@ -10,12 +10,14 @@ use Rattle.toml_span_report.specs.Report.{Repair}
 use Rattle.toml_span_safety.specs.Comments.{comments}
 use Rattle.toml_span_safety.specs.Drafts.{Parts, add}
 use Rattle.toml_span_safety.specs.Quotes.{quotes_value}
+use Rattle.toml_span_syntax.specs.Heads.{kind_of}
 use Rattle.toml_span_syntax.specs.Statements.{is_line_end, is_open_long}
+use Rattle.toml_span_syntax.specs.declared.heads.StatementKind.TheVariants as is
 use Rattle.toml_span_syntax.specs.declared.pieces.Kind.{Kind}
 use Rattle.toml_span_syntax.specs.declared.pieces.Kind.TheVariants as kinds
 use Rattle.toml_span_syntax.specs.declared.pieces.Piece.{Piece}
 use Rattle.toml_span_syntax.specs.declared.statements.Statement.{Statement}
-use Rattle.toml_span_check.specs.Statements.{is_continued, own_bytes, own_pieces}
+use Rattle.toml_span_check.specs.Statements.{begins_section, is_continued, is_unreadable, own_bytes, own_pieces}
 use Rattle.toml_span_check.specs.declared.fixing.FixLevel.{FixLevel}
 use Rattle.toml_span_check.specs.declared.fixing.FixLevel.TheVariants as levels
 use Rattle.toml_span_check.specs.declared.fixing.Way.{Way}
@@ -80,11 +82,38 @@ is_item text pieces index =
     let at = solid_or (length text) (slice_get pieces index) in
     slice_index text at == 45 && slice_index text (min (at + 1) 18446744073709551615) == 32
 
+-- Whether a comma is the last of these pieces, apart from blanks, comments and line ends. `is_last` says whether one is
+-- before them.
+abbrev pub still_last : Bool → Kind → Bool
+still_last is_last kinds.Blank = is_last
+still_last is_last kinds.Comment = is_last
+still_last is_last kinds.LineEnd = is_last
+still_last is_last (kinds.Mark byte) = byte == 44
+still_last is_last _ = false
+
+unfoldable pub ends_with_comma : Bool → List Piece → Bool
+ends_with_comma is_last [] = is_last
+ends_with_comma is_last (piece ∷ pieces) = ends_with_comma (still_last is_last piece.kind) pieces
+
+-- whether a statement ends with a comma, and the line after it is unreadable and does not begin with `[`
+abbrev pub is_before_line : List Piece → Statement → Bool
+is_before_line pieces s =
+    (nat_le s.end (length pieces) && is_unreadable (kind_of (drop s.end pieces)))
+    && not (begins_section pieces (record { kind = is.Blank; first = s.end; end = length pieces }))
+    && ends_with_comma false (own_pieces pieces s)
+
+-- whether safe fixes leave a statement as it is, since the line after it may be the next of several values
+abbrev pub is_listed : FixLevel → List Piece → Statement → Bool
+is_listed levels.Safe pieces s = is_before_line pieces s
+is_listed levels.Unsafe pieces s = false
+
 -- whether a statement may be fixed by itself: it is not after the first multi-line string that is not closed, and what
--- follows is neither an unreadable line that is indented further nor an item of a YAML list
-abbrev pub may_fix : List ℕ → List Piece → Statement → ℕ → Bool
-may_fix text pieces s limit =
-    nat_le s.first limit && not (is_continued pieces s) && not (is_item text pieces s.end)
+-- follows is neither an unreadable line that is indented further or, for safe fixes, follows a comma, nor an item of a
+-- YAML list
+abbrev pub may_fix : List ℕ → List Piece → Statement → Way → Bool
+may_fix text pieces s way =
+    nat_le s.first way.limit && not (is_continued pieces s) && not (is_listed way.level pieces s)
+    && not (is_item text pieces s.end)
 
 -- whether pieces of a text have the same comments as those of another text
 abbrev pub same_comments : List ℕ → List Piece → List ℕ → List Piece → Bool

@@ -3,6 +3,7 @@ use Rattle.std.specs.Prelude.{ℕ, Bool, true, false, List, [], ◌++◌, codes,
 use Rattle.std.specs.Fmt.{signed_decimal}
 use Rattle.toml_span_report.specs.Visible.{quoted}
 use Rattle.toml_span_tree.specs.Float.{float_text}
+use Rattle.toml_span_tree.specs.Node.{FloatValue, finite, infinite, not_a_number}
 use Rattle.toml_span_tree.specs.Node.{Scalar, text, integer, float, boolean, datetime, Node, node, Inner, taken, scalar}
 use Rattle.toml_span_tree.specs.Node.{array, table, Items, no_items, item, Members, no_members, member}
 use Rattle.toml_span_check.specs.Dates.{date_type, with_seconds}
@@ -17,6 +18,12 @@ truth false = codes "false"
 abbrev pub tagged : List ℕ → List ℕ → List ℕ
 tagged type value = codes "{\"type\":" ++ quoted type ++ codes ",\"value\":" ++ quoted value ++ codes "}"
 
+-- JSON has no infinity and no NaN, so these are strings.
+abbrev pub plain_float : FloatValue → List ℕ
+plain_float (finite digits) = digits
+plain_float (infinite negative) = quoted (float_text (infinite negative))
+plain_float (not_a_number negative) = quoted (float_text (not_a_number negative))
+
 abbrev pub scalar_text : Bool → Scalar → List ℕ
 scalar_text true (text s) = tagged (codes "string") s
 scalar_text true (integer z) = tagged (codes "integer") (signed_decimal z)
@@ -25,7 +32,7 @@ scalar_text true (boolean b) = tagged (codes "bool") (truth b)
 scalar_text true (datetime d) = tagged (date_type d) (with_seconds d)
 scalar_text false (text s) = quoted s
 scalar_text false (integer z) = signed_decimal z
-scalar_text false (float x) = quoted (float_text x)
+scalar_text false (float x) = plain_float x
 scalar_text false (boolean b) = truth b
 scalar_text false (datetime d) = quoted d
 

@@ -13,7 +13,7 @@ ghost use Rattle.toml_span_check.specs.declared.fixable.Count.{Count};
 
 use crate::encoding::not_utf8;
 use crate::every::errors_from;
-use crate::fixable::{Count, count_of};
+use crate::fixable::{Count, count_of, shown};
 use crate::formats::{Format, fixable_report, formatted_report};
 use crate::newer::{Version, version_reports};
 use crate::schemas::{Chooser, Schemas, complaint_weight, with_errors};
@@ -127,8 +127,8 @@ fn push_reports(
     Ok(())
 }
 
-/// Returns the numbers and the text of the reports that `every::check` returns for the source `text`. `error` is the
-/// error that `parse` returns for `text`.
+/// Returns the numbers and the text of the reports that `every::check` returns for the source `text`, without the
+/// replacements that `with_fixes` does not make. `error` is the error that `parse` returns for `text`.
 fn errors_text(
     alloc: Global,
     format: Format,
@@ -139,7 +139,7 @@ fn errors_text(
     requires { IsRefusal text.now depth_limit (Fault error.now) }
     ensures { IfOk result (λ out. spec.AreReported format name.now text.now (out.0, out.1.items, [])) }
 {
-    let reports = errors_from(alloc, text, error)?;
+    let reports = shown(alloc, text, errors_from(alloc, text, error)?)?;
     let count = count_of(reports.as_slice());
     let mut out = String::new(alloc);
     push_reports(
@@ -154,21 +154,28 @@ fn errors_text(
     Ok((count, out.into_bytes()))
 }
 
-/// Returns the verdict on the source `text`, whose tree is `root`, and the text of its reports: first those of
+/// The text of a file, and the name of the file.
+#[derive(Clone, Copy)]
+struct NamedText<'t> {
+    name: &'t str,
+    text: &'t str,
+}
+
+/// Returns the verdict on a source, whose tree is `root`, and the text of its reports: first those of
 /// `version_reports`, then those from `schemas`.
 fn document_text<S: Schemas>(
     alloc: Global,
     format: Format,
     version: Version,
     chooser: Chooser,
-    name: &str,
-    text: &str,
+    source: NamedText<'_>,
     root: &Value<'_>,
     schemas: &mut S,
 ) -> Result<(Verdict, Vec<u8>), AllocError>
-    ensures { IfOk result (λ out. spec.AreChecked S.says format version chooser name.now text.now (view root.now)
-        (out.0.count, out.1.items, string_bytes out.0.complaint)) }
+    ensures { IfOk result (λ out. spec.AreChecked S.says format version chooser source.entry.name.now
+        source.entry.text.now (view root.now) (out.0.count, out.1.items, string_bytes out.0.complaint)) }
 {
+    let NamedText { name, text } = source;
     let reports = version_reports(alloc, text, version, name)?;
     let found = schemas.check(alloc, chooser, name, text, root)?;
     let count = count_of(reports.as_slice());
@@ -267,8 +274,9 @@ fn judge_text<'t, S: Schemas>(
     match parse(alloc, text) {
         Ok(root) => match task {
             Task::Check(version, chooser) => {
+                let source = NamedText { name, text };
                 let (verdict, out) = document_text(
-                    alloc, format, version, chooser, name, text, &root, schemas,
+                    alloc, format, version, chooser, source, &root, schemas,
                 )?;
                 Ok(Judged::Text(verdict, out))
             }

@@ -271,8 +271,8 @@ pub(crate) fn errors_from(
 /// rest is parsed as a whole. If two keys or headers clash, the later one is reported. Its statement is then replaced
 /// with spaces as well, a header together with its section. This is repeated until the rest is valid.
 ///
-/// The replacements of a report are marked as safe only if `with_fixes` makes them at `FixLevel::Safe`: if it fixes the
-/// statement that contains the error.
+/// The replacements of a report are marked as safe if and only if `with_fixes` at `FixLevel::Safe` fixes the statement
+/// that contains the error.
 ///
 /// No offset is reported twice. At most 100 errors are looked for. In a text of more than 1.28 MiB, the number is
 /// lower: 128 MiB divided by the length of the text, but at least one. If there are more errors, the last report has

@@ -4,22 +4,28 @@ ghost use Rattle.toml_span_report.specs.Report.{repair_of, report_content};
 ghost use Rattle.toml_span_check.specs.Fixable as spec;
 
 use crate::fixing::{FixLevel, is_fixable};
+use crate::statements::faulty;
 use crate::sums::sum_of;
 use std::alloc::{AllocError, Global};
 use toml_span_report::{Replacement, Report};
+use toml_span_safety::drafts::read;
 use toml_span_syntax::pieces::Piece;
 use toml_span_syntax::statements::Statement;
 
-/// Returns the replacements, marked as unsafe.
-fn all_unsafe(alloc: Global, repairs: &[Replacement]) -> Result<Vec<Replacement>, AllocError>
-    ensures { IfOk result (λ made. map repair_of made.items ≡ map spec.as_unsafe (map repair_of repairs.now)) }
+/// Returns the replacements, marked as safe or unsafe.
+fn marked(
+    alloc: Global,
+    repairs: &[Replacement],
+    is_safe: bool,
+) -> Result<Vec<Replacement>, AllocError>
+    ensures { IfOk result (λ made. map repair_of made.items ≡ map (spec.marked is_safe) (map repair_of repairs.now)) }
 {
     let mut made = Vec::new(alloc);
     for repair in repairs {
         made.push(Replacement {
             span: repair.span,
             text: String::from_str(alloc, repair.text.as_str())?,
-            is_safe: false,
+            is_safe,
         })?;
     }
     Ok(made)
@@ -94,8 +100,8 @@ fn level_of(repairs: &[Replacement]) -> Option<FixLevel>
     }
 }
 
-/// Returns the report of an error in a statement of a text. Its replacements stay marked as safe only if `is_fixable`
-/// returns `true` for the statement.
+/// Returns the report of an error in a statement of a text. Its replacements are marked as safe if and only if safe fixes
+/// fix the statement (`is_fixable`).
 pub(crate) fn settled(
     alloc: Global,
     text: &str,
@@ -108,15 +114,66 @@ pub(crate) fn settled(
         (report_content made)) }
 {
     let repairs = report.replacements.as_slice();
-    match level_of(repairs) {
-        Some(FixLevel::Safe) => {}
-        Some(FixLevel::Unsafe) | None => return Ok(report),
-    }
-    if is_fixable(alloc, text, pieces, statements, statement)? {
+    if repairs.is_empty() {
         return Ok(report);
     }
-    report.replacements = all_unsafe(alloc, repairs)?;
+    let is_safe = is_fixable(alloc, text, pieces, statements, statement, FixLevel::Safe)?;
+    report.replacements = marked(alloc, repairs, is_safe)?;
     Ok(report)
+}
+
+/// Returns the offset at which the first replacement begins, or 0 without replacements.
+fn first_start(repairs: &[Replacement]) -> usize
+    ensures { result ≡ spec.first_start (map repair_of repairs.now) }
+{
+    match repairs {
+        [first, ..] => first.span.start,
+        [] => 0,
+    }
+}
+
+/// Returns the report of an error of a text, without its replacements if `with_fixes` does not fix the statement of the
+/// first one, at `FixLevel::Unsafe` either.
+fn without_unmade(
+    alloc: Global,
+    text: &str,
+    pieces: &[Piece],
+    statements: &[Statement],
+    mut report: Report,
+) -> Result<Report, AllocError>
+    ensures { IfOk result (λ made. spec.IsShown text.now pieces.now statements.now (report_content report)
+        (report_content made)) }
+{
+    if report.replacements.is_empty() {
+        return Ok(report);
+    }
+    let start = first_start(report.replacements.as_slice());
+    let statement = faulty(text, pieces, statements, 0, start, true);
+    if is_fixable(alloc, text, pieces, statements, statement, FixLevel::Unsafe)? {
+        return Ok(report);
+    }
+    report.replacements = Vec::new(alloc);
+    Ok(report)
+}
+
+/// Returns the reports of the errors of a text, without the replacements that `with_fixes` does not make, at
+/// `FixLevel::Unsafe` either.
+pub(crate) fn shown(
+    alloc: Global,
+    text: &str,
+    reports: Vec<Report>,
+) -> Result<Vec<Report>, AllocError>
+    ensures { IfOk result (λ made. spec.AreShown text.now (map report_content reports.items)
+        (map report_content made.items)) }
+{
+    let reading = read(alloc, text)?;
+    let pieces = reading.pieces.as_slice();
+    let statements = reading.statements.as_slice();
+    let mut made = Vec::new(alloc);
+    for report in reports {
+        made.push(without_unmade(alloc, text, pieces, statements, report)?)?;
+    }
+    Ok(made)
 }
 
 /// Returns whether a report has a safe fix (`is_safe`), or a fix that is not safe.

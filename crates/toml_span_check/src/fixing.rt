@@ -1,5 +1,6 @@
 //! Fixes errors with the replacements of their reports.
-ghost use Rattle.std.specs.Prelude.{◌≡◌, ◌++◌, IfOk, IfSome, OnOk, length, map, option_map, position, string_bytes};
+ghost use Rattle.std.specs.Prelude.{◌≡◌, ◌++◌, IfOk, IfSome, OnOk, false, length, map, option_map, position};
+ghost use Rattle.std.specs.Prelude.{string_bytes};
 ghost use Rattle.std.specs.Bool.{OnTrue};
 ghost use Rattle.std.specs.Str.{bytes_eq};
 ghost use Rattle.toml_span_tree.specs.Error.{content_of};
@@ -11,7 +12,9 @@ ghost use Rattle.toml_span_check.specs.Fixing as spec;
 ghost use Rattle.toml_span_check.specs.Safety as safety;
 ghost use Rattle.toml_span_check.specs.Statements.{own_bytes};
 
-use crate::statements::{is_continued, offset_of, own_bytes, own_pieces, with_continued};
+use crate::statements::{
+    begins_section, is_continued, offset_of, own_bytes, own_pieces, with_continued,
+};
 use std::alloc::{AllocError, Global};
 use toml_span::de::parse;
 use toml_span::{Error, Stop};
@@ -23,6 +26,7 @@ use toml_span_safety::bytes::byte_at;
 use toml_span_safety::comments::comments;
 use toml_span_safety::drafts::{Draft, Reading, empty, is_right, push, read};
 use toml_span_safety::quotes::quotes_value;
+use toml_span_syntax::heads::{StatementKind, kind_at};
 use toml_span_syntax::pieces::{Kind, Piece};
 use toml_span_syntax::statements::Statement;
 
@@ -300,13 +304,64 @@ fn is_item(text: &str, pieces: &[Piece], index: usize) -> bool
         && byte_at(text.as_bytes(), next.saturating_add(1)) == b' '
 }
 
+/// Returns whether a comma is the last piece, apart from blanks, comments and line ends, after a piece of this kind.
+/// `is_last` says whether one is the last before it.
+fn still_last(is_last: bool, kind: Kind) -> bool
+    ensures { result ≡ safety.still_last is_last kind }
+{
+    match kind {
+        Kind::Blank | Kind::Comment | Kind::LineEnd => is_last,
+        Kind::Mark(byte) => byte == b',',
+        _ => false,
+    }
+}
+
+/// Returns whether a comma is the last of these pieces, apart from blanks, comments and line ends.
+#[tactic(auto, unfolding(crate::specs::Safety::ends_with_comma))]
+fn ends_with_comma(pieces: &[Piece]) -> bool
+    ensures { result ≡ safety.ends_with_comma false pieces.now }
+{
+    let mut is_last = false;
+    for piece in pieces {
+        is_last = still_last(is_last, piece.kind);
+    }
+    is_last
+}
+
+/// Returns whether a statement ends with a comma, and the line after it is unreadable: it may be the next of several
+/// values. Returns `false` at `FixLevel::Unsafe`.
+fn is_listed(pieces: &[Piece], statement: Statement, level: FixLevel) -> bool
+    ensures { result ≡ safety.is_listed level pieces.now statement }
+{
+    match level {
+        FixLevel::Safe => is_before_line(pieces, statement),
+        FixLevel::Unsafe => false,
+    }
+}
+
+/// Returns whether a statement ends with a comma, and the line after it is unreadable and does not begin with `[`.
+fn is_before_line(pieces: &[Piece], statement: Statement) -> bool
+    ensures { result ≡ safety.is_before_line pieces.now statement }
+{
+    let rest = Statement {
+        kind: StatementKind::Blank,
+        first: statement.end,
+        end: pieces.len(),
+    };
+    statement.end <= pieces.len()
+        && matches!(kind_at(pieces, statement.end), StatementKind::Unreadable)
+        && !begins_section(pieces, rest)
+        && ends_with_comma(own_pieces(pieces, statement))
+}
+
 /// Returns whether a statement may be fixed: it is not after `way.limit`, and what follows is neither an unreadable line
-/// that is indented further nor an item of a YAML list, which may belong to it.
+/// that is indented further or, for safe fixes, follows a comma, nor an item of a YAML list, which may belong to it.
 fn may_fix(text: &str, pieces: &[Piece], statement: Statement, way: Way) -> bool
-    ensures { result ≡ safety.may_fix text.now pieces.now statement way.limit }
+    ensures { result ≡ safety.may_fix text.now pieces.now statement way }
 {
     statement.first <= way.limit
         && !is_continued(pieces, statement)
+        && !is_listed(pieces, statement, way.level)
         && !is_item(text, pieces, statement.end)
 }
 
@@ -601,7 +656,8 @@ fn with_statements_fixed(
 /// fixed, at most 100, or the statement and these lines stay as they are. The statements around it stay the same, and
 /// are read as before. If the new source had other statements than these, the source is returned unchanged. Statements
 /// after a multi-line string that is not closed stay as they are, since they may be parts of the string. So does a
-/// statement before an item of a YAML list.
+/// statement before an item of a YAML list and, at `FixLevel::Safe`, one that ends with a comma before an unreadable
+/// line.
 ///
 /// At `FixLevel::Safe`, all replacements are safe, and the quotes that they add enclose a whole value. At either level,
 /// a statement keeps its comments, except that the markers `//` and `;` of comments become `#`. Takes time linear in
@@ -634,7 +690,7 @@ fn position_of(text: &str, pieces: &[Piece], statements: &[Statement], place: us
     found
 }
 
-/// Returns whether `with_fixes` at `FixLevel::Safe` fixes the errors of this statement of a text, which does not continue
+/// Returns whether `with_fixes` at this level fixes the errors of this statement of a text, which does not continue
 /// another one.
 pub(crate) fn is_fixable(
     alloc: Global,
@@ -642,11 +698,12 @@ pub(crate) fn is_fixable(
     pieces: &[Piece],
     statements: &[Statement],
     statement: Statement,
+    level: FixLevel,
 ) -> Result<bool, AllocError>
-    ensures { IfOk result (λ fixes. spec.CanFix text.now pieces.now statements.now statement fixes) }
+    ensures { IfOk result (λ fixes. spec.CanFix text.now pieces.now statements.now statement level fixes) }
 {
     let unit = unit_of(alloc, text, pieces, statements, statement)?;
-    let way = way_of(pieces, FixLevel::Safe);
+    let way = way_of(pieces, level);
     match fix_of(alloc, text, pieces, unit, way)? {
         Some(_) => Ok(true),
         None => Ok(false),

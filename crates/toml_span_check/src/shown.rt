@@ -1,11 +1,11 @@
 //! Prints values as JSON, or strings, floats, dates and times as their text.
 ghost use Rattle.std.specs.Prelude.{◌≡◌, ◌++◌, false, true, OnOk, IfOk, string_bytes, codes};
-ghost use Rattle.toml_span_tree.specs.Value.{view, inner_view, items_view, members_view};
+ghost use Rattle.toml_span_tree.specs.Value.{float_value, view, inner_view, items_view, members_view};
 ghost use Rattle.toml_span_check.specs.Shown as spec;
 
 use crate::dates::{date_type, with_seconds};
 use std::alloc::{AllocError, Global};
-use toml_span::value::{Table, Value, ValueInner};
+use toml_span::value::{FloatText, Table, Value, ValueInner};
 use toml_span_report::visible::push_quoted;
 
 /// Returns a boolean as text: `true` or `false`.
@@ -62,7 +62,22 @@ fn push_typed(alloc: Global, out: &mut String, scalar: &ValueInner<'_>) -> Resul
     }
 }
 
-/// Appends a scalar as JSON, with floats, dates and times as strings. Appends nothing for an array or a table.
+/// Appends a float as a JSON number or, since JSON has no infinity and no NaN, as a string: `"inf"`, `"-inf"`, `"nan"` or
+/// `"-nan"`.
+fn push_float(alloc: Global, out: &mut String, float: &FloatText) -> Result<(), AllocError>
+    ensures { OnOk result (string_bytes out.new ≡ string_bytes out.old ++ spec.plain_float (float_value float.now)) }
+{
+    match float {
+        FloatText::Finite(text) => out.push_str(text.as_str()),
+        FloatText::Infinite { .. } | FloatText::NotANumber { .. } => push_quoted(
+            alloc,
+            out,
+            float.text(),
+        ),
+    }
+}
+
+/// Appends a scalar as JSON, with dates and times as strings. Appends nothing for an array or a table.
 fn push_plain(alloc: Global, out: &mut String, scalar: &ValueInner<'_>) -> Result<(), AllocError>
     ensures { OnOk result (string_bytes out.new ≡ string_bytes out.old ++ spec.own_text false (inner_view scalar.now)) }
 {
@@ -72,7 +87,7 @@ fn push_plain(alloc: Global, out: &mut String, scalar: &ValueInner<'_>) -> Resul
             let digits = number.to_string(alloc)?;
             out.push_str(digits.as_str())
         }
-        ValueInner::Float(float) => push_quoted(alloc, out, float.text()),
+        ValueInner::Float(float) => push_float(alloc, out, float),
         ValueInner::Boolean(is_true) => out.push_str(truth(*is_true)),
         ValueInner::Datetime(date) => push_quoted(alloc, out, date.text()),
         ValueInner::Array(_) => Ok(()),

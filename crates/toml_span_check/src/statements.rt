@@ -63,7 +63,7 @@ fn margin(pieces: &[Piece], statement: Statement) -> usize
 }
 
 /// Returns whether a statement begins with `[`, after blanks: whether it is a header, perhaps one that can't be read.
-fn begins_section(pieces: &[Piece], statement: Statement) -> bool
+pub(crate) fn begins_section(pieces: &[Piece], statement: Statement) -> bool
     ensures { result ≡ spec.begins_section pieces.now statement }
 {
     match own_pieces(pieces, statement) {
@@ -155,7 +155,7 @@ fn found_faulty(
 }
 
 /// Returns the statement with the error at the offset `place`. Reading began at the piece at `from`.
-fn faulty(
+pub(crate) fn faulty(
     text: &str,
     pieces: &[Piece],
     statements: &[Statement],

@@ -444,12 +444,23 @@ pub(crate) const UNDERSCORE: Mistake = words!(
 
 pub(crate) const MISPLACED: Mistake = words!("each `_` in a number needs a digit on both sides");
 
-pub(crate) const NO_DIGITS: Mistake = words!("this number has no digits");
+pub(crate) const NO_DIGITS: Mistake =
+    words!("this number has no digits", help: "write digits after the prefix, as in `0x1F`");
+
+pub(crate) const NO_SIGNED_DIGITS: Mistake = words!(
+    "this number has no digits", help: "write digits after the prefix, and no sign, as in `0x1F`"
+);
 
 pub(crate) const NO_EXPONENT: Mistake =
     words!("this exponent has no digits", help: "write a number after `e`, as in `1e6`");
 
-pub(crate) const SIGNED_PREFIX: Mistake = words!("only decimal numbers can have a sign");
+pub(crate) const SIGNED_PREFIX: Mistake = words!(
+    "only decimal numbers can have a sign", help: "remove the sign, or write a decimal number"
+);
+
+pub(crate) const PLUS_PREFIX: Mistake = words!(
+    "only decimal numbers can have a sign", help: "remove the sign", joint: ": ", is_safe: true
+);
 
 pub(crate) const SIGNED_DECIMAL: Mistake = words!(
     "only decimal numbers can have a sign", help: "write", joint: " "

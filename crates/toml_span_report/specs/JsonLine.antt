@@ -19,15 +19,19 @@ role_json false = codes "{\"primary\":false"
 unfoldable pub span_json : Span → List ℕ
 span_json span = codes ",\"start\":" ++ decimal span.start ++ codes ",\"end\":" ++ decimal span.end
 
--- the members `line` and `column` for the offset `at`, both counted from 1
-unfoldable pub place_json : List ℕ → ℕ → List ℕ
-place_json text at =
-    codes ",\"line\":" ++ decimal (line_number text (floor_boundary text at))
-    ++ codes ",\"column\":" ++ decimal (column text (floor_boundary text at))
+-- two members with the line and the column of the offset `at`, both counted from 1, after their titles, such as
+-- `,"line":`
+unfoldable pub place_json : List ℕ → List ℕ → List ℕ → ℕ → List ℕ
+place_json line_title column_title text at =
+    line_title ++ decimal (line_number text (floor_boundary text at))
+    ++ column_title ++ decimal (column text (floor_boundary text at))
 
--- the members `start`, `end`, `line` and `column` of a label at `span`
+-- the members `start`, `end`, `line`, `column`, `end_line` and `end_column` of a label at `span`
 unfoldable pub spot_json : List ℕ → Span → List ℕ
-spot_json text span = span_json (clipped_span text span) ++ place_json text span.start
+spot_json text span =
+    span_json (clipped_span text span)
+    ++ place_json (codes ",\"line\":") (codes ",\"column\":") text span.start
+    ++ place_json (codes ",\"end_line\":") (codes ",\"end_column\":") text (clipped_span text span).end
 
 -- a member whose value is the string `text`; `title` is the text before the string, such as `,"code":`
 abbrev pub member_json : List ℕ → List ℕ → List ℕ

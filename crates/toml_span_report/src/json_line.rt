@@ -75,23 +75,34 @@ fn push_span(out: &mut String, span: Span) -> Result<(), AllocError>
     push_number(out, ",\"end\":", span.end)
 }
 
-/// Appends the members `line` and `column` to `out`, for the offset `at` in the source `text`.
+/// Appends two members to `out`, with the line and the column of the offset `at` in the source `text`. The titles are the
+/// texts before them, such as `,"line":`.
 #[tactic(auto, unfolding(crate::specs::JsonLine::place_json))]
-fn push_line_and_column(out: &mut String, text: &str, at: usize) -> Result<(), AllocError>
-    ensures { OnOk result (string_bytes out.new ≡ string_bytes out.old ++ spec.place_json text.now at) }
+fn push_place(
+    out: &mut String,
+    line_title: &str,
+    column_title: &str,
+    text: &str,
+    at: usize,
+) -> Result<(), AllocError>
+    ensures { OnOk result (string_bytes out.new
+        ≡ string_bytes out.old ++ spec.place_json line_title.now column_title.now text.now at) }
 {
     let (line, column) = line_column(text, at);
-    push_number(out, ",\"line\":", line)?;
-    push_number(out, ",\"column\":", column)
+    push_number(out, line_title, line)?;
+    push_number(out, column_title, column)
 }
 
-/// Appends the members `start`, `end`, `line` and `column` of a label at `span` to `out`. `text` is the source.
+/// Appends the members `start`, `end`, `line`, `column`, `end_line` and `end_column` of a label at `span` to `out`. `text`
+/// is the source.
 #[tactic(auto, unfolding(crate::specs::JsonLine::spot_json))]
 fn push_spot(out: &mut String, text: &str, span: Span) -> Result<(), AllocError>
     ensures { OnOk result (string_bytes out.new ≡ string_bytes out.old ++ spec.spot_json text.now span) }
 {
-    push_span(out, clipped_span(text, span))?;
-    push_line_and_column(out, text, span.start)
+    let shown = clipped_span(text, span);
+    push_span(out, shown)?;
+    push_place(out, ",\"line\":", ",\"column\":", text, span.start)?;
+    push_place(out, ",\"end_line\":", ",\"end_column\":", text, shown.end)
 }
 
 /// Appends the label with these parts to `out`, as a JSON object. `text` is the source.

@@ -6,9 +6,9 @@ use crate::finding::{Code, Finding, marked, pieces, replaced, safe_if, six};
 use crate::mistakes::dates::slash_date;
 use crate::mistakes::values::{float_word, unquoted_value};
 use crate::words::{
-    DECIMAL_COMMA, LEADING_ZERO, MISPLACED, Mistake, NO_DIGITS, NO_EXPONENT, OCTAL, OTHER_DIGIT,
-    SIGNED_DECIMAL, SIGNED_PREFIX, SIGNS, THOUSANDS, TOO_LARGE, TRAILING_POINT, UNDERSCORE,
-    UPPER_PREFIX,
+    DECIMAL_COMMA, LEADING_ZERO, MISPLACED, Mistake, NO_DIGITS, NO_EXPONENT, NO_SIGNED_DIGITS,
+    OCTAL, OTHER_DIGIT, PLUS_PREFIX, SIGNED_DECIMAL, SIGNED_PREFIX, SIGNS, THOUSANDS, TOO_LARGE,
+    TRAILING_POINT, UNDERSCORE, UPPER_PREFIX,
 };
 
 /// Returns the offset after the sign of the number at `at`, or `at` if the number has no sign.
@@ -97,21 +97,46 @@ fn decimal_code<'a>(text: &'a str, start: usize, value: u64) -> Code<'a> {
     }
 }
 
+/// Returns whether the digits of a number with a prefix begin or end with `_`, or have two `_` side by side.
+fn is_ungrouped(digits: &str) -> bool {
+    byte_at(digits, 0) == b'_'
+        || byte_at(digits, digits.len().saturating_sub(1)) == b'_'
+        || digits.contains("__")
+}
+
+/// Returns the prefix with this letter, in lower case: `0x`, `0o` or `0b`.
+fn prefix_of(letter: u8) -> &'static str {
+    match letter {
+        b'x' | b'X' => "0x",
+        b'o' | b'O' => "0o",
+        _ => "0b",
+    }
+}
+
 /// Returns the finding for a number with a sign before a prefix such as `0x`. The `0` of the prefix is at `zero`. The
-/// replacement is the number in decimal. The finding has no replacement if there are no digits, if a digit is not
-/// valid, or if the number is too large or too small for an integer (`largest`).
+/// replacement is the number without `+`, or the number in decimal if the sign is `-` or a `_` is misplaced. The finding
+/// has no replacement if there are no digits, if a digit is not valid, or if the number is too large or too small for an
+/// integer (`largest`).
 fn signed_prefix<'a>(text: &'a str, start: usize, zero: usize, end: usize) -> Finding<'a> {
     let letter = byte_at(text, ahead(text, zero, 1));
     let digits = part(text, ahead(text, zero, 2), end);
-    if digits.is_empty() {
-        return marked(NO_DIGITS, start, end);
-    }
-    match value_of(digits, base_of(letter)) {
-        Some(value) if value <= largest(text, start) => {
-            replaced(SIGNED_DECIMAL, start, end, decimal_code(text, start, value))
+    let mistake = match value_of(digits, base_of(letter)) {
+        Some(_) if digits.is_empty() => NO_SIGNED_DIGITS,
+        Some(value) if value > largest(text, start) => TOO_LARGE,
+        Some(value) if byte_at(text, start) == b'-' || is_ungrouped(digits) => {
+            return replaced(SIGNED_DECIMAL, start, end, decimal_code(text, start, value));
         }
-        _ => marked(SIGNED_PREFIX, start, end),
-    }
+        Some(_) => {
+            return replaced(
+                PLUS_PREFIX,
+                start,
+                end,
+                pieces(prefix_of(letter), digits, ""),
+            );
+        }
+        None => SIGNED_PREFIX,
+    };
+    marked(mistake, start, end)
 }
 
 /// Returns the finding for a number without a sign, whose prefix has the letter `x`, `o` or `b`. The number has no

@@ -2,8 +2,8 @@
 //! `mistakes` says what the functions take and return.
 
 use crate::bytes::{
-    Class, ahead, are_all, byte_after, byte_at, byte_before, end_of, ends_value, first_of_line,
-    is_in, part, start_of,
+    Class, ahead, are_all, begins, byte_after, byte_at, byte_before, end_of, ends_value,
+    first_of_line, is_in, part, start_of,
 };
 use crate::finding::{
     Finding, Substitute, as_substitute, in_quotes, marked, pieces, replaced, safe_if,
@@ -113,11 +113,29 @@ fn element_end(text: &str, at: usize) -> usize {
     if depth == 0 { end } else { at }
 }
 
-/// Returns the end of the value at `at`, which needs quotes, outside brackets: the end of its line, or a comment after
-/// a blank. A `;` at the end is not part of the value. Returns `at` if the end is not certain, because the comment may
-/// be part of the value, or the line has a second `=`. The first word of the value ends at `word`.
+/// Returns the offset of the first `//` after a blank in `from..to`, or `to` if there is none. The value at `at` has no
+/// quotes before it.
+fn slashes(text: &str, at: usize, from: usize, to: usize) -> usize {
+    for place in from..to {
+        if begins(text, place, b"//")
+            && is_in(Class::Blank, byte_at(text, place.saturating_sub(1)))
+        {
+            return if are_all(Class::Unquoted, text, at, place) {
+                place
+            } else {
+                to
+            };
+        }
+    }
+    to
+}
+
+/// Returns the end of the value at `at`, which needs quotes, outside brackets: the end of its line, or a comment, also
+/// one of another language (`//`), after a blank. A `;` at the end is not part of the value. Returns `at` if the end is
+/// not certain, because the comment may be part of the value, or the line has a second `=`. The first word of the value
+/// ends at `word`.
 fn line_value_end(text: &str, at: usize, word: usize) -> usize {
-    let far = end_of(Class::Uncommented, text, word);
+    let far = slashes(text, at, word, end_of(Class::Uncommented, text, word));
     let last = start_of(Class::Blank, text, far);
     let end = if byte_at(text, last.saturating_sub(1)) == b';' {
         start_of(Class::Blank, text, last.saturating_sub(1))
@@ -149,14 +167,15 @@ pub(crate) fn begins_number(byte: u8) -> bool {
 
 /// Returns the finding for the value at `at`, which needs quotes. The replacement puts the whole value in quotes. The
 /// finding has no replacement if the end of the value is not certain, or no value can begin at `at`. The replacement is
-/// not safe before `;`, or for a value such as `80a` that begins like a number and may be one with a typo.
+/// not safe before `;` or `//`, or for a value such as `80a` that begins like a number and may be one with a typo.
 pub(crate) fn unquoted_value<'a>(text: &'a str, at: usize) -> Finding<'a> {
     let end = whole_end(text, at);
     let is_certain = at < end && begins_value(text, at);
     if !is_certain {
         return marked(UNQUOTED_TEXT, at, end_of(Class::Word, text, at));
     }
-    let is_word = byte_after(text, end) != b';' && !begins_number(byte_at(text, at));
+    let is_last = byte_after(text, end) != b';' && byte_after(text, end) != b'/';
+    let is_word = is_last && !begins_number(byte_at(text, at));
     safe_if(in_quotes(UNQUOTED, text, at, end), is_word)
 }
 

@@ -1,9 +1,0 @@
-use Rattle.toml_span_lex.proofs.Common.{◌≡◌, ◌++◌, drop, map}
-use Rattle.toml_span_report.specs.Report.{repair_of}
-use Rattle.toml_span_check.specs.Fixable.{as_unsafe}
-use Rattle.toml_span_check.proofs.fixable.all_unsafe.Given as goal
-
-abbrev pub invariant-loop-repair : goal.invariant-loop-repair
-invariant-loop-repair l =
-    map repair_of l.made.items ++ map as_unsafe (map repair_of (drop l.repair-index l.repairs))
-    ≡ map as_unsafe (map repair_of l.repairs)
