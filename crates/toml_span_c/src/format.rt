@@ -72,6 +72,7 @@ pub extern "C" fn toml_span_format(
             let options = Options {
                 width,
                 indent: indent.min(MOST_SPACES),
+                ..Options::new()
             };
             put_formatted(alloc, document, options, out, needed)
         }

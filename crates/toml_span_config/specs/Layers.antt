@@ -1,9 +1,11 @@
 -- Which setting holds where several places may set it: the one of the upper layer.
-use Rattle.std.specs.Prelude.{ℕ, Bool, false, Option, Some, None}
+use Rattle.std.specs.Prelude.{ℕ, Bool, true, false, Option, Some, None}
 use Rattle.toml_span_check.specs.declared.newer.Version.{Version}
 use Rattle.toml_span_check.specs.declared.newer.Version.TheVariants.{Auto}
 use Rattle.toml_span_lex.specs.declared.spanned.Spanned.{Spanned}
 use Rattle.toml_span_config.specs.declared.layers.Chosen.{Chosen}
+use Rattle.toml_span_config.specs.declared.layers.Crlf.TheVariants as crlfs
+use Rattle.toml_span_config.specs.declared.layers.ExpandArrays.TheVariants as expansions
 use Rattle.toml_span_config.specs.declared.layers.Layer.{Layer}
 use Rattle.toml_span_config.specs.declared.layers.Origin.TheVariants as origins
 use Rattle.toml_span_config.specs.declared.layers.Settings.{Settings}
@@ -25,7 +27,19 @@ or_default None default = record { value = default; origin = origins.Default }
 or_default (Some setting) default = setting
 
 abbrev pub empty : Layer
-empty = record { toml = None; deny_warnings = None; width = None; indent = None; sort_keys = None; schema = None }
+empty = record {
+  toml = None;
+  deny_warnings = None;
+  width = None;
+  indent = None;
+  sort_keys = None;
+  trailing_comma = None;
+  expand_arrays = None;
+  align_comments = None;
+  blank_lines = None;
+  crlf = None;
+  schema = None;
+}
 
 -- the settings of both layers; where both set one, that of the upper holds
 abbrev pub under : Layer → Layer → Layer
@@ -35,6 +49,11 @@ under lower upper = record {
   width = over lower.width upper.width;
   indent = over lower.indent upper.indent;
   sort_keys = over lower.sort_keys upper.sort_keys;
+  trailing_comma = over lower.trailing_comma upper.trailing_comma;
+  expand_arrays = over lower.expand_arrays upper.expand_arrays;
+  align_comments = over lower.align_comments upper.align_comments;
+  blank_lines = over lower.blank_lines upper.blank_lines;
+  crlf = over lower.crlf upper.crlf;
   schema = over lower.schema upper.schema;
 }
 
@@ -46,5 +65,10 @@ settled layer = record {
   width = or_default layer.width 80;
   indent = or_default layer.indent 4;
   sort_keys = or_default layer.sort_keys false;
+  trailing_comma = or_default layer.trailing_comma true;
+  expand_arrays = or_default layer.expand_arrays expansions.Auto;
+  align_comments = or_default layer.align_comments false;
+  blank_lines = or_default layer.blank_lines 1;
+  crlf = or_default layer.crlf crlfs.Auto;
   schema = layer.schema;
 }

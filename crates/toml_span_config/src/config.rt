@@ -79,6 +79,11 @@ fn with_fmt(lower: Layer, table: &Option<FmtTable>) -> Layer {
         width: of_field(&table.width),
         indent: of_field(&table.indent),
         sort_keys: of_field(&table.sort_keys),
+        trailing_comma: of_field(&table.trailing_comma),
+        expand_arrays: of_field(&table.expand_arrays),
+        align_comments: of_field(&table.align_comments),
+        blank_lines: of_field(&table.blank_lines),
+        crlf: of_field(&table.crlf),
         ..Layer::empty()
     })
 }

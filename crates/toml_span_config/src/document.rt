@@ -1,4 +1,5 @@
 //! The tables of a configuration file, as they are read.
+use crate::layers::{Crlf, ExpandArrays};
 use std::alloc::Global;
 use std::collections::BTreeMap;
 use toml_span::{
@@ -32,6 +33,11 @@ pub(crate) struct FmtTable {
     pub(crate) width: Option<Spanned<u16>>,
     pub(crate) indent: Option<Spanned<u8>>,
     pub(crate) sort_keys: Option<Spanned<bool>>,
+    pub(crate) trailing_comma: Option<Spanned<bool>>,
+    pub(crate) expand_arrays: Option<Spanned<ExpandArrays>>,
+    pub(crate) align_comments: Option<Spanned<bool>>,
+    pub(crate) blank_lines: Option<Spanned<u8>>,
+    pub(crate) crlf: Option<Spanned<Crlf>>,
 }
 
 /// An entry of the array `files`.
@@ -77,6 +83,22 @@ impl<'de> Deserialize<'de> for VersionName {
     }
 }
 
+impl<'de> Deserialize<'de> for ExpandArrays {
+    fn deserialize(alloc: Global, value: &mut Value<'de>) -> Result<Self, Stop<DeserError<'de>>> {
+        read_name!(alloc, value, { "auto" => ExpandArrays::Auto, "keep" => ExpandArrays::Keep })
+    }
+}
+
+impl<'de> Deserialize<'de> for Crlf {
+    fn deserialize(alloc: Global, value: &mut Value<'de>) -> Result<Self, Stop<DeserError<'de>>> {
+        read_name!(alloc, value, {
+            "auto" => Crlf::Auto,
+            "always" => Crlf::Always,
+            "never" => Crlf::Never,
+        })
+    }
+}
+
 impl<'de> Deserialize<'de> for CheckTable {
     fn deserialize(alloc: Global, value: &mut Value<'de>) -> Result<Self, Stop<DeserError<'de>>> {
         read_table!(alloc, value, CheckTable {
@@ -92,6 +114,11 @@ impl<'de> Deserialize<'de> for FmtTable {
             width: Option<Spanned<u16>>;
             indent: Option<Spanned<u8>>, range(0..=64);
             sort_keys: Option<Spanned<bool>> = "sort-keys";
+            trailing_comma: Option<Spanned<bool>> = "trailing-comma";
+            expand_arrays: Option<Spanned<ExpandArrays>> = "expand-arrays";
+            align_comments: Option<Spanned<bool>> = "align-comments";
+            blank_lines: Option<Spanned<u8>> = "blank-lines", range(1..=9);
+            crlf: Option<Spanned<Crlf>>;
         })
     }
 }

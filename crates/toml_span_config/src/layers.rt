@@ -5,6 +5,24 @@ ghost use Rattle.toml_span_config.specs.Layers as spec;
 use toml_span::{Span, Spanned};
 use toml_span_check::newer::Version;
 
+/// Which arrays have several lines.
+#[derive(Clone, Copy, PartialEq, Eq)]
+pub enum ExpandArrays {
+    /// Those that are too wide for one line, or end in a comma.
+    Auto,
+    /// Those that have several lines already.
+    Keep,
+}
+
+/// Whether lines end with CRLF.
+#[derive(Clone, Copy, PartialEq, Eq)]
+pub enum Crlf {
+    /// If the first one does.
+    Auto,
+    Always,
+    Never,
+}
+
 /// Where a setting comes from.
 #[derive(Clone, Copy, PartialEq, Eq)]
 pub enum Origin {
@@ -37,6 +55,16 @@ pub struct Layer {
     pub indent: Option<Chosen<u8>>,
     /// Whether the formatter sorts keys.
     pub sort_keys: Option<Chosen<bool>>,
+    /// Whether the formatter writes a comma after the last element if each element has a line of its own.
+    pub trailing_comma: Option<Chosen<bool>>,
+    /// Which arrays the formatter writes on several lines.
+    pub expand_arrays: Option<Chosen<ExpandArrays>>,
+    /// Whether the formatter keeps comments at the ends of lines aligned.
+    pub align_comments: Option<Chosen<bool>>,
+    /// The maximum number of blank lines in a row that the formatter keeps.
+    pub blank_lines: Option<Chosen<u8>>,
+    /// Whether the formatter ends lines with CRLF.
+    pub crlf: Option<Chosen<Crlf>>,
     /// The position in `Config::files` of the entry that names the schema.
     pub schema: Option<Chosen<usize>>,
 }
@@ -54,6 +82,16 @@ pub struct Settings {
     pub indent: Chosen<u8>,
     /// Whether the formatter sorts keys.
     pub sort_keys: Chosen<bool>,
+    /// Whether the formatter writes a comma after the last element if each element has a line of its own.
+    pub trailing_comma: Chosen<bool>,
+    /// Which arrays the formatter writes on several lines.
+    pub expand_arrays: Chosen<ExpandArrays>,
+    /// Whether the formatter keeps comments at the ends of lines aligned.
+    pub align_comments: Chosen<bool>,
+    /// The maximum number of blank lines in a row that the formatter keeps.
+    pub blank_lines: Chosen<u8>,
+    /// Whether the formatter ends lines with CRLF.
+    pub crlf: Chosen<Crlf>,
     /// The position in `Config::files` of the entry that names the schema, if there is one.
     pub schema: Option<Chosen<usize>>,
 }
@@ -115,6 +153,11 @@ impl Layer {
             width: None,
             indent: None,
             sort_keys: None,
+            trailing_comma: None,
+            expand_arrays: None,
+            align_comments: None,
+            blank_lines: None,
+            crlf: None,
             schema: None,
         }
     }
@@ -129,6 +172,11 @@ impl Layer {
             width: over(self.width, upper.width),
             indent: over(self.indent, upper.indent),
             sort_keys: over(self.sort_keys, upper.sort_keys),
+            trailing_comma: over(self.trailing_comma, upper.trailing_comma),
+            expand_arrays: over(self.expand_arrays, upper.expand_arrays),
+            align_comments: over(self.align_comments, upper.align_comments),
+            blank_lines: over(self.blank_lines, upper.blank_lines),
+            crlf: over(self.crlf, upper.crlf),
             schema: over(self.schema, upper.schema),
         }
     }
@@ -143,6 +191,11 @@ impl Layer {
             width: or_default(self.width, 80),
             indent: or_default(self.indent, 4),
             sort_keys: or_default(self.sort_keys, false),
+            trailing_comma: or_default(self.trailing_comma, true),
+            expand_arrays: or_default(self.expand_arrays, ExpandArrays::Auto),
+            align_comments: or_default(self.align_comments, false),
+            blank_lines: or_default(self.blank_lines, 1),
+            crlf: or_default(self.crlf, Crlf::Auto),
             schema: self.schema,
         }
     }

@@ -1,6 +1,7 @@
-pub mod Same
-pub mod Permuted
-pub mod Tokens
+pub mod Document
 pub mod Entries
 pub mod Keys
-pub mod Document
+pub mod Options
+pub mod Permuted
+pub mod Same
+pub mod Tokens

@@ -13,15 +13,6 @@ use std::alloc::{AllocError, Global};
 use toml_span_lex::stop::Stop;
 use toml_span_syntax::pieces::{Kind, Piece};
 
-/// Returns the byte order mark at the start of the text, or an empty string.
-fn mark_of(text: &str) -> &'static str {
-    if text.starts_with('\u{feff}') {
-        "\u{feff}"
-    } else {
-        ""
-    }
-}
-
 /// Returns the first line end outside strings, or LF if there is none.
 fn line_end_of(pieces: &[Piece]) -> &'static str {
     match pieces
@@ -41,14 +32,13 @@ pub(crate) fn laid_out(
     pieces: &[Piece],
     options: Options,
 ) -> Result<String, AllocError> {
-    let items = items_of(alloc, document.text, pieces)?;
-    print(
-        alloc,
-        mark_of(document.text),
-        line_end_of(document.pieces.as_slice()),
-        items.as_slice(),
-        options,
-    )
+    let items = items_of(alloc, document.text, pieces, options)?;
+    let line_end = match options.has_crlf {
+        Some(true) => "\r\n",
+        Some(false) => "\n",
+        None => line_end_of(document.pieces.as_slice()),
+    };
+    print(alloc, document.text, line_end, items.as_slice(), options)
 }
 
 /// Returns whether two documents have the same tokens and comments, in the same order.

@@ -7,8 +7,8 @@ pub(crate) enum Gap {
     SameLine,
     /// A line end, but no blank line.
     NextLine,
-    /// At least one blank line.
-    BlankLine,
+    /// This many blank lines, at least one.
+    BlankLines(usize),
 }
 
 impl Gap {
@@ -16,7 +16,8 @@ impl Gap {
     pub(crate) fn with_line_end(self) -> Gap {
         match self {
             Gap::SameLine => Gap::NextLine,
-            Gap::NextLine | Gap::BlankLine => Gap::BlankLine,
+            Gap::NextLine => Gap::BlankLines(1),
+            Gap::BlankLines(count) => Gap::BlankLines(count.saturating_add(1)),
         }
     }
 

@@ -1,6 +1,7 @@
 //! Formats TOML documents.
 #![tactic(auto)]
 
+mod aligned;
 mod compared;
 mod document;
 mod entries;

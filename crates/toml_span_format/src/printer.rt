@@ -1,4 +1,5 @@
 //! Prints items in their new layout.
+use crate::aligned::{Comments, aligned};
 use crate::items::{Form, Gap, Item, Kind, columns};
 use crate::options::Options;
 use std::alloc::{AllocError, Global};
@@ -26,7 +27,8 @@ struct Frame {
 
 /// The output so far, and the open arrays and inline tables. If an allocation fails, the output is dropped.
 #[derive(Drop)]
-struct Printer {
+struct Printer<'t> {
+    text: &'t str,
     out: String,
     options: Options,
     line_end: &'static str,
@@ -44,9 +46,21 @@ struct Printer {
     is_after_open: bool,
     is_after_equals: bool,
     is_after_comment: bool,
+    /// Whether the item is the last element of its array or inline table, and gets no comma.
+    is_last: bool,
+    /// The comments at the ends of lines, if they are to stay aligned.
+    comments: Comments,
 }
 
-impl Printer {
+/// Returns whether these items, which follow an element, have no other element of the same array or inline table.
+fn ends_list(items: &[Item<'_>]) -> bool {
+    match items.iter().find(|item| item.kind != Kind::Comment) {
+        Some(item) => item.kind == Kind::Close,
+        None => false,
+    }
+}
+
+impl Printer<'_> {
     /// Writes a line end.
     fn end_line(&mut self) -> Result<(), AllocError> {
         self.out.push_str(self.line_end)?;
@@ -55,14 +69,24 @@ impl Printer {
         Ok(())
     }
 
-    /// Ends the current line, and begins a new one with its indentation. For `BlankLine`, writes a blank line between
+    /// Writes blank lines, as many as the options allow.
+    fn blank_lines(&mut self, count: usize) -> Result<(), AllocError> {
+        self.comments.end_group();
+        for _ in 0..count.min(self.options.blank_lines).max(1) {
+            self.end_line()?;
+        }
+        Ok(())
+    }
+
+    /// Ends the current line, and begins a new one with its indentation. For `BlankLines`, writes blank lines between
     /// the two, unless the new line is the first inside an array or inline table. At the start of the output, no line
     /// is ended.
     fn begin_line(&mut self, gap: Gap) -> Result<(), AllocError> {
         if self.is_begun {
             self.end_line()?;
-            if gap == Gap::BlankLine && !self.is_after_open {
-                self.end_line()?;
+            match gap {
+                Gap::BlankLines(count) if !self.is_after_open => self.blank_lines(count)?,
+                _ => (),
             }
         }
         self.is_begun = true;
@@ -120,6 +144,9 @@ impl Printer {
 
     /// Ends an element of the innermost open array or inline table. Writes a comma if each element has its own line.
     fn end_element(&mut self) -> Result<(), AllocError> {
+        if self.is_last {
+            return Ok(());
+        }
         match self.open.last() {
             Some(
                 Frame {
@@ -136,6 +163,11 @@ impl Printer {
         if item.is_own_comment() {
             self.begin_line(item.gap)?;
         } else {
+            if self.options.aligns_comments {
+                let column = self.column().saturating_add(1);
+                self.comments
+                    .push(self.text, item.start, self.out.len(), column)?;
+            }
             self.out.push(' ')?;
         }
         self.is_after_comment = true;
@@ -250,16 +282,27 @@ impl Printer {
     }
 }
 
-/// Returns the text of all items in their new layout. The text begins with `mark`, a byte order mark or an empty
-/// string. Its lines end with `line_end`, except inside strings.
+/// Returns the byte order mark at the start of the text, or an empty string.
+fn mark_of(text: &str) -> &'static str {
+    if text.starts_with('\u{feff}') {
+        "\u{feff}"
+    } else {
+        ""
+    }
+}
+
+/// Returns the text of all items of the document `text` in their new layout. Its lines end with `line_end`, except
+/// inside strings. A byte order mark is kept.
 pub(crate) fn print(
     alloc: Global,
-    mark: &str,
+    text: &str,
     line_end: &'static str,
     items: &[Item<'_>],
     options: Options,
 ) -> Result<String, AllocError> {
+    let mark = mark_of(text);
     let mut printer = Printer {
+        text,
         out: String::from_str(alloc, mark)?,
         options,
         line_end,
@@ -271,12 +314,20 @@ pub(crate) fn print(
         is_after_open: false,
         is_after_equals: false,
         is_after_comment: false,
+        is_last: false,
+        comments: Comments::new(alloc),
     };
-    for item in items {
+    for (at, item) in items.iter().enumerate() {
+        if !options.has_trailing_comma && matches!(item.kind, Kind::Scalar | Kind::Close) {
+            printer.is_last = ends_list(items.get(at.saturating_add(1)..).unwrap_or(&[]));
+        }
         printer.item(item)?;
     }
     if printer.is_begun {
         printer.end_line()?;
+    }
+    if options.aligns_comments {
+        return aligned(alloc, printer.out.as_str(), &printer.comments);
     }
     Ok(printer.out)
 }

@@ -1,5 +1,6 @@
 //! Splits a document into items.
 use crate::items::{Form, Gap, Item, Kind, columns};
+use crate::options::Options;
 use std::alloc::{AllocError, Global};
 use toml_span_syntax::pieces::{Kind as PieceKind, Piece};
 
@@ -25,7 +26,8 @@ struct Frame {
     /// Whether a comma follows the last element.
     ends_in_comma: bool,
     has_comment: bool,
-    /// Whether the array or inline table directly contains a line end, or an inline table whose form is not `OneLine`.
+    /// Whether the array or inline table directly contains a line end or, unless line ends are kept, an inline table
+    /// whose form is not `OneLine`.
     has_line_end: bool,
     /// Whether an element, such as a string with a line end, takes more than one line in any layout.
     has_lines: bool,
@@ -46,12 +48,13 @@ impl Frame {
     /// Returns the form in which to write the array or inline table. An inline table without a line end
     /// (`has_line_end`), a comment or a trailing comma stays on one line, because TOML 1.0 allows no line ends in
     /// inline tables.
-    fn form(&self) -> Form {
-        if self.has_comment || self.ends_in_comma {
+    fn form(&self, options: Options) -> Form {
+        let keeps = options.keeps_lines;
+        if self.has_comment || self.ends_in_comma && options.has_trailing_comma && !keeps {
             Form::Lines
-        } else if self.is_table && !self.has_line_end {
+        } else if !self.has_line_end && (self.is_table || keeps) {
             Form::OneLine
-        } else if self.has_lines {
+        } else if self.has_lines || keeps && self.elements > 0 {
             Form::Lines
         } else {
             Form::IfFits(self.whole_width())
@@ -63,6 +66,7 @@ impl Frame {
 #[derive(Drop)]
 struct Reader<'t> {
     text: &'t str,
+    options: Options,
     items: Vec<Item<'t>>,
     open: Vec<Frame>,
     place: Place,
@@ -158,11 +162,11 @@ impl<'t> Reader<'t> {
                 None => false,
             };
             if let Some(first) = self.items.get_mut(at) {
-                if first.gap == Gap::BlankLine {
+                if matches!(first.gap, Gap::BlankLines(_)) {
                     break;
                 }
                 if !is_attached {
-                    first.gap = Gap::BlankLine;
+                    first.gap = Gap::BlankLines(1);
                     break;
                 }
             }
@@ -252,8 +256,9 @@ impl<'t> Reader<'t> {
     /// one. Also updates `has_line_end` and `has_lines` there. `form` is the form of `frame`.
     fn add_to_outer(&mut self, frame: &Frame, form: Form) {
         self.widen(frame.whole_width());
+        let keeps = self.options.keeps_lines;
         if let Some(outer) = self.open.last_mut() {
-            outer.has_line_end |= frame.is_table && form != Form::OneLine;
+            outer.has_line_end |= !keeps && frame.is_table && form != Form::OneLine;
             outer.has_lines |= frame.has_lines || form == Form::Lines;
         }
     }
@@ -268,7 +273,7 @@ impl<'t> Reader<'t> {
         let Some(frame) = self.open.pop() else {
             return Ok(());
         };
-        let form = frame.form();
+        let form = frame.form(self.options);
         if let Some(opening) = self.items.get_mut(frame.at) {
             opening.kind = if frame.is_table {
                 Kind::OpenTable(form)
@@ -375,9 +380,11 @@ pub(crate) fn items_of<'t>(
     alloc: Global,
     text: &'t str,
     pieces: &[Piece],
+    options: Options,
 ) -> Result<Vec<Item<'t>>, AllocError> {
     let mut reader = Reader {
         text,
+        options,
         items: Vec::new(alloc),
         open: Vec::new(alloc),
         place: Place::Line,

@@ -54,13 +54,14 @@ fn entries_in(
     entries_of(alloc, text, pieces, is_headed, statements.as_slice())
 }
 
-/// Returns whether a blank line, or a line end at the start of the text, precedes the entry at the position `at`.
-fn is_apart(entries: &[Entry], at: usize) -> bool {
+/// Returns the pieces of the blank lines before the entry at the position `at`.
+fn blank_lines_before<'p>(pieces: &'p [Piece], entries: &[Entry], at: usize) -> &'p [Piece] {
     let above = match at.checked_sub(1) {
         Some(above) => entries.get(above).map_or(0, |entry| entry.end),
         None => 0,
     };
-    entries.get(at).is_some_and(|entry| entry.first != above)
+    let first = entries.get(at).map_or(above, |entry| entry.first);
+    pieces.get(above..first).unwrap_or(&[])
 }
 
 /// Returns whether these pieces are comments, apart from blanks, line ends and commas.
@@ -88,7 +89,10 @@ fn ordered(
         let found = pieces.get(entry.first..entry.end).unwrap_or(&[]);
         let is_next_to_head = is_head && at > 0 && begins_with_comment(found);
         is_head = is_head && has_only_comments(found);
-        if entry.group == at && (is_apart(entries, at) || is_next_to_head && !is_head) {
+        let blank_lines = blank_lines_before(pieces, entries, at);
+        if entry.group == at && !blank_lines.is_empty() {
+            out.extend_from_slice(blank_lines)?;
+        } else if entry.group == at && is_next_to_head && !is_head {
             out.push(line_end)?;
         }
         out.extend_from_slice(found)?;
