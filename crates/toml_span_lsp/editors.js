@@ -34,7 +34,7 @@ async function run() {
   say("language", [language.id, language.extensions, manifest.activationEvents]);
   const document = editor.open(uri, readFileSync("a.toml", "utf8"), language.id);
   const diagnostics = await diagnosed(document, (list) => list && list.length);
-  say("diagnostics", diagnostics.map((it) => [place(it.range), it.severity, it.code]));
+  say("diagnostics", diagnostics.map((it) => [place(it.range), it.severity, it.code.value]));
   const context = { diagnostics, triggerKind: 1 };
   const [action] = await provide("CodeActions", "", document, editor.range(0, 0, 0, 12), context, never);
   const [[, edits]] = action.edit.files;

@@ -1,6 +1,6 @@
 // The client of `toml-span lsp` in Visual Studio Code, without other packages. Its parts, in order: values of the
 // protocol as those of VS Code, and back; messages; features; the life of the server.
-const { spawn } = require("child_process");
+const { execFile, spawn } = require("child_process");
 const { existsSync } = require("fs");
 const { homedir } = require("os");
 const { isAbsolute, join } = require("path");
@@ -40,8 +40,8 @@ function toMarkdown(content) {
 function toDiagnostic(it) {
   const severity = (it.severity || 1) - 1;
   const diagnostic = new vscode.Diagnostic(toRange(it.range), it.message, severity);
-  const page = it.codeDescription && it.codeDescription.href;
-  diagnostic.code = page ? { value: it.code, target: toUri(page) } : it.code;
+  const page = it.codeDescription ? it.codeDescription.href : `${SECTION}:${it.code}`;
+  diagnostic.code = it.code && { value: it.code, target: toUri(page) };
   diagnostic.source = it.source;
   diagnostic.tags = it.tags;
   if (it.relatedInformation) {
@@ -438,7 +438,10 @@ class Client {
     Object.assign(this, { context, endings: [], registered: new Map(), parts: [], work: Promise.resolve() });
     this.output = vscode.window.createOutputChannel("toml-span");
     this.diagnostics = vscode.languages.createDiagnosticCollection("toml-span");
-    context.subscriptions.push(this.output, this.diagnostics);
+    // (what the links of codes open)
+    const provider = { provideTextDocumentContent: ({ path }) => this.explanation(path) };
+    const pages = vscode.workspace.registerTextDocumentContentProvider(SECTION, provider);
+    context.subscriptions.push(this.output, this.diagnostics, pages);
   }
 
   log(text) {
@@ -452,6 +455,13 @@ class Client {
     const what = method || (error ? `error: ${error.message}` : "result");
     this.log(`${arrow} ${what}${id === undefined ? "" : ` (${id})`}`);
     if (level === "verbose") this.log(JSON.stringify(message, null, 2));
+  }
+
+  // Returns what the program says about a code.
+  explanation(code) {
+    return new Promise((done) => {
+      execFile(this.program, ["explain", code], (error, output) => done(error ? error.message : output));
+    });
   }
 
   // Starts the server. Shows a message if that is impossible.

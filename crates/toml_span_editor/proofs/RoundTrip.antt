@@ -5,7 +5,7 @@ use Rattle.std.specs.Prelude.{◌%◌, sum_by}
 use lib.Utf8.{encode}
 use Rattle.toml_span_editor.specs.Laws.{IsInsideLineEnd, PositionsReturn, code_units}
 use Rattle.toml_span_editor.specs.declared.positions.Encoding.{Encoding}
-use Rattle.toml_span_editor.specs.declared.positions.Encoding.TheVariants.{Utf8, Utf16}
+use Rattle.toml_span_editor.specs.declared.positions.Encoding.TheVariants.{Utf8, Utf16, Utf32}
 use Rattle.toml_span_editor.specs.declared.positions.Position.{Position}
 use Rattle.toml_span_editor.specs.Positions.{after, column, ends_line, first, largest, line_start, offset_of, plus, position_from, units}
 
@@ -32,10 +32,12 @@ total-more e j c b text ends =
 some_units : (e : Encoding) (b : ℕ) → (128 ≤ b → 192 ≤ b) → 0 < units e b
 some_units Utf8 b between = elim (cases_lt b 128) [ inl lt ↦ grind (arith, nat_tests) | inr ge ↦ let lead = between ge in grind (arith, nat_tests) ]
 some_units Utf16 b between = elim (cases_lt b 128) [ inl lt ↦ grind (arith, nat_tests) | inr ge ↦ let lead = between ge in grind (arith, nat_tests) ]
+some_units Utf32 b between = elim (cases_lt b 128) [ inl lt ↦ grind (arith, nat_tests) | inr ge ↦ let lead = between ge in grind (arith, nat_tests) ]
 
 few_units : (e : Encoding) (b : ℕ) → units e b ≤ 4
 few_units Utf8 b = grind (arith, nat_tests)
 few_units Utf16 b = grind (arith, nat_tests)
+few_units Utf32 b = grind (arith, nat_tests)
 
 -- a character begins at the front of the text, or it is empty
 column-none : (e : Encoding) (text : List ℕ) → (0 < length text → 128 ≤ get_or text 0 0 → 192 ≤ get_or text 0 0) → column e 0 text ≡ 0
@@ -197,6 +199,16 @@ units-encode Utf8 c small = elim (cases_lt c 128) [
   ]
 ]
 units-encode Utf16 c small = elim (cases_lt c 128) [
+  | inl one ↦ grind (arith, nat_tests, inside_none)
+  | inr more ↦ elim (cases_lt c 2048) [
+    | inl two ↦ grind (arith, nat_tests, inside_none)
+    | inr much ↦ elim (cases_lt c 65536) [
+      | inl three ↦ grind (arith, nat_tests, inside_none)
+      | inr four ↦ grind (arith, nat_tests, inside_none)
+    ]
+  ]
+]
+units-encode Utf32 c small = elim (cases_lt c 128) [
   | inl one ↦ grind (arith, nat_tests, inside_none)
   | inr more ↦ elim (cases_lt c 2048) [
     | inl two ↦ grind (arith, nat_tests, inside_none)

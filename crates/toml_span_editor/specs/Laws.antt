@@ -3,7 +3,7 @@ use Rattle.std.specs.Prelude.{◌≡◌, ℕ, suc, ◌<◌, ◌^◌, List, encod
 use Rattle.std.specs.Prelude.{if◌then◌else◌}
 use Rattle.std.specs.Str.{IsCharBoundary}
 use Rattle.toml_span_editor.specs.declared.positions.Encoding.{Encoding}
-use Rattle.toml_span_editor.specs.declared.positions.Encoding.TheVariants.{Utf8, Utf16}
+use Rattle.toml_span_editor.specs.declared.positions.Encoding.TheVariants.{Utf8, Utf16, Utf32}
 use Rattle.toml_span_editor.specs.Positions.{offset_of, position_of, units}
 
 -- The offset `at` is between CR and LF.
@@ -20,6 +20,7 @@ PositionsReturn = (encoding : Encoding) (text : List ℕ) (at : ℕ) → length 
 abbrev pub code_units : Encoding → ℕ → ℕ
 code_units Utf8 c = length (encode_utf8 c)
 code_units Utf16 c = if nat_lt c 65536 then 1 else 2
+code_units Utf32 c = 1
 
 -- The results of `units` for the bytes of a character add up to the number of the character's code units.
 abbrev pub CountsCharacters : Type 0

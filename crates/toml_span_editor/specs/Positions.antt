@@ -2,7 +2,7 @@
 use Rattle.std.specs.Prelude.{ℕ, zero, suc, ◌+◌, ◌-◌, min, Bool, ◌==◌, ◌&&◌, ◌||◌, not, nat_lt, List, [], ◌∷◌}
 use Rattle.std.specs.Prelude.{drop, slice_index, if◌then◌else◌}
 use Rattle.toml_span_editor.specs.declared.positions.Encoding.{Encoding}
-use Rattle.toml_span_editor.specs.declared.positions.Encoding.TheVariants.{Utf8, Utf16}
+use Rattle.toml_span_editor.specs.declared.positions.Encoding.TheVariants.{Utf8, Utf16, Utf32}
 use Rattle.toml_span_editor.specs.declared.positions.Position.{Position}
 use Rattle.toml_span_editor.specs.declared.positions.Range.{Range}
 use Rattle.toml_span_lex.specs.declared.span.Span.{Span}
@@ -14,11 +14,12 @@ largest = 2147483647
 abbrev pub plus : ℕ → ℕ → ℕ
 plus n k = min (n + k) largest
 
--- the number of code units (bytes or UTF-16 units) of a character that has several bytes in UTF-8 and begins with
--- `byte`
+-- the number of code units (bytes, UTF-16 units or characters) of a character that has several bytes in UTF-8 and begins
+-- with `byte`
 abbrev pub wide_units : Encoding → ℕ → ℕ
 wide_units Utf8 byte = if nat_lt byte 224 then 2 else if nat_lt byte 240 then 3 else 4
 wide_units Utf16 byte = if nat_lt byte 240 then 1 else 2
+wide_units Utf32 byte = 1
 
 -- the number of code units of the character that begins with `byte` in a UTF-8 text; 0 for a byte inside a character
 abbrev pub units : Encoding → ℕ → ℕ

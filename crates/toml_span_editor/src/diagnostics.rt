@@ -23,6 +23,12 @@ use toml_span_lex::span::Span;
 use toml_span_report::{Report, Severity};
 use toml_span_tree::Label;
 
+/// The code of the error that a key is written twice.
+const DUPLICATE_KEY: &str = "duplicate-key";
+
+/// The code of the error that a key is missing which a schema requires.
+const REQUIRED: &str = "schema-required";
+
 /// A range of the text with a message that explains a diagnostic.
 #[derive(Drop)]
 pub struct Related {
@@ -50,8 +56,8 @@ pub struct Repair {
     /// What the repair does: the first help of the report or, without help, the report's message. "did you mean `a`?"
     /// becomes "write `a`". For a duplicate key, the title is "remove this duplicate key".
     pub title: String,
-    /// The index of the repaired diagnostic in the list that `diagnostics` returns.
-    pub diagnostic_index: usize,
+    /// The repaired diagnostic.
+    pub diagnostic: Diagnostic,
     pub edits: Vec<Edit>,
     pub is_safe: bool,
 }
@@ -176,6 +182,8 @@ fn diagnostics_of(
 #[derive(Drop)]
 pub struct Diagnosed {
     pub diagnostics: Vec<Diagnostic>,
+    /// The reports of which these are the diagnostics.
+    pub reports: Vec<Report>,
     /// Error lines that say why the text can't be checked against its schema. Empty if it can, if it has no schema, or
     /// if it is not valid TOML.
     pub complaint: String,
@@ -253,6 +261,7 @@ pub fn diagnostics<S: Schemas>(
     let found = text_reports(alloc, version, chooser, name, table.text, schemas)?;
     Ok(Diagnosed {
         diagnostics: diagnostics_of(alloc, table, found.reports.as_slice())?,
+        reports: found.reports,
         complaint: found.complaint,
     })
 }
@@ -280,66 +289,90 @@ fn title_of(alloc: Global, help: &str) -> Result<String, AllocError> {
     }
 }
 
-/// Returns the repair for a report. For a duplicate key, returns the result of `without_duplicate`. For another report,
-/// the repair makes the replacements of the report. It is `None` if there are no replacements, or if they don't fit the
-/// text. `index` is the position of `report` among the `count` reports on the text.
-fn repair_of(
-    alloc: Global,
-    text: &str,
-    count: usize,
-    index: usize,
-    report: &Report,
-) -> Result<Option<Repair>, AllocError> {
-    if report.code.as_str() == "duplicate-key" {
+/// Returns the edits that repair a report, or `None` if there are none. For a duplicate key, they are those of
+/// `without_duplicate`. For another report, they make the replacements of the report, if these fit the text.
+fn repairing(alloc: Global, text: &str, report: &Report) -> Result<Option<Vec<Edit>>, AllocError> {
+    if report.code.as_str() == DUPLICATE_KEY {
         let place = main_span(report.labels.as_slice()).start;
-        return without_duplicate(alloc, text, place, index, count);
+        return without_duplicate(alloc, text, place);
     }
     let edits = edits_of(alloc, report)?;
     if edits.is_empty() || edited(alloc, text, edits.as_slice())?.is_none() {
         return Ok(None);
     }
-    let title = match report.help.first() {
-        Some(help) => help.as_str(),
-        None => report.message.as_str(),
+    Ok(Some(edits))
+}
+
+/// Returns the title of the repair of a report.
+fn repair_title(alloc: Global, report: &Report) -> Result<String, AllocError> {
+    if report.code.as_str() == DUPLICATE_KEY {
+        return String::from_str(alloc, "remove this duplicate key");
+    }
+    match report.help.first() {
+        Some(help) => title_of(alloc, help.as_str()),
+        None => title_of(alloc, report.message.as_str()),
+    }
+}
+
+/// Returns the repair for a report on the text of `table`, or `None` if there is none (see `repairing`).
+fn repair_of(
+    alloc: Global,
+    table: &PositionTable<'_>,
+    report: &Report,
+) -> Result<Option<Repair>, AllocError> {
+    let Some(edits) = repairing(alloc, table.text, report)? else {
+        return Ok(None);
     };
+    let is_certain = report.code.as_str() != DUPLICATE_KEY;
     Ok(Some(Repair {
-        title: title_of(alloc, title)?,
-        diagnostic_index: index,
+        title: repair_title(alloc, report)?,
+        diagnostic: diagnostic_of(alloc, table, report)?,
         edits,
-        is_safe: report.replacements.iter().all(|one| one.is_safe),
+        is_safe: is_certain && report.replacements.iter().all(|one| one.is_safe),
     }))
 }
 
-/// Returns the repairs of the diagnostics whose ranges touch `span`, in the order of `diagnostics`. `document` is the
-/// result of `read` for `text`: `None` if the text is not valid TOML. Leaves out repairs whose edits don't fit the
-/// text. Fails if an allocation fails.
-pub fn repairs<S: Schemas>(
+/// Returns the repairs of the diagnostics whose ranges touch `span`, in the order of `diagnostics`. `reports` are the
+/// reports on the text of `table`, as `diagnostics` returns them. Leaves out repairs whose edits don't fit the text.
+/// Fails if an allocation fails.
+pub fn repairs(
     alloc: Global,
-    text: &str,
-    document: Option<&Document<'_>>,
-    version: Version,
-    chooser: Chooser,
-    name: &str,
-    schemas: &mut S,
+    table: &PositionTable<'_>,
+    reports: &[Report],
     span: Span,
 ) -> Result<Vec<Repair>, AllocError> {
-    let reports = match document {
-        None => check(alloc, text)?,
-        Some(document) => {
-            let root = &document.root;
-            document_reports(alloc, version, chooser, name, text, root, schemas)?.reports
-        }
-    };
     let mut found = Vec::new(alloc);
-    for (index, report) in reports.iter().enumerate() {
+    for report in reports {
         let place = main_span(report.labels.as_slice());
         if touches(place, span.start) || touches(span, place.start) {
-            if let Some(repair) = repair_of(alloc, text, reports.len(), index, report)? {
+            if let Some(repair) = repair_of(alloc, table, report)? {
                 found.push(repair)?;
             }
         }
     }
     Ok(found)
+}
+
+/// Returns the diagnostic that the key `name` is missing in the table at `span`, if there is one. `reports` are as for
+/// `repairs`. Fails if an allocation fails.
+pub fn missing_key(
+    alloc: Global,
+    table: &PositionTable<'_>,
+    reports: &[Report],
+    name: &str,
+    span: Span,
+) -> Result<Option<Diagnostic>, AllocError> {
+    let message = format!(in alloc; "missing key `{name}`")?;
+    for report in reports {
+        let place = main_span(report.labels.as_slice());
+        let is_here = touches(place, span.start) || touches(span, place.start);
+        let is_missing = report.code.as_str() == REQUIRED
+            && report.message.as_str().starts_with(message.as_str());
+        if is_here && is_missing {
+            return Ok(Some(diagnostic_of(alloc, table, report)?));
+        }
+    }
+    Ok(None)
 }
 
 /// Returns edits that repair a text as `toml-span check --fix` does: they fix errors (see `with_fixes`), and then

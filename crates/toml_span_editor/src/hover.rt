@@ -2,7 +2,7 @@
 use crate::document::Document;
 use crate::keys::{key_at, value_of};
 use crate::paths::{dotted, pointer};
-use crate::schemas::{documentation, subschemas_at};
+use crate::schemas::{choices, description, subschemas_at};
 use std::alloc::{AllocError, Global};
 use std::fmt::Write;
 use toml_span::Value;
@@ -140,43 +140,54 @@ fn push_details(value: &Value<'_>, literal: &str, out: &mut String) -> Result<()
     push_names(value, out)
 }
 
-/// Appends a blank line and the documentation in the schema `guide` for the value at `path`. Appends nothing if the
-/// schema has no documentation for it.
-fn push_said(
-    alloc: Global,
-    guide: &Guide,
-    root: &Value<'_>,
-    path: &[Step<'_>],
-    out: &mut String,
-) -> Result<(), AllocError> {
-    let found = subschemas_at(alloc, guide, root, path)?;
-    let said = documentation(alloc, guide, &found)?;
-    if !said.is_empty() {
+/// Appends a paragraph, after a blank line if it is not the first. Appends nothing if `text` is empty.
+fn push_paragraph(out: &mut String, text: &str) -> Result<(), AllocError> {
+    if !out.is_empty() && !text.is_empty() {
         out.push_str("\n\n")?;
-        out.push_str(said.as_str())?;
     }
-    Ok(())
+    out.push_str(text)
 }
 
-/// Returns a description of `value` in Markdown: its `path`, its kind, and the details that `push_details` appends.
-/// `text` is the source of the document.
-fn described(
+/// Appends the `path` and the kind of `value`, and the details that `push_details` appends. `text` is the source of the
+/// document.
+fn push_value(
     alloc: Global,
     text: &str,
     path: &[Step<'_>],
     value: &Value<'_>,
-) -> Result<String, AllocError> {
+    out: &mut String,
+) -> Result<(), AllocError> {
     let kind = value.type_str();
     let key = dotted(alloc, path)?;
     let pointer = pointer(alloc, path)?;
-    let mut out = format!(in alloc; "`{key}`: {kind}\n\n`{pointer}`")?;
+    let head = format!(in alloc; "`{key}`: {kind}\n\n`{pointer}`")?;
+    push_paragraph(out, head.as_str())?;
     let span = literal_span(text, value);
     let mut details = String::new(alloc);
     push_details(value, part(text, span.start, span.end), &mut details)?;
-    if !details.is_empty() {
-        out.push_str("\n\n")?;
-        out.push_str(details.as_str())?;
-    }
+    push_paragraph(out, details.as_str())
+}
+
+/// Returns a description of `value` in Markdown: what the schema `guide` says about it, its path, its kind, its
+/// details, and the values that the schema suggests.
+fn described(
+    alloc: Global,
+    document: &Document<'_>,
+    guide: Option<&Guide>,
+    path: &[Step<'_>],
+    value: &Value<'_>,
+) -> Result<String, AllocError> {
+    let mut out = String::new(alloc);
+    let Some(guide) = guide else {
+        push_value(alloc, document.text, path, value, &mut out)?;
+        return Ok(out);
+    };
+    let found = subschemas_at(alloc, guide, &document.root, path)?;
+    let said = description(alloc, guide, &found)?;
+    let choices = choices(alloc, guide, &found)?;
+    push_paragraph(&mut out, said.as_str())?;
+    push_value(alloc, document.text, path, value, &mut out)?;
+    push_paragraph(&mut out, choices.as_str())?;
     Ok(out)
 }
 
@@ -195,19 +206,16 @@ fn key_hover(
     let Some(value) = value_of(&document.root, path) else {
         return Ok(None);
     };
-    let mut text = described(alloc, document.text, path, value)?;
-    if let Some(known) = guide {
-        push_said(alloc, known, &document.root, path, &mut text)?;
-    }
     Ok(Some(Hover {
         span: key.whole,
-        text,
+        text: described(alloc, document, guide, path, value)?,
     }))
 }
 
-/// Describes the key or value at the byte offset `at`: its path and kind, the decimal value of an integer, a date (in
-/// words) or time, the size of a string or array, the keys of a table, and the documentation in the schema `guide`.
-/// Returns `None` if neither a key nor a value other than a table is at `at`. Fails if an allocation fails.
+/// Describes the key or value at the byte offset `at`: what the schema `guide` says about it, its path and kind, the
+/// decimal value of an integer, a date (in words) or time, the size of a string or array, the keys of a table, and the
+/// values that the schema suggests. Returns `None` if neither a key nor a value other than a table is at `at`. Fails if
+/// an allocation fails.
 pub fn hover_at(
     alloc: Global,
     document: &Document<'_>,
@@ -224,12 +232,8 @@ pub fn hover_at(
         return Ok(None);
     }
     let path = place.path.as_slice();
-    let mut text = described(alloc, document.text, path, place.value)?;
-    if let Some(known) = guide {
-        push_said(alloc, known, &document.root, path, &mut text)?;
-    }
     Ok(Some(Hover {
         span: place.span,
-        text,
+        text: described(alloc, document, guide, path, place.value)?,
     }))
 }

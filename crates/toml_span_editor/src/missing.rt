@@ -19,6 +19,10 @@ use toml_span_schema::{Guide, Kinds, Subschemas};
 pub struct Insertion {
     /// What the edits do, such as "insert `port = 80`".
     pub title: String,
+    /// The name of the key.
+    pub name: String,
+    /// The span of the table's header, dotted key or braces, or the start of the text for the root.
+    pub place: Span,
     pub edits: Vec<Edit>,
 }
 
@@ -85,12 +89,14 @@ fn edits_for<'d>(
     }
 }
 
-/// Appends an insertion for each key that `guide` requires in the table at `path`, and that is missing there.
+/// Appends an insertion for each key that `guide` requires in the table at `path`, and that is missing there. `place`
+/// is as in `Insertion`.
 fn push_insertions(
     alloc: Global,
     guide: &Guide,
     document: &Document<'_>,
     path: &[Step<'_>],
+    place: Span,
     found: &mut Vec<Insertion>,
 ) -> Result<(), AllocError> {
     let table = subschemas_at(alloc, guide, &document.root, path)?;
@@ -105,6 +111,8 @@ fn push_insertions(
             let key = quote_key(alloc, name)?;
             found.push(Insertion {
                 title: format!(in alloc; "insert `{key} = {new}`")?,
+                name: String::from_str(alloc, name)?,
+                place,
                 edits,
             })?;
         }
@@ -130,7 +138,8 @@ pub fn insertions(
         };
         let is_here = touches(place, span.start) || touches(span, place.start);
         if is_here && node.value.as_table().is_some() {
-            push_insertions(alloc, guide, document, node.path.as_slice(), &mut found)?;
+            let path = node.path.as_slice();
+            push_insertions(alloc, guide, document, path, place, &mut found)?;
         }
     }
     Ok(found)

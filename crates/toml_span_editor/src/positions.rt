@@ -8,6 +8,8 @@ ghost use Rattle.toml_span_editor.specs.Positions as spec;
 pub enum Encoding {
     Utf8,
     Utf16,
+    /// Each character counts as one.
+    Utf32,
 }
 
 /// A position in a text: a line, and a number of code units from the start of the line, both counted from 0.
@@ -58,6 +60,7 @@ fn wide_units(encoding: Encoding, byte: u8) -> usize
         (Encoding::Utf8, _) => 4,
         (Encoding::Utf16, 0..=239) => 1,
         (Encoding::Utf16, _) => 2,
+        (Encoding::Utf32, _) => 1,
     }
 }
 

@@ -125,25 +125,69 @@ fn joined(alloc: Global, paragraphs: &[String]) -> Result<String, AllocError> {
     Ok(out)
 }
 
-/// Returns the documentation of a value in Markdown, from the subschemas `found` for the value: `Deprecated.` if one of
-/// them is deprecated, their titles and descriptions, the default, and the values of `enum` and `const`. The text is
-/// empty if the subschemas have none of these.
+/// Appends `Deprecated.` if one of the subschemas `found` is deprecated, and their titles and descriptions.
+fn push_description(
+    alloc: Global,
+    guide: &Guide,
+    found: &Subschemas,
+    paragraphs: &mut Vec<String>,
+) -> Result<(), AllocError> {
+    if is_deprecated(alloc, guide, found)? {
+        push_paragraph(paragraphs, String::from_str(alloc, "Deprecated.")?)?;
+    }
+    for note in guide.notes_of(alloc, found)? {
+        push_text(alloc, note, paragraphs)?;
+    }
+    Ok(())
+}
+
+/// Appends the default, and the values of `enum` and `const`, of the subschemas `found`.
+fn push_choices(
+    alloc: Global,
+    guide: &Guide,
+    found: &Subschemas,
+    paragraphs: &mut Vec<String>,
+) -> Result<(), AllocError> {
+    if let Some(default) = default_of(alloc, guide, found)? {
+        push_paragraph(paragraphs, format!(in alloc; "Default: `{default}`")?)?;
+    }
+    let values = listed_values(alloc, guide, found)?;
+    push_paragraph(paragraphs, values_line(alloc, values.as_slice())?)
+}
+
+/// Returns what the subschemas `found` say about a value, in Markdown: `Deprecated.` if one of them is deprecated, and
+/// their titles and descriptions. The text is empty if they have none of these.
+pub(crate) fn description(
+    alloc: Global,
+    guide: &Guide,
+    found: &Subschemas,
+) -> Result<String, AllocError> {
+    let mut paragraphs = Vec::new(alloc);
+    push_description(alloc, guide, found, &mut paragraphs)?;
+    joined(alloc, paragraphs.as_slice())
+}
+
+/// Returns the values that the subschemas `found` suggest, in Markdown: the default, and the values of `enum` and
+/// `const`. The text is empty if they suggest none.
+pub(crate) fn choices(
+    alloc: Global,
+    guide: &Guide,
+    found: &Subschemas,
+) -> Result<String, AllocError> {
+    let mut paragraphs = Vec::new(alloc);
+    push_choices(alloc, guide, found, &mut paragraphs)?;
+    joined(alloc, paragraphs.as_slice())
+}
+
+/// Returns the documentation of a value in Markdown, from the subschemas `found` for the value: the result of
+/// `description`, followed by that of `choices`.
 pub(crate) fn documentation(
     alloc: Global,
     guide: &Guide,
     found: &Subschemas,
 ) -> Result<String, AllocError> {
     let mut paragraphs = Vec::new(alloc);
-    if is_deprecated(alloc, guide, found)? {
-        push_paragraph(&mut paragraphs, String::from_str(alloc, "Deprecated.")?)?;
-    }
-    for note in guide.notes_of(alloc, found)? {
-        push_text(alloc, note, &mut paragraphs)?;
-    }
-    if let Some(default) = default_of(alloc, guide, found)? {
-        push_paragraph(&mut paragraphs, format!(in alloc; "Default: `{default}`")?)?;
-    }
-    let values = listed_values(alloc, guide, found)?;
-    push_paragraph(&mut paragraphs, values_line(alloc, values.as_slice())?)?;
+    push_description(alloc, guide, found, &mut paragraphs)?;
+    push_choices(alloc, guide, found, &mut paragraphs)?;
     joined(alloc, paragraphs.as_slice())
 }

@@ -2,16 +2,20 @@
 use crate::incoming::{member, range_of};
 use crate::methods::Request;
 use crate::outgoing::{Json, write_workspace_edit};
+use crate::publish::{check_once, write_diagnostic};
+use crate::state::{Open, State};
 use json::Value;
 use std::alloc::AllocError;
 use toml_span_editor::conversions::{OFFERS, converting};
-use toml_span_editor::diagnostics::{all_repairs, repairs};
-use toml_span_editor::document::{Document, read};
+use toml_span_editor::diagnostics::{Diagnostic, all_repairs, missing_key, repairs};
+use toml_span_editor::document::Document;
 use toml_span_editor::edits::Edit;
 use toml_span_editor::missing::insertions;
 use toml_span_editor::positions::offset_at;
 use toml_span_lex::span::Span;
 use toml_span_lookup::lookup::Lookup;
+use toml_span_report::Report;
+use toml_span_schema::Guide;
 
 /// The kind of an action that repairs one diagnostic.
 const QUICK_FIX: &str = "quickfix";
@@ -21,6 +25,9 @@ const FIX_ALL: &str = "source.fixAll";
 
 /// The kind of an action that converts a table or an array to another form.
 const REWRITE: &str = "refactor.rewrite";
+
+/// The number for a request for actions that the user did not make (LSP 3.17, CodeActionTriggerKind).
+const AUTOMATIC: u64 = 2;
 
 /// Returns whether the kind of action `kind` is `wanted` or a sub-kind of `wanted`, as `source.fixAll` is a sub-kind of
 /// `source`. Every kind is a sub-kind of the empty kind.
@@ -42,11 +49,21 @@ fn is_wanted(params: &Value<'_>, kind: &str) -> bool {
     }
 }
 
-/// Writes an action of this kind that makes these edits.
+/// Returns whether a client wants conversions: actions of the kind `REWRITE`, unless the client asks on its own, for
+/// example since the cursor has moved, and lists no kinds.
+fn wants_conversions(params: &Value<'_>) -> bool {
+    let trigger = member(params, &["context", "triggerKind"]);
+    let is_automatic = trigger.and_then(|kind| kind.as_u64()) == Some(AUTOMATIC);
+    let lists_kinds = member(params, &["context", "only"]).is_some();
+    is_wanted(params, REWRITE) && (lists_kinds || !is_automatic)
+}
+
+/// Writes an action of this kind that makes these edits. If the edits repair a diagnostic, names the diagnostic.
 fn write_action(
     request: &Request<'_, '_, '_>,
     title: &str,
     kind: &str,
+    repaired: Option<&Diagnostic>,
     is_preferred: bool,
     edits: &[Edit],
     out: &mut Json,
@@ -54,9 +71,14 @@ fn write_action(
     out.begin_object();
     out.text("title", title);
     out.text("kind", kind);
+    if let Some(diagnostic) = repaired {
+        out.array("diagnostics");
+        write_diagnostic(out, request.client, request.uri, diagnostic);
+        out.end_array();
+    }
     out.flag("isPreferred", is_preferred);
     out.key("edit");
-    write_workspace_edit(out, request.uri, request.table, edits);
+    write_workspace_edit(request, edits, out);
     out.end_object();
 }
 
@@ -69,105 +91,143 @@ fn write_conversions(
 ) -> Result<(), AllocError> {
     for offer in &OFFERS {
         if let Some(made) = converting(request.alloc, document, offer.conversion, at)? {
-            write_action(
-                request,
-                offer.title,
-                REWRITE,
-                false,
-                made.edits.as_slice(),
-                out,
-            );
+            let edits = made.edits.as_slice();
+            write_action(request, offer.title, REWRITE, None, false, edits, out);
         }
     }
     Ok(())
 }
 
-/// Writes an action for each repair of a diagnostic that touches `span`. `document` is the result of `read` for the
-/// text.
+/// Writes an action for each repair of one of `reports` that touches `span`.
 fn write_repairs(
     request: &Request<'_, '_, '_>,
-    document: Option<&Document<'_>>,
-    lookup: &mut Lookup,
+    reports: &[Report],
     span: Span,
     out: &mut Json,
 ) -> Result<(), AllocError> {
-    let found = repairs(
-        request.alloc,
-        request.table.text,
-        document,
-        request.settings.version,
-        lookup.chooser(),
-        request.name,
-        lookup,
-        span,
-    )?;
-    for repair in &found {
+    for repair in &repairs(request.alloc, request.table, reports, span)? {
         let title = repair.title.as_str();
-        let edits = repair.edits.as_slice();
-        write_action(request, title, QUICK_FIX, repair.is_safe, edits, out);
+        let (diagnostic, edits) = (&repair.diagnostic, repair.edits.as_slice());
+        write_action(
+            request,
+            title,
+            QUICK_FIX,
+            Some(diagnostic),
+            repair.is_safe,
+            edits,
+            out,
+        );
     }
     Ok(())
 }
 
-/// Writes an action for each missing key of a table at `span` that the document's schema requires.
+/// Writes an action for each missing key of a table at `span` that the document's schema requires. `reports` are those
+/// on the document.
 fn write_insertions(
     request: &Request<'_, '_, '_>,
     document: &Document<'_>,
+    guide: &Guide,
+    reports: &[Report],
+    span: Span,
+    out: &mut Json,
+) -> Result<(), AllocError> {
+    let (alloc, table) = (request.alloc, request.table);
+    for made in &insertions(alloc, guide, document, span)? {
+        let found = missing_key(alloc, table, reports, made.name.as_str(), made.place)?;
+        let (title, edits) = (made.title.as_str(), made.edits.as_slice());
+        write_action(request, title, QUICK_FIX, found.as_ref(), false, edits, out);
+    }
+    Ok(())
+}
+
+/// Writes an action for each repair of one of `reports` that touches `span`, and one for each missing key of a table
+/// there. `guide` is the document's schema.
+fn write_quick_fixes(
+    request: &Request<'_, '_, '_>,
+    document: Option<&Document<'_>>,
+    guide: Option<&Guide>,
+    reports: &[Report],
+    span: Span,
+    out: &mut Json,
+) -> Result<(), AllocError> {
+    write_repairs(request, reports, span, out)?;
+    if let (Some(document), Some(guide)) = (document, guide) {
+        if reports.iter().any(|report| is_of_schema(report)) {
+            write_insertions(request, document, guide, reports, span, out)?;
+        }
+    }
+    Ok(())
+}
+
+/// Writes an action that makes the edits of `all_repairs`, if there are any. `document` is `None` if the text has
+/// errors, and `name` is the path of the document.
+fn write_fix_all(
+    request: &Request<'_, '_, '_>,
+    document: Option<&Document<'_>>,
+    name: &str,
+    out: &mut Json,
+) -> Result<(), AllocError> {
+    let (text, version) = (request.table.text, request.settings.version);
+    let edits = all_repairs(request.alloc, text, document, version, name)?;
+    if !edits.is_empty() {
+        let title = "Apply all safe fixes";
+        write_action(request, title, FIX_ALL, None, false, edits.as_slice(), out);
+    }
+    Ok(())
+}
+
+/// Returns whether a report comes from a schema.
+fn is_of_schema(report: &Report) -> bool {
+    report.code.as_str().starts_with("schema")
+}
+
+/// Writes an action for each repair of a diagnostic of the open document that touches `span`, one for each missing key
+/// of a table there, and one with the edits of `all_repairs`. Leaves out kinds that the client does not want.
+fn write_fixes(
+    request: &Request<'_, '_, '_>,
+    document: Option<&Document<'_>>,
+    open: &Open,
     lookup: &Lookup,
     span: Span,
     out: &mut Json,
 ) -> Result<(), AllocError> {
-    let (alloc, text) = (request.alloc, request.table.text);
-    let Some(guide) = lookup.guide_of(alloc, request.name, text)? else {
-        return Ok(());
+    let reports = match &open.reports {
+        Some(reports) => reports.as_slice(),
+        None => &[],
     };
-    for made in &insertions(alloc, guide, document, span)? {
-        let edits = made.edits.as_slice();
-        write_action(request, made.title.as_str(), QUICK_FIX, false, edits, out);
+    if is_wanted(request.params, QUICK_FIX) {
+        let (name, text) = (open.name.as_str(), open.text.as_str());
+        let guide = lookup.guide_of(request.alloc, name, text)?;
+        write_quick_fixes(request, document, guide, reports, span, out)?;
+    }
+    if is_wanted(request.params, FIX_ALL) && reports.iter().any(|report| !is_of_schema(report)) {
+        write_fix_all(request, document, open.name.as_str(), out)?;
     }
     Ok(())
 }
 
-/// Writes an action that makes the edits of `all_repairs`, if there are any. `document` is the result of `read` for the
-/// text.
-fn write_fix_all(
-    request: &Request<'_, '_, '_>,
-    document: Option<&Document<'_>>,
-    out: &mut Json,
-) -> Result<(), AllocError> {
-    let (text, version) = (request.table.text, request.settings.version);
-    let edits = all_repairs(request.alloc, text, document, version, request.name)?;
-    if !edits.is_empty() {
-        let title = "Apply all safe fixes";
-        write_action(request, title, FIX_ALL, false, edits.as_slice(), out);
-    }
-    Ok(())
-}
-
-/// Writes a list of actions: one for each repair of a diagnostic that touches `span`, one for each missing key of a
-/// table there, one with the edits of `all_repairs`, and one for each possible conversion of the table or array at the
-/// start of `span`. Leaves out kinds that the client does not want. Reads no files.
+/// Writes a list of actions: the fixes of `write_fixes`, and if the client wants them (see `wants_conversions`), one
+/// for each possible conversion of the table or array at the start of `span`. `document` is `None` if the text has
+/// errors. Writes none for a client that only supports commands. Checks the document unless it has been checked. Reads
+/// no files.
 pub(crate) fn write_actions(
     request: &Request<'_, '_, '_>,
-    lookup: &mut Lookup,
+    document: Option<&Document<'_>>,
+    state: &mut State,
     span: Span,
     out: &mut Json,
 ) -> Result<(), AllocError> {
-    let document = read(request.alloc, request.table.text)?;
-    let document = document.as_ref();
     out.begin_array();
-    if is_wanted(request.params, QUICK_FIX) {
-        write_repairs(request, document, lookup, span, out)?;
-        if let Some(document) = document {
-            write_insertions(request, document, lookup, span, out)?;
+    if request.client.has_literals {
+        check_once(request.alloc, state, request.uri)?;
+        if let Some(open) = state.documents.get(request.uri) {
+            let lookup = &state.folders.folder_of(open.name.as_str()).lookup;
+            write_fixes(request, document, open, lookup, span, out)?;
         }
-    }
-    if is_wanted(request.params, FIX_ALL) {
-        write_fix_all(request, document, out)?;
-    }
-    if let Some(document) = document {
-        if is_wanted(request.params, REWRITE) {
-            write_conversions(request, document, span.start, out)?;
+        if let Some(document) = document {
+            if wants_conversions(request.params) {
+                write_conversions(request, document, span.start, out)?;
+            }
         }
     }
     out.end_array();

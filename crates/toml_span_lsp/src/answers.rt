@@ -1,6 +1,6 @@
 //! Writes answers about a position in a document: definitions, hovers and completion items.
 use crate::methods::Request;
-use crate::outgoing::{Json, write_location};
+use crate::outgoing::{Json, write_location, write_markup};
 use crate::suggested::write_items;
 use std::alloc::AllocError;
 use toml_span_editor::completion::completion_at;
@@ -37,10 +37,9 @@ pub(crate) fn write_hover(
         return Ok(());
     };
     out.begin_object();
-    out.object("contents");
-    out.text("kind", "markdown");
-    out.text("value", found.text.as_str());
-    out.end_object();
+    out.key("contents");
+    let is_markdown = request.client.has_markdown_hovers;
+    write_markup(request.alloc, found.text.as_str(), is_markdown, out)?;
     out.range("range", request.table.range(found.span));
     out.end_object();
     Ok(())

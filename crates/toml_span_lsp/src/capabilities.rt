@@ -1,9 +1,10 @@
 //! Answers `initialize`: stores the capabilities of the client, and writes those of the server.
 use crate::configuration::{settings_in, use_settings};
+use crate::folders::{folder_path, push_paths};
 use crate::incoming::{member, text_in};
 use crate::outgoing::Json;
+use crate::settings::AllSettings;
 use crate::state::{Client, State};
-use crate::uris::path_of_uri;
 use json::Value;
 use std::alloc::{AllocError, Global};
 use toml_span_editor::positions::Encoding;
@@ -27,96 +28,119 @@ const VERSION: &str = "0.7.2";
 /// The types of semantic tokens, in the order of their numbers.
 const TOKEN_TYPES: [&str; 6] = ["comment", "type", "property", "string", "number", "keyword"];
 
-/// Returns whether the client offers positions in UTF-8 code units. `params` are the parameters of `initialize`.
-fn offers_utf8(params: &Value<'_>) -> bool {
-    match member(params, &["capabilities", "general", "positionEncodings"]) {
-        Some(Value::Array(names)) => names.iter().any(|name| name.as_str() == Some("utf-8")),
+/// Returns the capability of the client at the path `names`, or `None` if the client does not announce it. `params` are
+/// the parameters of `initialize`.
+fn capability<'v, 'j>(params: &'v Value<'j>, names: &[&str]) -> Option<&'v Value<'j>> {
+    member(params.get("capabilities")?, names)
+}
+
+/// Returns whether the capability at the path `names` is `true`. `params` are the parameters of `initialize`.
+fn can(params: &Value<'_>, names: &[&str]) -> bool {
+    capability(params, names).and_then(|said| said.as_bool()) == Some(true)
+}
+
+/// Returns whether the client announces the capability at the path `names`. `params` are the parameters of
+/// `initialize`.
+fn has(params: &Value<'_>, names: &[&str]) -> bool {
+    capability(params, names).is_some()
+}
+
+/// Returns whether the capability at the path `names` is a list with the element `wanted`. `params` are the parameters
+/// of `initialize`.
+fn offers(params: &Value<'_>, names: &[&str], wanted: &str) -> bool {
+    match capability(params, names) {
+        Some(Value::Array(items)) => items.iter().any(|item| item.as_str() == Some(wanted)),
         _ => false,
     }
 }
 
-/// Returns whether the client has a capability: whether the member at the path `names` in `params.capabilities` is
-/// `true`. `params` are the parameters of `initialize`.
-fn can(params: &Value<'_>, names: &[&str]) -> bool {
-    let said = params
-        .get("capabilities")
-        .and_then(|said| member(said, names));
-    said.and_then(|said| said.as_bool()) == Some(true)
+/// Stores in `client` what the client can do with answers about a document, from the parameters of `initialize`.
+fn store_document_capabilities(params: &Value<'_>, client: &mut Client) {
+    let item = &[
+        "textDocument",
+        "completion",
+        "completionItem",
+        "snippetSupport",
+    ];
+    client.has_snippets = can(params, item);
+    let literals = &["textDocument", "codeAction", "codeActionLiteralSupport"];
+    client.has_literals = has(params, literals);
+    let hovers = &["textDocument", "hover", "contentFormat"];
+    client.has_markdown_hovers = offers(params, hovers, "markdown");
+    let items = &[
+        "textDocument",
+        "completion",
+        "completionItem",
+        "documentationFormat",
+    ];
+    client.has_markdown_items = offers(params, items, "markdown");
+    let nested = &[
+        "textDocument",
+        "documentSymbol",
+        "hierarchicalDocumentSymbolSupport",
+    ];
+    client.has_nested_symbols = can(params, nested);
+    let related = &["textDocument", "publishDiagnostics", "relatedInformation"];
+    let pulled = &["textDocument", "diagnostic", "relatedInformation"];
+    client.has_related = can(params, related) || can(params, pulled);
 }
 
 /// Returns the capabilities of the client, from the parameters of `initialize`.
 fn client_of(params: &Value<'_>) -> Client {
-    let asks = &["capabilities", "textDocument", "diagnostic"];
-    Client {
-        asks_diagnostics: member(params, asks).is_some(),
-        refreshes_diagnostics: can(params, &["workspace", "diagnostics", "refreshSupport"]),
-        has_settings: can(params, &["workspace", "configuration"]),
-        registers_settings: can(
-            params,
-            &["workspace", "didChangeConfiguration", "dynamicRegistration"],
-        ),
-        has_snippets: can(
-            params,
-            &[
-                "textDocument",
-                "completion",
-                "completionItem",
-                "snippetSupport",
-            ],
-        ),
+    let mut client = Client::PLAIN;
+    store_document_capabilities(params, &mut client);
+    client.asks_diagnostics = has(params, &["textDocument", "diagnostic"]);
+    client.refreshes_diagnostics = can(params, &["workspace", "diagnostics", "refreshSupport"]);
+    client.has_settings = can(params, &["workspace", "configuration"]);
+    let settings = &["workspace", "didChangeConfiguration", "dynamicRegistration"];
+    client.registers_settings = can(params, settings);
+    let files = &["workspace", "didChangeWatchedFiles", "dynamicRegistration"];
+    client.registers_files = can(params, files);
+    client.has_versioned_edits = can(params, &["workspace", "workspaceEdit", "documentChanges"]);
+    client
+}
+
+/// Returns the paths of the folders that are open in the editor, from the parameters of `initialize`.
+fn roots_of(alloc: Global, params: &Value<'_>) -> Result<Vec<String>, AllocError> {
+    let mut roots = Vec::new(alloc);
+    push_paths(alloc, params.get("workspaceFolders"), &mut roots)?;
+    if roots.is_empty() {
+        let uri = text_in(params, &["rootUri"]).unwrap_or("");
+        if let Some(path) = folder_path(alloc, uri)? {
+            roots.push(path)?;
+        }
+    }
+    Ok(roots)
+}
+
+/// Returns the code units in which positions are counted: those of UTF-8 if the client offers them, those of UTF-32 if
+/// it offers them and not those of UTF-16, otherwise those of UTF-16. `params` are the parameters of `initialize`.
+fn encoding_of(params: &Value<'_>) -> Encoding {
+    let offered = &["general", "positionEncodings"];
+    if offers(params, offered, "utf-8") {
+        Encoding::Utf8
+    } else if offers(params, offered, "utf-32") && !offers(params, offered, "utf-16") {
+        Encoding::Utf32
+    } else {
+        Encoding::Utf16
     }
 }
 
-/// Returns the URI of the folder that is open in the editor, or of the first of several folders. Returns `None` if no
-/// folder is open.
-fn root_uri<'v>(params: &'v Value<'_>) -> Option<&'v str> {
-    let first = params
-        .get("workspaceFolders")
-        .and_then(|folders| folders.at(0));
-    match first.and_then(|folder| text_in(folder, &["uri"])) {
-        Some(uri) => Some(uri),
-        None => text_in(params, &["rootUri"]),
-    }
-}
-
-/// Returns the path of the folder that is open in the editor, with a slash at the end. Returns an empty text if no
-/// folder is open, or if `path_of_uri` returns `None` for the folder's URI.
-fn root_of(alloc: Global, params: &Value<'_>) -> Result<String, AllocError> {
-    let found = match root_uri(params) {
-        Some(uri) => path_of_uri(alloc, uri)?,
-        None => None,
-    };
-    let Some(mut root) = found else {
-        return Ok(String::new(alloc));
-    };
-    if !root.ends_with('/') {
-        root.push('/')?;
-    }
-    Ok(root)
-}
-
-/// Stores in `state` the capabilities, the folder and the settings of the client, from the parameters of `initialize`.
+/// Stores in `state` the capabilities, the folders and the settings of the client, from the parameters of `initialize`.
 pub(crate) fn store_client(
     alloc: Global,
     state: &mut State,
     params: &Value<'_>,
 ) -> Result<(), AllocError> {
-    state.encoding = if offers_utf8(params) {
-        Encoding::Utf8
-    } else {
-        Encoding::Utf16
-    };
+    state.encoding = encoding_of(params);
     state.client = client_of(params);
-    state.root = root_of(alloc, params)?;
-    match params.get("initializationOptions") {
-        Some(options) => {
-            let settings = settings_in(alloc, state, options)?;
-            state.initial = settings.clone()?;
-            use_settings(alloc, state, settings);
-            Ok(())
-        }
-        None => Ok(()),
-    }
+    state.roots = roots_of(alloc, params)?;
+    let settings = match params.get("initializationOptions") {
+        Some(options) => settings_in(alloc, state, options)?,
+        None => AllSettings::usual(alloc),
+    };
+    state.initial = settings.clone()?;
+    use_settings(alloc, state, settings)
 }
 
 /// Writes a member whose value is a list of strings.
@@ -161,14 +185,28 @@ fn write_options(out: &mut Json) {
     out.end_object();
 }
 
-/// Writes the capability for semantic tokens, with their types.
+/// Writes the capability for semantic tokens, with their types: those of a document, as a whole or as changes of an
+/// earlier answer, and those of a range.
 fn write_tokens(out: &mut Json) {
     out.object("semanticTokensProvider");
     out.object("legend");
     list(out, "tokenTypes", &TOKEN_TYPES);
     list(out, "tokenModifiers", &[]);
     out.end_object();
-    out.flag("full", true);
+    out.flag("range", true);
+    out.object("full");
+    out.flag("delta", true);
+    out.end_object();
+    out.end_object();
+}
+
+/// Writes the capability for several folders: the client must report folders that are opened or closed.
+fn write_folders(out: &mut Json) {
+    out.object("workspace");
+    out.object("workspaceFolders");
+    out.flag("supported", true);
+    out.flag("changeNotifications", true);
+    out.end_object();
     out.end_object();
 }
 
@@ -177,6 +215,7 @@ pub(crate) fn write_capabilities(out: &mut Json, encoding: Encoding) {
     let units = match encoding {
         Encoding::Utf8 => "utf-8",
         Encoding::Utf16 => "utf-16",
+        Encoding::Utf32 => "utf-32",
     };
     out.begin_object();
     out.object("capabilities");
@@ -187,6 +226,7 @@ pub(crate) fn write_capabilities(out: &mut Json, encoding: Encoding) {
     }
     write_options(out);
     write_tokens(out);
+    write_folders(out);
     out.end_object();
     out.object("serverInfo");
     out.text("name", "toml-span");

@@ -1,13 +1,15 @@
 //! Requests the settings of the client, and uses them.
-use crate::incoming::Id;
+use crate::folders::{Folders, push_paths};
+use crate::incoming::{Id, member};
 use crate::outgoing::{Json, Outbox, ServerCall};
 use crate::publish::publish;
+use crate::schemas::read_schema;
 use crate::settings::{AllSettings, read_settings};
-use crate::state::State;
+use crate::state::{Client, State};
 use json::Value;
 use std::alloc::{AllocError, Global};
 use toml_span_lookup::disk::Disk;
-use toml_span_lookup::lookup::Lookup;
+use toml_span_lookup::options::Options;
 
 /// The section of the server in the settings of a client.
 const SECTION: &str = "toml-span";
@@ -28,18 +30,40 @@ fn settings_request(alloc: Global) -> ServerCall {
     ServerCall::request(SETTINGS, "workspace/configuration", out)
 }
 
-/// Returns the request that asks the client to report changes of the settings.
-fn registration(alloc: Global) -> ServerCall {
+/// Begins a registration in a list: writes its id and its method, and begins its options.
+fn begin_registration(out: &mut Json, id: &str, method: &str) {
+    out.begin_object();
+    out.text("id", id);
+    out.text("method", method);
+    out.object("registerOptions");
+}
+
+/// Ends a registration.
+fn end_registration(out: &mut Json) {
+    out.end_object();
+    out.end_object();
+}
+
+/// Returns the request that asks the client to report changes of the settings and of files that may be schemas, as far
+/// as the client supports that.
+fn registration(alloc: Global, client: Client) -> ServerCall {
     let mut out = Json::new(alloc);
     out.begin_object();
     out.array("registrations");
-    out.begin_object();
-    out.text("id", SETTINGS);
-    out.text("method", "workspace/didChangeConfiguration");
-    out.object("registerOptions");
-    out.text("section", SECTION);
-    out.end_object();
-    out.end_object();
+    if client.registers_settings {
+        begin_registration(&mut out, SETTINGS, "workspace/didChangeConfiguration");
+        out.text("section", SECTION);
+        end_registration(&mut out);
+    }
+    if client.registers_files {
+        begin_registration(&mut out, "files", "workspace/didChangeWatchedFiles");
+        out.array("watchers");
+        out.begin_object();
+        out.text("globPattern", "**/*.json");
+        out.end_object();
+        out.end_array();
+        end_registration(&mut out);
+    }
     out.end_array();
     out.end_object();
     ServerCall::request("registration", "client/registerCapability", out)
@@ -59,7 +83,7 @@ pub(crate) fn settings_in(
     state: &mut State,
     value: &Value<'_>,
 ) -> Result<AllSettings, AllocError> {
-    let read = read_settings(alloc, state.root.as_str(), value)?;
+    let read = read_settings(alloc, value)?;
     if !read.faults.is_empty() {
         state.notices.push_str(read.faults.as_str())?;
         state.notices.push_str("\n")?;
@@ -67,10 +91,21 @@ pub(crate) fn settings_in(
     Ok(read.all)
 }
 
-/// Stores `settings` in `state`. Replaces `state.lookup` with a `Lookup` that has read no schemas.
-pub(crate) fn use_settings(alloc: Global, state: &mut State, settings: AllSettings) {
+/// Stores `settings` in `state`, and forgets the schemas that have been read.
+pub(crate) fn use_settings(
+    alloc: Global,
+    state: &mut State,
+    settings: AllSettings,
+) -> Result<(), AllocError> {
     state.settings = settings.settings;
-    state.lookup = Lookup::new(alloc, settings.options);
+    use_options(alloc, state, settings.options)
+}
+
+/// Stores the settings about schemas in `state`, and forgets the schemas that have been read.
+fn use_options(alloc: Global, state: &mut State, options: Options) -> Result<(), AllocError> {
+    state.folders = Folders::at_paths(alloc, state.roots.as_slice(), &options)?;
+    state.options = options;
+    Ok(())
 }
 
 /// Returns `value`, or `None` if it is missing, null or an empty object.
@@ -82,10 +117,9 @@ fn not_empty<'v, 'j>(value: Option<&'v Value<'j>>) -> Option<&'v Value<'j>> {
     }
 }
 
-/// Uses the settings in `value`, or those of `initializationOptions` if `value` has none. Then reads the schemas of the
-/// open documents, and appends for each document a notification with its diagnostics, as `publish` does. If the client
-/// requests diagnostics itself and supports `refresh_request`, appends that request. Does nothing if `value` has no
-/// settings and those of `initializationOptions` are in use.
+/// Uses the settings in `value`, or those of `initializationOptions` if `value` has none. Then checks the open
+/// documents, as `check_all` does. Does nothing if `value` has no settings and those of `initializationOptions` are in
+/// use.
 fn change_settings<D: Disk>(
     alloc: Global,
     state: &mut State,
@@ -100,16 +134,49 @@ fn change_settings<D: Disk>(
         None => return Ok(()),
     };
     state.has_later_settings = value.is_some();
-    use_settings(alloc, state, settings);
+    use_settings(alloc, state, settings)?;
+    check_all(alloc, state, disk, out)
+}
+
+/// Carries out the notification that folders have been opened or closed in the editor. Then checks the open documents,
+/// as `check_all` does.
+pub(crate) fn folders_changed<D: Disk>(
+    alloc: Global,
+    state: &mut State,
+    disk: &mut D,
+    params: &Value<'_>,
+    out: &mut Outbox,
+) -> Result<(), AllocError> {
+    let mut closed = Vec::new(alloc);
+    push_paths(alloc, member(params, &["event", "removed"]), &mut closed)?;
+    let mut roots = Vec::new(alloc);
+    for path in state.roots.as_slice() {
+        if !closed.iter().any(|one| *one == *path) {
+            roots.push(path.clone()?)?;
+        }
+    }
+    push_paths(alloc, member(params, &["event", "added"]), &mut roots)?;
+    state.roots = roots;
+    let options = state.options.clone()?;
+    use_options(alloc, state, options)?;
+    check_all(alloc, state, disk, out)
+}
+
+/// Reads the schemas of the open documents, and appends for each document a notification with its diagnostics, as
+/// `publish` does. If the client requests diagnostics itself and supports `refresh_request`, appends that request.
+pub(crate) fn check_all<D: Disk>(
+    alloc: Global,
+    state: &mut State,
+    disk: &mut D,
+    out: &mut Outbox,
+) -> Result<(), AllocError> {
     let mut uris = Vec::new(alloc);
-    for (uri, open) in state.documents.iter() {
-        state
-            .lookup
-            .refresh(alloc, disk, open.name.as_str(), open.text.as_str())?;
+    for (uri, _) in state.documents.iter() {
         uris.push(String::from_str(alloc, uri.as_str())?)?;
     }
-    let complaint = state.lookup.take_complaint(alloc);
-    state.notices.push_str(complaint.as_str())?;
+    for uri in &uris {
+        read_schema(alloc, state, disk, uri.as_str())?;
+    }
     for uri in &uris {
         publish(alloc, state, uri.as_str(), out)?;
     }
@@ -119,11 +186,12 @@ fn change_settings<D: Disk>(
     Ok(())
 }
 
-/// Appends the request to report changes of the settings, and the request for the settings. Leaves out a request that
-/// the client does not support.
+/// Appends the request to report changes of the settings and files, and the request for the settings. Leaves out a
+/// request that the client does not support.
 pub(crate) fn initialized(alloc: Global, state: &State, out: &mut Outbox) {
-    if state.client.registers_settings {
-        out.add(registration(alloc));
+    let client = state.client;
+    if client.registers_settings || client.registers_files {
+        out.add(registration(alloc, client));
     }
     if state.client.has_settings {
         out.add(settings_request(alloc));

@@ -6,29 +6,31 @@ use crate::outgoing::{Json, write_edits, write_workspace_edit};
 use crate::refusal::{INVALID_PARAMS, REQUEST_FAILED, Refusal, refused};
 use json::Value;
 use std::alloc::AllocError;
-use toml_span_editor::document::read;
+use toml_span_editor::document::Document;
 use toml_span_editor::formatting::{formatting, formatting_of};
 use toml_span_editor::renaming::{renamable_at, rename};
 use toml_span_format::Options;
 use toml_span_lex::stop::Stop;
 
-/// Writes the edits that rename the key at the offset `at` to the `newName` in `params`. Fails with a `Refusal` if
-/// `newName` is not a string, if the document has errors, or if the rename is refused.
+/// Writes the edits that rename the key at the offset `at` to the `newName` in `params`. `document` is `None` if the
+/// document has errors. Fails with a `Refusal` if `newName` is not a string, if the document has errors, or if the
+/// rename is refused.
 pub(crate) fn write_rename(
     request: &Request<'_, '_, '_>,
+    document: Option<&Document<'_>>,
     at: usize,
     out: &mut Json,
 ) -> Result<(), Stop<Refusal>> {
     let Some(name) = text_in(request.params, &["newName"]) else {
         return Err(refused(request.alloc, INVALID_PARAMS, "`newName` must be a string"));
     };
-    let Some(document) = read(request.alloc, request.table.text)? else {
+    let Some(document) = document else {
         let message = "the document has errors: correct them first";
         return Err(refused(request.alloc, REQUEST_FAILED, message));
     };
-    match rename(request.alloc, &document, at, name) {
+    match rename(request.alloc, document, at, name) {
         Ok(made) => {
-            write_workspace_edit(out, request.uri, request.table, made.edits.as_slice());
+            write_workspace_edit(request, made.edits.as_slice(), out);
             Ok(())
         }
         Err(stop) => {
@@ -39,17 +41,18 @@ pub(crate) fn write_rename(
 }
 
 /// Writes the range and the name of the key at an offset. Writes null if there is no key at the offset, or if the
-/// document has errors.
+/// document has errors, so that `document` is `None`.
 pub(crate) fn write_renamable(
     request: &Request<'_, '_, '_>,
+    document: Option<&Document<'_>>,
     at: usize,
     out: &mut Json,
 ) -> Result<(), AllocError> {
-    let Some(document) = read(request.alloc, request.table.text)? else {
+    let Some(document) = document else {
         out.null();
         return Ok(());
     };
-    let Some(key) = renamable_at(request.alloc, &document, at)? else {
+    let Some(key) = renamable_at(request.alloc, document, at)? else {
         out.null();
         return Ok(());
     };

@@ -21,16 +21,17 @@ fn target_of(
     }
 }
 
-/// Writes a list with a link from the `#:schema` directive of the document to the schema. The list is empty if there is
-/// no directive, or if `target_of` returns `None`.
+/// Writes a list with a link from the `#:schema` directive of the document, the file `name`, to the schema. The list is
+/// empty if there is no directive, or if `target_of` returns `None`.
 pub(crate) fn write_links(
     request: &Request<'_, '_, '_>,
+    name: &str,
     lookup: &Lookup,
     out: &mut Json,
 ) -> Result<(), AllocError> {
     out.begin_array();
     if let Some(directive) = directive_of(request.table.text) {
-        if let Some(target) = target_of(request.alloc, lookup, request.name, directive.address)? {
+        if let Some(target) = target_of(request.alloc, lookup, name, directive.address)? {
             out.begin_object();
             out.range("range", request.table.range(directive.span));
             out.text("target", target.as_str());

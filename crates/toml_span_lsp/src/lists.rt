@@ -1,4 +1,4 @@
-//! Writes answers that list parts of a document: symbols, folds, selections, highlights, references and tokens.
+//! Writes answers that list parts of a document: symbols, folds, selections, highlights and references.
 use crate::incoming::member;
 use crate::methods::Request;
 use crate::outgoing::{Json, write_location};
@@ -8,10 +8,8 @@ use toml_span_editor::document::Document;
 use toml_span_editor::folding::folds;
 use toml_span_editor::keys::mentions;
 use toml_span_editor::outline::{Symbol, outline};
-use toml_span_editor::positions::FIRST;
 use toml_span_editor::selection::selections;
 use toml_span_editor::table::PositionTable;
-use toml_span_editor::tokens::{Meaning, tokens};
 
 /// Returns the number for the kind of a value (LSP 3.17, SymbolKind).
 fn symbol_kind(kind: &str) -> usize {
@@ -25,15 +23,19 @@ fn symbol_kind(kind: &str) -> usize {
     }
 }
 
-/// Writes a symbol and the symbols inside it.
-fn write_symbol(out: &mut Json, table: &PositionTable<'_>, symbol: &Symbol) {
-    out.begin_object();
-    let name = if symbol.name.is_empty() {
+/// Returns the name of a symbol or, since a name must not be empty, quotes for an empty name.
+fn name_of(symbol: &Symbol) -> &str {
+    if symbol.name.is_empty() {
         "\"\""
     } else {
         symbol.name.as_str()
-    };
-    out.text("name", name);
+    }
+}
+
+/// Writes a symbol and the symbols inside it.
+fn write_symbol(out: &mut Json, table: &PositionTable<'_>, symbol: &Symbol) {
+    out.begin_object();
+    out.text("name", name_of(symbol));
     out.number("kind", symbol_kind(symbol.kind));
     out.range("range", table.range(symbol.span));
     out.range("selectionRange", table.range(symbol.selection));
@@ -45,7 +47,30 @@ fn write_symbol(out: &mut Json, table: &PositionTable<'_>, symbol: &Symbol) {
     out.end_object();
 }
 
-/// Writes the outline of a document.
+/// Writes a symbol and the symbols inside it, one after the other. `container` is the name of the symbol around it, or
+/// an empty text.
+fn write_flat_symbol(
+    request: &Request<'_, '_, '_>,
+    container: &str,
+    symbol: &Symbol,
+    out: &mut Json,
+) {
+    let name = name_of(symbol);
+    out.begin_object();
+    out.text("name", name);
+    out.number("kind", symbol_kind(symbol.kind));
+    out.key("location");
+    write_location(out, request.uri, request.table.range(symbol.span));
+    if !container.is_empty() {
+        out.text("containerName", container);
+    }
+    out.end_object();
+    for child in &symbol.children {
+        write_flat_symbol(request, name, child, out);
+    }
+}
+
+/// Writes the outline of a document: as nested symbols if the client supports them, otherwise as a list.
 pub(crate) fn write_symbols(
     request: &Request<'_, '_, '_>,
     document: &Document<'_>,
@@ -53,7 +78,11 @@ pub(crate) fn write_symbols(
 ) -> Result<(), AllocError> {
     out.begin_array();
     for symbol in &outline(request.alloc, document)? {
-        write_symbol(out, request.table, symbol);
+        if request.client.has_nested_symbols {
+            write_symbol(out, request.table, symbol);
+        } else {
+            write_flat_symbol(request, "", symbol, out);
+        }
     }
     out.end_array();
     Ok(())
@@ -139,46 +168,5 @@ pub(crate) fn write_references(
         }
     }
     out.end_array();
-    Ok(())
-}
-
-/// Returns the number of a token's type: the position of the type in `TOKEN_TYPES`.
-fn token_type(meaning: Meaning) -> usize {
-    match meaning {
-        Meaning::Comment => 0,
-        Meaning::Table => 1,
-        Meaning::Key => 2,
-        Meaning::String => 3,
-        Meaning::Number => 4,
-        Meaning::Boolean => 5,
-    }
-}
-
-/// Writes the tokens of a text, each as five numbers (LSP 3.17, SemanticTokens). The numbers are the line relative to
-/// the previous token, the start (relative to the previous token if that is on the same line), the length, the type,
-/// and 0 for no modifiers.
-pub(crate) fn write_tokens(
-    request: &Request<'_, '_, '_>,
-    out: &mut Json,
-) -> Result<(), AllocError> {
-    let mut last = FIRST;
-    out.begin_object();
-    out.array("data");
-    for token in &tokens(request.alloc, request.table.text)? {
-        let place = request.table.range(token.span);
-        let front = if place.start.line == last.line {
-            last.character
-        } else {
-            0
-        };
-        out.count(place.start.line.saturating_sub(last.line));
-        out.count(place.start.character.saturating_sub(front));
-        out.count(place.end.character.saturating_sub(place.start.character));
-        out.count(token_type(token.meaning));
-        out.count(0);
-        last = place.start;
-    }
-    out.end_array();
-    out.end_object();
     Ok(())
 }

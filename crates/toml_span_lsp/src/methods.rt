@@ -1,5 +1,6 @@
 //! The requests about documents that the server answers.
 use crate::settings::Settings;
+use crate::state::Client;
 use json::Value;
 use std::alloc::Global;
 use toml_span_editor::table::PositionTable;
@@ -21,6 +22,8 @@ pub(crate) enum Method {
     Actions,
     Complete,
     Tokens,
+    TokensInRange,
+    TokenChanges,
     Links,
     Diagnose,
 }
@@ -42,6 +45,8 @@ pub(crate) fn method_named(name: &str) -> Option<Method> {
         "textDocument/codeAction" => Some(Method::Actions),
         "textDocument/completion" => Some(Method::Complete),
         "textDocument/semanticTokens/full" => Some(Method::Tokens),
+        "textDocument/semanticTokens/range" => Some(Method::TokensInRange),
+        "textDocument/semanticTokens/full/delta" => Some(Method::TokenChanges),
         "textDocument/documentLink" => Some(Method::Links),
         "textDocument/diagnostic" => Some(Method::Diagnose),
         _ => None,
@@ -55,12 +60,11 @@ pub(crate) struct Request<'r, 't, 'j> {
     pub method: Method,
     /// The URI of the document.
     pub uri: &'r str,
-    /// The path of the document.
-    pub name: &'r str,
     /// The text of the document, with its positions.
     pub table: &'r PositionTable<'t>,
     pub params: &'r Value<'j>,
     pub settings: Settings,
-    /// Whether the client supports snippets.
-    pub has_snippets: bool,
+    pub client: Client,
+    /// The version of the document.
+    pub version: Option<i64>,
 }

@@ -5,6 +5,7 @@ ghost use Rattle.toml_span_lsp.specs.Messages as spec;
 ghost use Rattle.toml_span_lsp.specs.Messages.{IsCall, IsMessage, IsResponse, Sends};
 
 use crate::incoming::Id;
+use crate::methods::Request;
 use crate::refusal::Refusal;
 use json::Writer;
 use std::alloc::{AllocError, Global};
@@ -190,8 +191,8 @@ impl Outbox {
         self.has_failed = self.calls.push(call).is_err() || self.has_failed;
     }
 
-    /// Returns the messages to send: the response, if there is one, and then the notifications and requests. Fails if an
-    /// allocation fails or has failed.
+    /// Returns the messages to send: the response, if there is one, and then the notifications and requests. Fails if
+    /// an allocation fails or has failed.
     pub(crate) fn finish(
         self,
         alloc: Global,
@@ -363,17 +364,66 @@ pub(crate) fn write_edits(out: &mut Json, table: &PositionTable<'_>, edits: &[Ed
     out.end_array();
 }
 
-/// Writes the edits of the document `uri` as a workspace edit.
-pub(crate) fn write_workspace_edit(
-    out: &mut Json,
-    uri: &str,
-    table: &PositionTable<'_>,
-    edits: &[Edit],
-) {
+/// Writes edits of the version of a document that a request is about.
+fn write_versioned_edit(request: &Request<'_, '_, '_>, edits: &[Edit], out: &mut Json) {
+    out.array("documentChanges");
     out.begin_object();
-    out.object("changes");
-    out.key(uri);
-    write_edits(out, table, edits);
+    out.object("textDocument");
+    out.text("uri", request.uri);
+    out.key("version");
+    match request.version {
+        Some(version) => out.integer(version),
+        None => out.null(),
+    }
     out.end_object();
+    out.key("edits");
+    write_edits(out, request.table, edits);
     out.end_object();
+    out.end_array();
+}
+
+/// Writes edits of the document that a request is about as a workspace edit. The edit names the version of the document
+/// if the client supports that.
+pub(crate) fn write_workspace_edit(request: &Request<'_, '_, '_>, edits: &[Edit], out: &mut Json) {
+    out.begin_object();
+    if request.client.has_versioned_edits {
+        write_versioned_edit(request, edits, out);
+    } else {
+        out.object("changes");
+        out.key(request.uri);
+        write_edits(out, request.table, edits);
+        out.end_object();
+    }
+    out.end_object();
+}
+
+/// Returns a Markdown text as plain text: without backticks and the marks of bold text.
+fn plain_text(alloc: Global, markdown: &str) -> Result<String, AllocError> {
+    let mut out = String::new(alloc);
+    for part in markdown.split("**") {
+        for piece in part.split('`') {
+            out.push_str(piece)?;
+        }
+    }
+    Ok(out)
+}
+
+/// Writes a text in Markdown as it is or, if `is_markdown` is not set, as plain text.
+pub(crate) fn write_markup(
+    alloc: Global,
+    markdown: &str,
+    is_markdown: bool,
+    out: &mut Json,
+) -> Result<(), AllocError> {
+    out.begin_object();
+    if is_markdown {
+        out.text("kind", "markdown");
+        out.text("value", markdown);
+    } else {
+        let text = plain_text(alloc, markdown)?;
+        out.text("kind", "plaintext");
+        out.text("value", text.as_str());
+    }
+    out.end_object();
+    Ok(())
 }

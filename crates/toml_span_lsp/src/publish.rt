@@ -3,12 +3,14 @@ ghost use Rattle.std.specs.Prelude.{IfOk, string_bytes};
 ghost use Rattle.toml_span_lsp.specs.Diagnosed.{AreChecked};
 
 use crate::outgoing::{Json, Outbox, ServerCall, write_location};
+use crate::reading::is_too_long;
 use crate::settings::Settings;
-use crate::state::{Open, State};
+use crate::state::{Client, Open, State};
 use std::alloc::{AllocError, Global};
 use toml_span_editor::diagnostics::{Diagnosed, Diagnostic, Related, diagnostics};
-use toml_span_editor::positions::{Encoding, Position, Range};
+use toml_span_editor::positions::{Encoding, FIRST, Position, Range, position_at};
 use toml_span_editor::table::PositionTable;
+use toml_span_lookup::directive::directive_of;
 use toml_span_lookup::lookup::Lookup;
 use toml_span_report::Severity;
 
@@ -58,28 +60,30 @@ fn shown_range(diagnostic: &Diagnostic) -> Range {
     Range { start, end }
 }
 
-/// Writes a diagnostic.
-fn write_diagnostic(out: &mut Json, uri: &str, diagnostic: &Diagnostic) {
+/// Writes a diagnostic of the document `uri`, without what the client does not support.
+pub(crate) fn write_diagnostic(out: &mut Json, client: Client, uri: &str, diagnostic: &Diagnostic) {
     out.begin_object();
     out.range("range", shown_range(diagnostic));
     out.number("severity", severity_of(diagnostic.severity));
-    out.text("code", diagnostic.code.as_str());
+    if !diagnostic.code.is_empty() {
+        out.text("code", diagnostic.code.as_str());
+    }
     out.text("source", "toml-span");
     out.text("message", diagnostic.message.as_str());
     if diagnostic.code.as_str() == DEPRECATED {
         write_deprecated(out);
     }
-    if !diagnostic.related.is_empty() {
+    if client.has_related && !diagnostic.related.is_empty() {
         write_related(out, uri, diagnostic.related.as_slice());
     }
     out.end_object();
 }
 
 /// Writes a member whose value is a list of diagnostics.
-fn write_list(out: &mut Json, name: &str, uri: &str, diagnostics: &[Diagnostic]) {
+fn write_list(out: &mut Json, name: &str, client: Client, uri: &str, diagnostics: &[Diagnostic]) {
     out.array(name);
     for diagnostic in diagnostics {
-        write_diagnostic(out, uri, diagnostic);
+        write_diagnostic(out, client, uri, diagnostic);
     }
     out.end_array();
 }
@@ -124,23 +128,94 @@ fn show_complaint(
     Ok(())
 }
 
-/// Returns the diagnostics and the version of the open document `uri`, or `None` if the document is not open. If it
-/// can't be checked against its schema, adds error lines to `state.notices`, as `show_complaint` does. Reads no files.
-fn diagnosed_at(
+/// Returns a diagnostic without related locations.
+fn plain_diagnostic(
+    alloc: Global,
+    range: Range,
+    severity: Severity,
+    code: &str,
+    message: &str,
+) -> Result<Diagnostic, AllocError> {
+    Ok(Diagnostic {
+        range,
+        severity,
+        code: String::from_str(alloc, code)?,
+        message: String::from_str(alloc, message)?,
+        related: Vec::new(alloc),
+    })
+}
+
+/// Returns a list of the diagnostic that a document is too long to be read.
+fn too_long(alloc: Global) -> Result<Vec<Diagnostic>, AllocError> {
+    let range = Range {
+        start: FIRST,
+        end: FIRST,
+    };
+    let message = "the file is larger than 16 MiB";
+    let made = plain_diagnostic(alloc, range, Severity::Error, "too-long", message)?;
+    Ok(vec![in alloc; made]?)
+}
+
+/// Appends a diagnostic at the schema that a document names, if the schema can't be used.
+fn push_schema_fault(
+    alloc: Global,
+    encoding: Encoding,
+    document: &Open,
+    found: &mut Vec<Diagnostic>,
+) -> Result<(), AllocError> {
+    let text = document.text.as_str();
+    let Some(directive) = directive_of(text) else {
+        return Ok(());
+    };
+    if document.schema_fault.is_empty() {
+        return Ok(());
+    }
+    let range = Range {
+        start: position_at(encoding, text, directive.span.start),
+        end: position_at(encoding, text, directive.span.end),
+    };
+    let message = document.schema_fault.as_str();
+    found.push(plain_diagnostic(alloc, range, Severity::Error, "", message)?)?;
+    Ok(())
+}
+
+/// Checks the open document `uri`, and keeps the reports. Returns its diagnostics, or `None` if the document is not
+/// open. If it can't be checked against its schema, adds error lines to `state.notices`, as `show_complaint` does.
+/// Reads no files.
+fn checked(
     alloc: Global,
     state: &mut State,
     uri: &str,
-) -> Result<Option<(Vec<Diagnostic>, Option<i64>)>, AllocError> {
+) -> Result<Option<Vec<Diagnostic>>, AllocError> {
     let Some(open) = state.documents.get_mut(uri) else {
         return Ok(None);
     };
+    if is_too_long(open) {
+        return Ok(Some(too_long(alloc)?));
+    }
     let (encoding, settings) = (state.encoding, state.settings);
-    let found = diagnosed(alloc, encoding, settings, open, &mut state.lookup)?;
+    let folder = state.folders.folder_of_mut(open.name.as_str());
+    let found = diagnosed(alloc, encoding, settings, open, &mut folder.lookup)?;
+    let mut diagnostics = found.diagnostics;
     show_complaint(open, &mut state.notices, found.complaint)?;
-    Ok(Some((found.diagnostics, open.version)))
+    push_schema_fault(alloc, encoding, open, &mut diagnostics)?;
+    open.reports = Some(found.reports);
+    Ok(Some(diagnostics))
 }
 
-/// Writes the diagnostics of the open document `uri` as the answer to a request, as `diagnosed_at` finds them. Returns
+/// Checks the open document `uri`, unless its reports are kept. Reads no files.
+pub(crate) fn check_once(alloc: Global, state: &mut State, uri: &str) -> Result<(), AllocError> {
+    let has_reports = match state.documents.get(uri) {
+        Some(open) => open.reports.is_some(),
+        None => true,
+    };
+    if !has_reports {
+        checked(alloc, state, uri)?;
+    }
+    Ok(())
+}
+
+/// Writes the diagnostics of the open document `uri` as the answer to a request, as `checked` finds them. Returns
 /// whether the document is open. If it is not, writes nothing.
 pub(crate) fn write_report(
     alloc: Global,
@@ -148,12 +223,12 @@ pub(crate) fn write_report(
     uri: &str,
     out: &mut Json,
 ) -> Result<bool, AllocError> {
-    let Some((found, _version)) = diagnosed_at(alloc, state, uri)? else {
+    let Some(found) = checked(alloc, state, uri)? else {
         return Ok(false);
     };
     out.begin_object();
     out.text("kind", "full");
-    write_list(out, "items", uri, found.as_slice());
+    write_list(out, "items", state.client, uri, found.as_slice());
     out.end_object();
     Ok(true)
 }
@@ -161,6 +236,7 @@ pub(crate) fn write_report(
 /// Returns the notification with the diagnostics of a document.
 pub(crate) fn published(
     alloc: Global,
+    client: Client,
     uri: &str,
     version: Option<i64>,
     diagnostics: &[Diagnostic],
@@ -172,13 +248,13 @@ pub(crate) fn published(
         out.key("version");
         out.integer(version);
     }
-    write_list(&mut out, "diagnostics", uri, diagnostics);
+    write_list(&mut out, "diagnostics", client, uri, diagnostics);
     out.end_object();
     ServerCall::notification("textDocument/publishDiagnostics", out)
 }
 
-/// Appends the notification with the diagnostics of the open document `uri`, as `diagnosed_at` finds them. Does nothing
-/// if the document is not open, or if the client requests diagnostics itself.
+/// Appends the notification with the diagnostics of the open document `uri`, as `checked` finds them. Does nothing if
+/// the document is not open, or if the client requests diagnostics itself.
 pub(crate) fn publish(
     alloc: Global,
     state: &mut State,
@@ -188,8 +264,13 @@ pub(crate) fn publish(
     if state.client.asks_diagnostics {
         return Ok(());
     }
-    if let Some((found, version)) = diagnosed_at(alloc, state, uri)? {
-        out.add(published(alloc, uri, version, found.as_slice()));
-    }
+    let Some(found) = checked(alloc, state, uri)? else {
+        return Ok(());
+    };
+    let version = match state.documents.get(uri) {
+        Some(open) => open.version,
+        None => None,
+    };
+    out.add(published(alloc, state.client, uri, version, found.as_slice()));
     Ok(())
 }

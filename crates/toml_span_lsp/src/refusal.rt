@@ -17,6 +17,9 @@ pub(crate) const INVALID_PARAMS: i64 = -32602;
 /// A request came before `initialize`.
 pub(crate) const NOT_INITIALIZED: i64 = -32002;
 
+/// The client cancelled a request.
+pub(crate) const REQUEST_CANCELLED: i64 = -32800;
+
 /// A request was refused for the reason in the message.
 pub(crate) const REQUEST_FAILED: i64 = -32803;
 

@@ -5,21 +5,28 @@ use crate::edits::{write_formatting, write_renamable, write_rename};
 use crate::incoming::{position_of, text_in};
 use crate::links::write_links;
 use crate::lists::{
-    write_folds, write_highlights, write_references, write_selection, write_symbols, write_tokens,
+    write_folds, write_highlights, write_references, write_selection, write_symbols,
 };
 use crate::methods::{Method, Request};
 use crate::outgoing::Json;
 use crate::publish::write_report;
+use crate::reading::{Reading, TextName, is_too_long, kept_of, reading_of, text_of};
 use crate::refusal::{INVALID_PARAMS, REQUEST_FAILED, Refusal, refused};
 use crate::state::State;
+use crate::tokens::{write_tokens, write_tokens_in};
 use json::Value;
 use std::alloc::Global;
-use toml_span_editor::document::{Document, read, readable};
+use toml_span_editor::document::{Document, read};
 use toml_span_editor::positions::offset_at;
-use toml_span_editor::table::PositionTable;
 use toml_span_lex::stop::Stop;
-use toml_span_lookup::lookup::Lookup;
 use toml_span_schema::Guide;
+
+/// The length of a text in bytes up to which it has an outline and semantic tokens. A longer one has the tokens of
+/// ranges.
+const LARGE: usize = 4_194_304;
+
+/// Why a request without a valid range is refused.
+const NO_RANGE: &str = "`range` must have a `start` and an `end`";
 
 /// Returns the offset of the position in a request. Fails with `INVALID_PARAMS` if the request has no valid position.
 fn offset_of(request: &Request<'_, '_, '_>) -> Result<usize, Stop<Refusal>> {
@@ -99,19 +106,16 @@ fn write_of(
     Ok(())
 }
 
-/// Writes the answer to a request about a document. If the document has errors, answers about the text that `readable`
-/// returns. Fails with a `Refusal` if the request is refused.
+/// Writes the answer to a request about a document or, if it has errors, about what can be read of it. Fails with a
+/// `Refusal` if the request is refused.
 fn write_readable(
     request: &Request<'_, '_, '_>,
+    reading: &Reading<'_>,
     guide: Option<&Guide>,
     out: &mut Json,
 ) -> Result<(), Stop<Refusal>> {
-    if let Some(document) = read(request.alloc, request.table.text)? {
-        return write_of(request, &document, guide, out);
-    }
-    let kept = readable(request.alloc, request.table.text)?;
-    match read(request.alloc, kept.as_str())? {
-        Some(document) => write_of(request, &document, guide, out),
+    match reading.known() {
+        Some(document) => write_of(request, document, guide, out),
         None => {
             out.null();
             Ok(())
@@ -119,52 +123,150 @@ fn write_readable(
     }
 }
 
-/// Writes the actions for the range in a request. Reads no files. Fails with `INVALID_PARAMS` if the request has no
-/// valid range.
+/// Writes the actions for the range in a request. `document` is `None` if the document has errors. Reads no files.
+/// Fails with `INVALID_PARAMS` if the request has no valid range.
 fn write_actions_of(
     request: &Request<'_, '_, '_>,
-    lookup: &mut Lookup,
+    document: Option<&Document<'_>>,
+    state: &mut State,
     out: &mut Json,
 ) -> Result<(), Stop<Refusal>> {
     match span_of(request) {
-        Some(span) => Ok(write_actions(request, lookup, span, out)?),
-        None => Err(refused(
-            request.alloc,
-            INVALID_PARAMS,
-            "`range` must have a `start` and an `end`",
-        )),
+        Some(span) => Ok(write_actions(request, document, state, span, out)?),
+        None => Err(refused(request.alloc, INVALID_PARAMS, NO_RANGE)),
+    }
+}
+
+/// Writes the semantic tokens in the range of a request. Fails with `INVALID_PARAMS` if the request has no valid range.
+fn write_tokens_in_range(
+    request: &Request<'_, '_, '_>,
+    out: &mut Json,
+) -> Result<(), Stop<Refusal>> {
+    match span_of(request) {
+        Some(span) => Ok(write_tokens_in(request, span, out)?),
+        None => Err(refused(request.alloc, INVALID_PARAMS, NO_RANGE)),
     }
 }
 
 /// Writes the answer to a request about a document. Fails with a `Refusal` if the request is refused.
 fn write_answer(
     request: &Request<'_, '_, '_>,
+    reading: &Reading<'_>,
     guide: Option<&Guide>,
     out: &mut Json,
 ) -> Result<(), Stop<Refusal>> {
     match request.method {
         Method::Format | Method::FormatRange => Ok(write_formatting(request, out)?),
         Method::Folds => Ok(write_folds(request, out)?),
-        Method::Tokens => Ok(write_tokens(request, out)?),
+        Method::TokensInRange => write_tokens_in_range(request, out),
         Method::Rename => {
             let at = offset_of(request)?;
-            write_rename(request, at, out)
+            write_rename(request, reading.document.as_ref(), at, out)
         }
         Method::PrepareRename => {
             let at = offset_of(request)?;
-            Ok(write_renamable(request, at, out)?)
+            Ok(write_renamable(request, reading.document.as_ref(), at, out)?)
         }
-        _ => write_readable(request, guide, out),
+        _ => write_readable(request, reading, guide, out),
     }
 }
 
-/// Writes the answer to a request about an open document. Fails with a `Refusal` if the request is refused, or if the
-/// document is not open.
+/// Returns whether the answer to a request has entries for all of a document.
+fn is_for_all(method: Method) -> bool {
+    matches!(
+        method,
+        Method::Symbols | Method::Tokens | Method::TokenChanges
+    )
+}
+
+/// Returns the version of the open document `uri`, or `None` if it is not open or has none.
+fn version_of(state: &State, uri: &str) -> Option<i64> {
+    state.documents.get(uri)?.version
+}
+
+/// Writes the answer to a request about the open document `uri` that depends on its name or its schema. Reads no files.
+/// Fails with a `Refusal` if the request is refused, or if the document is not open.
+fn write_named(
+    request: &Request<'_, '_, '_>,
+    state: &State,
+    reading: &Reading<'_>,
+    out: &mut Json,
+) -> Result<(), Stop<Refusal>> {
+    let alloc = request.alloc;
+    let Some(open) = state.documents.get(request.uri) else {
+        return Err(refused(alloc, REQUEST_FAILED, "the document is not open"));
+    };
+    let (name, text) = (open.name.as_str(), open.text.as_str());
+    let lookup = &state.folders.folder_of(name).lookup;
+    if request.method == Method::Links {
+        return Ok(write_links(request, name, lookup, out)?);
+    }
+    let guide = lookup.guide_of(alloc, name, text)?;
+    write_answer(request, reading, guide, out)
+}
+
+/// Writes the answer to a request about the open document `uri`, which has been read. Fails with a `Refusal` if the
+/// request is refused.
+fn write_known(
+    alloc: Global,
+    state: &mut State,
+    uri: &str,
+    method: Method,
+    params: &Value<'_>,
+    reading: &Reading<'_>,
+    out: &mut Json,
+) -> Result<(), Stop<Refusal>> {
+    let request = Request {
+        alloc,
+        method,
+        uri,
+        table: &reading.table,
+        params,
+        settings: state.settings,
+        client: state.client,
+        version: version_of(state, uri),
+    };
+    if is_for_all(method) && reading.table.text.len() > LARGE {
+        out.null();
+        return Ok(());
+    }
+    match method {
+        Method::Tokens | Method::TokenChanges => Ok(write_tokens(&request, state, out)?),
+        Method::Actions => write_actions_of(&request, reading.document.as_ref(), state, out),
+        _ => write_named(&request, state, reading, out),
+    }
+}
+
+/// Writes the answer to a request about an open document, whose text has the number `revision`. Reads the document.
+/// Fails with a `Refusal` if the request is refused.
+fn write_reading(
+    alloc: Global,
+    state: &mut State,
+    uri: &str,
+    revision: u64,
+    method: Method,
+    params: &Value<'_>,
+    out: &mut Json,
+) -> Result<(), Stop<Refusal>> {
+    let name = TextName::new(alloc, uri, revision)?;
+    let text = text_of(state, &name)?.unwrap_or(String::new(alloc));
+    let document = read(alloc, text.as_str())?;
+    let kept = kept_of(alloc, document.as_ref(), text.as_str())?;
+    let encoding = state.encoding;
+    let (whole, part) = (text.as_str(), kept.as_str());
+    let reading = reading_of(alloc, encoding, name, whole, document, part)?;
+    write_known(alloc, state, uri, method, params, &reading, out)
+}
+
+/// Writes the answer to a request about an open document. If `known` is a reading of its text, reads nothing again.
+/// Writes null for a document that is too long. Fails with a `Refusal` if the request is refused, or if the document is
+/// not open.
 pub(crate) fn write_result(
     alloc: Global,
     state: &mut State,
     method: Method,
     params: &Value<'_>,
+    known: Option<&Reading<'_>>,
     out: &mut Json,
 ) -> Result<(), Stop<Refusal>> {
     let Some(uri) = text_in(params, &["textDocument", "uri"]) else {
@@ -176,24 +278,15 @@ pub(crate) fn write_result(
     let Some(open) = state.documents.get(uri) else {
         return Err(refused(alloc, REQUEST_FAILED, "the document is not open"));
     };
-    let table = PositionTable::new(alloc, state.encoding, open.text.as_str())?;
-    let name = open.name.as_str();
-    let request = Request {
-        alloc,
-        method,
-        uri,
-        name,
-        table: &table,
-        params,
-        settings: state.settings,
-        has_snippets: state.client.has_snippets,
-    };
-    match method {
-        Method::Links => Ok(write_links(&request, &state.lookup, out)?),
-        Method::Actions => write_actions_of(&request, &mut state.lookup, out),
-        _ => {
-            let guide = state.lookup.guide_of(alloc, name, open.text.as_str())?;
-            write_answer(&request, guide, out)
+    if is_too_long(open) {
+        out.null();
+        return Ok(());
+    }
+    let revision = open.revision;
+    if let Some(reading) = known {
+        if reading.name.revision == revision {
+            return write_known(alloc, state, uri, method, params, reading, out);
         }
     }
+    write_reading(alloc, state, uri, revision, method, params, out)
 }

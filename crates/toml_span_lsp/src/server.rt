@@ -6,11 +6,15 @@ ghost use Rattle.toml_span_lsp.specs.Frames.{AreFrames, Writes, WritesFront};
 
 use crate::frames::{FrameFault, Framed, frame, push_frame};
 use crate::incoming::Id;
+use crate::reading::{Around, Reading, TextName, kept_of, reading_of, text_of};
 use crate::refusal::INVALID_REQUEST;
 use crate::state::State;
-use crate::steps::{refuse, step};
+use crate::steps::{refuse, step_around};
+use crate::waiting::next_text;
 use std::alloc::{AllocError, Global};
 use std::slice;
+use toml_span_editor::document::read;
+use toml_span_lex::span::Span;
 use toml_span_lines::run::write_bytes;
 use toml_span_lines::sink::Sink;
 use toml_span_lines::source::Source;
@@ -52,16 +56,24 @@ fn frames_of(alloc: Global, contents: &[Vec<u8>]) -> Result<Vec<u8>, AllocError>
     Ok(out)
 }
 
-/// Carries out the message with this content. Returns the frames to write.
+/// Carries out the message whose content is at `span` in `bytes`. `reading` is a document that has been read. Returns
+/// the frames to write.
 fn answer<D: Disk>(
     alloc: Global,
     state: &mut State,
     disk: &mut D,
-    content: &[u8],
+    bytes: &[u8],
+    span: Span,
+    reading: Option<&Reading<'_>>,
 ) -> Result<Vec<u8>, AllocError>
     ensures { IfOk result (λ out. AreFrames out.items) }
 {
-    let contents = step(alloc, state, disk, content)?;
+    let around = Around {
+        waiting: bytes.get(span.end..).unwrap_or(&[]),
+        reading,
+    };
+    let content = bytes.get(span.start..span.end).unwrap_or(&[]);
+    let contents = step_around(alloc, state, disk, content, around)?;
     let out = frames_of(alloc, contents.as_slice())?;
     Ok(out)
 }
@@ -81,7 +93,7 @@ fn refusal_frame(alloc: Global) -> Result<Vec<u8>, AllocError>
 fn read_more<R: Source>(reader: &mut R, bytes: &mut Vec<u8>) -> Option<Ended>
     ensures { IfSome result (λ end. end.status ≤ 4) }
 {
-    let mut buffer = [0u8; 8192];
+    let mut buffer = [0u8; 65536];
     match reader.read(&mut buffer) {
         Ok(0) if bytes.is_empty() => Some(end_with(1, "")),
         Ok(0) => Some(end_with(2, "the input ends within a message")),
@@ -136,8 +148,8 @@ fn finish_frame<W: Sink>(
     None
 }
 
-/// Refuses the first frame in `bytes`, whose content is too long, and reads its content, which ends at the offset `end`,
-/// without carrying it out. Returns how the server ends, or `None` if the server continues.
+/// Refuses the first frame in `bytes`, whose content is too long, and reads its content, which ends at the offset
+/// `end`, without carrying it out. Returns how the server ends, or `None` if the server continues.
 fn refuse_frame<R: Source, W: Sink>(
     alloc: Global,
     bytes: &mut Vec<u8>,
@@ -160,15 +172,15 @@ fn refuse_frame<R: Source, W: Sink>(
     discard(reader, left)
 }
 
-/// Answers the first frame in `bytes`, whose content is from `start` to `end`, and removes the frame from `bytes`.
-/// Returns how the server ends, or `None` if the server continues.
+/// Answers the first frame in `bytes`, whose content is at `span`, and removes the frame from `bytes`. `reading` is a
+/// document that has been read. Returns how the server ends, or `None` if the server continues.
 fn take_frame<D: Disk, W: Sink>(
     alloc: Global,
     state: &mut State,
     disk: &mut D,
     bytes: &mut Vec<u8>,
-    start: usize,
-    end: usize,
+    span: Span,
+    reading: Option<&Reading<'_>>,
     writer: &mut W,
 ) -> Option<Ended>
     requires { W.failed writer.old ≡ false }
@@ -176,10 +188,10 @@ fn take_frame<D: Disk, W: Sink>(
     ensures writer { IfNone result (W.failed writer.new ≡ false) }
     ensures frames { Writes result (W.contents writer.old) (W.contents writer.new) }
 {
-    let Ok(out) = answer(alloc, state, disk, bytes.get(start..end).unwrap_or(&[])) else {
+    let Ok(out) = answer(alloc, state, disk, bytes.as_slice(), span, reading) else {
         return Some(end_with(4, ""));
     };
-    if let Some(end) = finish_frame(alloc, bytes, end, out.as_slice(), writer) {
+    if let Some(end) = finish_frame(alloc, bytes, span.end, out.as_slice(), writer) {
         return Some(end);
     }
     match state.exit_status() {
@@ -188,14 +200,15 @@ fn take_frame<D: Disk, W: Sink>(
     }
 }
 
-/// Answers the frame at the start of `bytes` or, if the frame is not complete, reads more bytes. Returns how the server
-/// ends, or `None` if the server continues.
+/// Answers the frame at the start of `bytes` or, if the frame is not complete, reads more bytes. `reading` is a
+/// document that has been read. Returns how the server ends, or `None` if the server continues.
 fn next<D: Disk, R: Source, W: Sink>(
     alloc: Global,
     state: &mut State,
     disk: &mut D,
     bytes: &mut Vec<u8>,
     reader: &mut R,
+    reading: Option<&Reading<'_>>,
     writer: &mut W,
 ) -> Option<Ended>
     requires { W.failed writer.old ≡ false }
@@ -208,8 +221,108 @@ fn next<D: Disk, R: Source, W: Sink>(
         Framed::TooLong { end } => refuse_frame(alloc, bytes, end, reader, writer),
         Framed::Fault(fault) => Some(end_with(2, reason_of(fault))),
         Framed::Whole { start, end } => {
-            take_frame(alloc, state, disk, bytes, start, end, writer)
+            let span = Span { start, end };
+            take_frame(alloc, state, disk, bytes, span, reading, writer)
         }
+    }
+}
+
+/// Returns whether the text `name` is no longer that of its document, or whether the first request in `bytes` is about
+/// another text. Returns true if an allocation fails.
+fn is_over(alloc: Global, state: &State, name: &TextName, bytes: &[u8]) -> bool {
+    let is_same = match state.documents.get(name.uri.as_str()) {
+        Some(open) => open.revision == name.revision,
+        None => false,
+    };
+    match next_text(alloc, state, bytes) {
+        Ok(Some(next)) => !is_same || next.revision != name.revision,
+        Ok(None) => !is_same,
+        Err(_) => true,
+    }
+}
+
+/// Answers frames until the next one asks about another text than `reading`, or until that text is changed or closed.
+/// Returns how the server ends, or `None` if the server continues.
+fn answer_all<D: Disk, R: Source, W: Sink>(
+    alloc: Global,
+    state: &mut State,
+    disk: &mut D,
+    bytes: &mut Vec<u8>,
+    reader: &mut R,
+    reading: &Reading<'_>,
+    writer: &mut W,
+) -> Option<Ended>
+    requires { W.failed writer.old ≡ false }
+    ensures status { IfSome result (λ end. end.status ≤ 4) }
+    ensures writer { IfNone result (W.failed writer.new ≡ false) }
+    ensures frames { Writes result (W.contents writer.old) (W.contents writer.new) }
+{
+    'messages: for _ in 0..u64::MAX {
+        if is_over(alloc, state, &reading.name, bytes.as_slice()) {
+            return None;
+        }
+        match next(alloc, state, disk, bytes, reader, Some(reading), writer) {
+            Some(end) => return Some(end),
+            None => {}
+        }
+    }
+    None
+}
+
+/// Reads the text `name`, about which the frame at the start of `bytes` asks, and answers that frame and those after
+/// it, as `answer_all` does. Returns how the server ends, or `None` if the server continues.
+fn read_and_answer<D: Disk, R: Source, W: Sink>(
+    alloc: Global,
+    state: &mut State,
+    disk: &mut D,
+    bytes: &mut Vec<u8>,
+    reader: &mut R,
+    name: TextName,
+    writer: &mut W,
+) -> Option<Ended>
+    requires { W.failed writer.old ≡ false }
+    ensures status { IfSome result (λ end. end.status ≤ 4) }
+    ensures writer { IfNone result (W.failed writer.new ≡ false) }
+    ensures frames { Writes result (W.contents writer.old) (W.contents writer.new) }
+{
+    let Ok(Some(text)) = text_of(state, &name) else {
+        return Some(end_with(4, ""));
+    };
+    let Ok(document) = read(alloc, text.as_str()) else {
+        return Some(end_with(4, ""));
+    };
+    let Ok(kept) = kept_of(alloc, document.as_ref(), text.as_str()) else {
+        return Some(end_with(4, ""));
+    };
+    let (encoding, whole, part) = (state.encoding, text.as_str(), kept.as_str());
+    let Ok(reading) = reading_of(alloc, encoding, name, whole, document, part) else {
+        return Some(end_with(4, ""));
+    };
+    answer_all(alloc, state, disk, bytes, reader, &reading, writer)
+}
+
+/// Answers the frame at the start of `bytes` or, if the frame is not complete, reads more bytes. If the frame asks
+/// about a document, reads the document, and answers all frames that are about the same text. Returns how the server
+/// ends, or `None` if the server continues.
+fn next_reading<D: Disk, R: Source, W: Sink>(
+    alloc: Global,
+    state: &mut State,
+    disk: &mut D,
+    bytes: &mut Vec<u8>,
+    reader: &mut R,
+    writer: &mut W,
+) -> Option<Ended>
+    requires { W.failed writer.old ≡ false }
+    ensures status { IfSome result (λ end. end.status ≤ 4) }
+    ensures writer { IfNone result (W.failed writer.new ≡ false) }
+    ensures frames { Writes result (W.contents writer.old) (W.contents writer.new) }
+{
+    let Ok(text) = next_text(alloc, state, bytes.as_slice()) else {
+        return Some(end_with(4, ""));
+    };
+    match text {
+        Some(name) => read_and_answer(alloc, state, disk, bytes, reader, name, writer),
+        None => next(alloc, state, disk, bytes, reader, None, writer),
     }
 }
 
@@ -228,7 +341,7 @@ pub fn serve<D: Disk, R: Source, W: Sink>(
     let mut state = State::new(alloc);
     let mut bytes = Vec::new(alloc);
     'messages: for _ in 0..u64::MAX {
-        match next(alloc, &mut state, disk, &mut bytes, reader, writer) {
+        match next_reading(alloc, &mut state, disk, &mut bytes, reader, writer) {
             Some(end) => return end,
             None => {}
         }

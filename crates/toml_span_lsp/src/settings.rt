@@ -12,6 +12,8 @@ pub(crate) struct Settings {
     pub width: Option<usize>,
     /// The version of TOML against which documents are checked.
     pub version: Version,
+    /// Whether there is a setting `schema`, so that the schemas that documents name are not used.
+    pub has_schema: bool,
 }
 
 impl Settings {
@@ -19,6 +21,7 @@ impl Settings {
     pub(crate) const USUAL: Settings = Settings {
         width: None,
         version: Version::Auto,
+        has_schema: false,
     };
 }
 
@@ -125,7 +128,7 @@ fn read_formats(value: &Value<'_>, read: &mut ReadSettings) -> Result<(), AllocE
 }
 
 /// Returns `address` unchanged if it is empty or a URL. Otherwise, it is a path, and the result is that of `rooted`.
-fn address_in(alloc: Global, root: &str, address: &str) -> Result<String, AllocError> {
+fn rooted_address(alloc: Global, root: &str, address: &str) -> Result<String, AllocError> {
     if address.is_empty() || address.contains("://") {
         String::from_str(alloc, address)
     } else {
@@ -133,18 +136,35 @@ fn address_in(alloc: Global, root: &str, address: &str) -> Result<String, AllocE
     }
 }
 
-/// Reads the settings `schema`, the path or the URL of the schema of all files, and `catalog`, the path of a catalog.
-/// Paths are relative to `root`. Adds a fault for each wrong value.
-fn read_paths(
+/// Returns `options` with paths that are relative to `root`, a folder, as `rooted` returns them.
+pub(crate) fn rooted_options(
     alloc: Global,
     root: &str,
-    value: &Value<'_>,
-    read: &mut ReadSettings,
-) -> Result<(), AllocError> {
+    options: &Options,
+) -> Result<Options, AllocError> {
+    let mut made = Options::new(alloc, options.place);
+    made.has_formats = options.has_formats;
+    made.schema = rooted_address(alloc, root, options.schema.as_str())?;
+    if !options.catalog.is_empty() {
+        made.catalog = rooted(alloc, root, options.catalog.as_str())?;
+    }
+    for copy in options.copies.as_slice() {
+        made.copies.push(LocalCopy {
+            address: String::from_str(alloc, copy.address.as_str())?,
+            path: rooted(alloc, root, copy.path.as_str())?,
+        })?;
+    }
+    Ok(made)
+}
+
+/// Reads the settings `schema`, the path or the URL of the schema of all files, and `catalog`, the path of a catalog.
+/// Adds a fault for each wrong value.
+fn read_paths(alloc: Global, value: &Value<'_>, read: &mut ReadSettings) -> Result<(), AllocError> {
     match set_in(value, "schema") {
         None => {}
         Some(Value::String(schema)) => {
-            read.all.options.schema = address_in(alloc, root, *schema)?;
+            read.all.options.schema = String::from_str(alloc, *schema)?;
+            read.all.settings.has_schema = !schema.is_empty();
         }
         Some(_) => push_fault(&mut read.faults, "`schema` must be a path or a URL")?,
     }
@@ -152,19 +172,17 @@ fn read_paths(
         None => Ok(()),
         Some(Value::String("")) => Ok(()),
         Some(Value::String(catalog)) => {
-            read.all.options.catalog = rooted(alloc, root, *catalog)?;
+            read.all.options.catalog = String::from_str(alloc, *catalog)?;
             Ok(())
         }
         Some(_) => push_fault(&mut read.faults, "`catalog` must be a path"),
     }
 }
 
-/// Reads the setting `schemaMap`, an object that maps the URL of a schema to the path of a local copy. Paths are
-/// relative to `root`. Adds a fault if the value is not an object, or at the first path that is not a string. Uses the
-/// copies before that path.
+/// Reads the setting `schemaMap`, an object that maps the URL of a schema to the path of a local copy. Adds a fault if
+/// the value is not an object, or at the first path that is not a string. Uses the copies before that path.
 fn read_copies(
     alloc: Global,
-    root: &str,
     value: &Value<'_>,
     read: &mut ReadSettings,
 ) -> Result<(), AllocError> {
@@ -180,19 +198,15 @@ fn read_copies(
         };
         read.all.options.copies.push(LocalCopy {
             address: String::from_str(alloc, member.0)?,
-            path: rooted(alloc, root, path)?,
+            path: String::from_str(alloc, path)?,
         })?;
     }
     Ok(())
 }
 
 /// Reads the settings in `value`. A setting that is missing, null or wrong has its default value, but a wrong
-/// `schemaMap` may be used in part (see `read_copies`). Ignores unknown settings. Paths are relative to `root`.
-pub(crate) fn read_settings(
-    alloc: Global,
-    root: &str,
-    value: &Value<'_>,
-) -> Result<ReadSettings, AllocError> {
+/// `schemaMap` may be used in part (see `read_copies`). Ignores unknown settings. Paths stay as they are written.
+pub(crate) fn read_settings(alloc: Global, value: &Value<'_>) -> Result<ReadSettings, AllocError> {
     let mut read = ReadSettings {
         all: AllSettings::usual(alloc),
         faults: String::new(alloc),
@@ -203,8 +217,8 @@ pub(crate) fn read_settings(
             read_width(value, &mut read)?;
             read_version(value, &mut read)?;
             read_formats(value, &mut read)?;
-            read_paths(alloc, root, value, &mut read)?;
-            read_copies(alloc, root, value, &mut read)?;
+            read_paths(alloc, value, &mut read)?;
+            read_copies(alloc, value, &mut read)?;
         }
         _ => push_fault(&mut read.faults, "the settings must be an object")?,
     }

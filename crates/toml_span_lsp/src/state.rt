@@ -1,11 +1,13 @@
 //! The state of the server between messages.
 ghost use Rattle.std.specs.Prelude.{◌≤◌, IfSome};
 
+use crate::folders::Folders;
 use crate::settings::{AllSettings, Settings};
 use std::alloc::Global;
 use std::collections::BTreeMap;
 use toml_span_editor::positions::Encoding;
-use toml_span_lookup::lookup::Lookup;
+use toml_span_lookup::options::Options;
+use toml_span_report::Report;
 
 /// The phases of a server, from start to end.
 #[derive(Clone, Copy, Debug, PartialEq, Eq)]
@@ -33,6 +35,20 @@ pub(crate) struct Client {
     pub registers_settings: bool,
     /// Whether the client supports snippets: texts with placeholders for the user to fill in.
     pub has_snippets: bool,
+    /// Whether the client supports code actions that are not commands.
+    pub has_literals: bool,
+    /// Whether the client shows hovers in Markdown.
+    pub has_markdown_hovers: bool,
+    /// Whether the client shows the documentation of completion items in Markdown.
+    pub has_markdown_items: bool,
+    /// Whether the client supports symbols inside symbols.
+    pub has_nested_symbols: bool,
+    /// Whether the client shows the locations that are related to a diagnostic.
+    pub has_related: bool,
+    /// Whether the client supports edits of a version of a document.
+    pub has_versioned_edits: bool,
+    /// Whether the client reports changes of files when the server asks it to.
+    pub registers_files: bool,
 }
 
 impl Client {
@@ -43,7 +59,25 @@ impl Client {
         has_settings: false,
         registers_settings: false,
         has_snippets: false,
+        has_literals: false,
+        has_markdown_hovers: false,
+        has_markdown_items: false,
+        has_nested_symbols: false,
+        has_related: false,
+        has_versioned_edits: false,
+        registers_files: false,
     };
+}
+
+/// The semantic tokens that were sent last for a document.
+#[derive(Drop)]
+pub(crate) struct SentTokens {
+    /// The number of the result, by which the client refers to it.
+    pub number: u64,
+    /// Five numbers for each token.
+    pub data: Vec<u32>,
+    /// The revision of the document whose tokens they are.
+    pub revision: u64,
 }
 
 /// A document that is open in the editor.
@@ -51,10 +85,21 @@ impl Client {
 pub(crate) struct Open {
     pub text: String,
     pub version: Option<i64>,
+    /// A number that no other text of a document has had.
+    pub revision: u64,
     /// The path of the file, as `name_of` returns it.
     pub name: String,
     /// The error lines that `show_complaint` showed last for the document, or an empty text.
     pub complaint: String,
+    /// Lines that say why the schema that the document names can't be used, or an empty text.
+    pub schema_fault: String,
+    /// The address of the schema that the document named when its schema was last read, or an empty text.
+    pub address: String,
+    /// Whether the text has changed since the diagnostics were sent.
+    pub is_pending: bool,
+    /// The reports on the text, or `None` if it has not been checked.
+    pub reports: Option<Vec<Report>>,
+    pub tokens: Option<SentTokens>,
 }
 
 /// The state of the server: its phase, the capabilities of the client, the settings, the schemas and the open
@@ -64,16 +109,23 @@ pub struct State {
     pub(crate) phase: Phase,
     pub(crate) encoding: Encoding,
     pub(crate) client: Client,
-    /// The path of the folder that is open in the editor, with a slash at the end, or an empty text.
-    pub(crate) root: String,
+    /// The paths of the folders that are open in the editor, each with a slash at the end.
+    pub(crate) roots: Vec<String>,
     pub(crate) settings: Settings,
-    pub(crate) lookup: Lookup,
+    /// The settings about schemas. Paths are relative to a folder.
+    pub(crate) options: Options,
+    /// The folders at `roots`, with the schemas that have been read.
+    pub(crate) folders: Folders,
     /// The settings of `initializationOptions`.
     pub(crate) initial: AllSettings,
     /// Whether the current settings are not those of `initializationOptions`, but came later.
     pub(crate) has_later_settings: bool,
     /// Lines to show to the user, each with a line end.
     pub(crate) notices: String,
+    /// The number of texts and results so far, from which each gets a number of its own.
+    pub(crate) count: u64,
+    /// Whether a document may have `is_pending` set.
+    pub(crate) has_pending: bool,
     /// The documents by their URIs.
     pub(crate) documents: BTreeMap<String, Open>,
 }
@@ -85,14 +137,32 @@ impl State {
             phase: Phase::New,
             encoding: Encoding::Utf16,
             client: Client::PLAIN,
-            root: String::new(alloc),
+            roots: Vec::new(alloc),
             settings: Settings::USUAL,
-            lookup: Lookup::new(alloc, AllSettings::usual(alloc).options),
+            options: AllSettings::usual(alloc).options,
+            folders: Folders::none(alloc, AllSettings::usual(alloc).options),
             initial: AllSettings::usual(alloc),
             has_later_settings: false,
             notices: String::new(alloc),
+            count: 0,
+            has_pending: false,
             documents: BTreeMap::new(alloc),
         }
+    }
+
+    /// Returns the path of the folder that is open in the editor, or of the first of several folders, with a slash at
+    /// the end. Returns an empty text if no folder is open.
+    pub(crate) fn root(&self) -> &str {
+        match self.roots.first() {
+            Some(path) => path.as_str(),
+            None => "",
+        }
+    }
+
+    /// Returns a number that this function has not returned before.
+    pub(crate) fn next_number(&mut self) -> u64 {
+        self.count = self.count.wrapping_add(1);
+        self.count
     }
 
     /// Returns the exit status: 0 if `shutdown` came before `exit`, otherwise 1. Returns `None` before `exit`.

@@ -4,29 +4,36 @@ ghost use Rattle.toml_span_lsp.specs.Messages as spec;
 ghost use Rattle.toml_span_lsp.specs.Messages.{Answers, IsAnswer, IsResponse, Responds};
 
 use crate::capabilities::{store_client, write_capabilities};
-use crate::configuration::{initialized, settings_came, settings_changed};
+use crate::configuration::{
+    check_all, folders_changed, initialized, settings_came, settings_changed,
+};
 use crate::incoming::{Call, Id, Message, message_of};
 use crate::methods::method_named;
 use crate::outgoing::{Json, Outbox, error_response, response, show_message};
+use crate::reading::{Around, Reading};
 use crate::refusal::{
-    INVALID_REQUEST, METHOD_NOT_FOUND, NOT_INITIALIZED, PARSE_ERROR, Refusal, refusal_with, refused,
+    INVALID_REQUEST, METHOD_NOT_FOUND, NOT_INITIALIZED, PARSE_ERROR, REQUEST_CANCELLED, Refusal,
+    refusal_with, refused,
 };
 use crate::requests::write_result;
+use crate::schemas::{follow, settle};
 use crate::state::{Phase, State};
 use crate::surrogates::without_lone;
 use crate::sync::{change, close, open, save};
+use crate::waiting::{has_frame, is_cancelled};
 use json::{Error, Scratch, Value};
 use std::alloc::{AllocError, Global};
 use std::mem;
 use toml_span_lex::stop::Stop;
 use toml_span_lookup::disk::Disk;
 
-/// Writes the result of a request between `initialize` and `shutdown`. Fails with a `Refusal` if the request is
-/// refused.
+/// Writes the result of a request between `initialize` and `shutdown`. `known` is as for `write_result`. Fails with a
+/// `Refusal` if the request is refused.
 fn write_request(
     alloc: Global,
     state: &mut State,
     call: Call<'_, '_>,
+    known: Option<&Reading<'_>>,
     out: &mut Json,
 ) -> Result<(), Stop<Refusal>> {
     if call.method == "shutdown" {
@@ -35,16 +42,18 @@ fn write_request(
         return Ok(());
     }
     match method_named(call.method) {
-        Some(method) => write_result(alloc, state, method, call.params, out),
+        Some(method) => write_result(alloc, state, method, call.params, known, out),
         None => Err(refused(alloc, METHOD_NOT_FOUND, "the method is not known")),
     }
 }
 
-/// Writes the result of a request. Fails with a `Refusal` if the request is refused, for example in the wrong phase.
+/// Writes the result of a request. `known` is as for `write_result`. Fails with a `Refusal` if the request is refused,
+/// for example in the wrong phase.
 fn write_phased(
     alloc: Global,
     state: &mut State,
     call: Call<'_, '_>,
+    known: Option<&Reading<'_>>,
     out: &mut Json,
 ) -> Result<(), Stop<Refusal>> {
     match (state.phase, call.method) {
@@ -58,24 +67,25 @@ fn write_phased(
         (Phase::Running, "initialize") => {
             Err(refused(alloc, INVALID_REQUEST, "`initialize` must not be repeated"))
         }
-        (Phase::Running, _) => write_request(alloc, state, call, out),
+        (Phase::Running, _) => write_request(alloc, state, call, known, out),
         (Phase::Shut | Phase::Ended { .. }, _) => {
             Err(refused(alloc, INVALID_REQUEST, "the server is shut down"))
         }
     }
 }
 
-/// Returns the response to a request.
+/// Returns the response to a request. `known` is as for `write_result`.
 fn answered(
     alloc: Global,
     state: &mut State,
     id: Id<'_>,
     call: Call<'_, '_>,
+    known: Option<&Reading<'_>>,
 ) -> Result<Vec<u8>, AllocError>
     ensures { IfOk result (λ message. IsResponse (spec.id_token id.entry) message.items) }
 {
     let mut value = Json::new(alloc);
-    match write_phased(alloc, state, call, &mut value) {
+    match write_phased(alloc, state, call, known, &mut value) {
         Ok(()) => response(alloc, id, value),
         Err(stop) => {
             let refusal = stop.fault()?;
@@ -113,6 +123,10 @@ fn note<D: Disk>(
         (Phase::Running, "workspace/didChangeConfiguration") => {
             settings_changed(alloc, state, disk, call.params, out)
         }
+        (Phase::Running, "workspace/didChangeWorkspaceFolders") => {
+            folders_changed(alloc, state, disk, call.params, out)
+        }
+        (Phase::Running, "workspace/didChangeWatchedFiles") => check_all(alloc, state, disk, out),
         (Phase::Running, "textDocument/didOpen") => open(alloc, state, disk, call.params, out),
         (Phase::Running, "textDocument/didChange") => change(alloc, state, call.params, out),
         (Phase::Running, "textDocument/didSave") => save(alloc, state, disk, call.params, out),
@@ -137,6 +151,25 @@ pub(crate) fn refuse(
     error_response(alloc, id, &refusal)
 }
 
+/// Returns the response to a request. Refuses the request if a message in `around` cancels it. Otherwise, reads the
+/// schemas that changed documents name before it answers.
+fn taken<D: Disk>(
+    alloc: Global,
+    state: &mut State,
+    disk: &mut D,
+    id: Id<'_>,
+    call: Call<'_, '_>,
+    around: Around<'_, '_, '_>,
+) -> Result<Vec<u8>, AllocError>
+    ensures { IfOk result (λ message. IsResponse (spec.id_token id.entry) message.items) }
+{
+    if is_cancelled(alloc, around.waiting, id)? {
+        return refuse(alloc, id, REQUEST_CANCELLED, "the request was cancelled");
+    }
+    follow(alloc, state, disk)?;
+    answered(alloc, state, id, call, around.reading)
+}
+
 /// Carries out a message, and appends the notifications and requests to send. Returns the response to a request, or
 /// `None` for another message.
 fn take<D: Disk>(
@@ -144,6 +177,7 @@ fn take<D: Disk>(
     state: &mut State,
     disk: &mut D,
     message: Message<'_, '_>,
+    around: Around<'_, '_, '_>,
     out: &mut Outbox,
 ) -> Result<Option<Vec<u8>>, AllocError>
     ensures { IfOk result (λ response. IsAnswer (spec.awaited message.entry)
@@ -162,7 +196,7 @@ fn take<D: Disk>(
         }
         Message::Call(call) => match call.id {
             Some(id) => {
-                let response = answered(alloc, state, id, call)?;
+                let response = taken(alloc, state, disk, id, call, around)?;
                 Ok(Some(response))
             }
             None => {
@@ -180,12 +214,13 @@ fn take_repaired<D: Disk>(
     state: &mut State,
     disk: &mut D,
     content: &[u8],
+    around: Around<'_, '_, '_>,
     out: &mut Outbox,
 ) -> Result<Option<Vec<u8>>, AllocError> {
     let repaired = without_lone(alloc, content)?;
     let mut scratch = Scratch::new(alloc);
     match Value::from_slice(alloc, repaired.as_slice(), &mut scratch) {
-        Ok(value) => take(alloc, state, disk, message_of(&value), out),
+        Ok(value) => take(alloc, state, disk, message_of(&value), around, out),
         Err(Error::OutOfMemory) => Err(AllocError),
         Err(_) => {
             let response = refuse(alloc, Id::Null, PARSE_ERROR, "the content is not JSON")?;
@@ -201,15 +236,16 @@ fn respond<D: Disk>(
     state: &mut State,
     disk: &mut D,
     content: &[u8],
+    around: Around<'_, '_, '_>,
     out: &mut Outbox,
 ) -> Result<Option<Vec<u8>>, AllocError>
     ensures { IfOk result (λ response. Responds content.now (option_map (λ text. text.items) response)) }
 {
     let mut scratch = Scratch::new(alloc);
     match Value::from_slice(alloc, content, &mut scratch) {
-        Ok(value) => take(alloc, state, disk, message_of(&value), out),
+        Ok(value) => take(alloc, state, disk, message_of(&value), around, out),
         Err(Error::OutOfMemory) => Err(AllocError),
-        Err(_) => take_repaired(alloc, state, disk, content, out),
+        Err(_) => take_repaired(alloc, state, disk, content, around, out),
     }
 }
 
@@ -225,10 +261,30 @@ fn push_notices(alloc: Global, state: &mut State, out: &mut Outbox) {
     }
 }
 
+/// Carries out the message in `content`, as `step` does. The notifications with diagnostics are left to the last of the
+/// messages in `around`.
+pub(crate) fn step_around<D: Disk>(
+    alloc: Global,
+    state: &mut State,
+    disk: &mut D,
+    content: &[u8],
+    around: Around<'_, '_, '_>,
+) -> Result<Vec<Vec<u8>>, AllocError>
+    ensures { IfOk result (λ messages. Answers content.now (map (λ text. text.items) messages.items)) }
+{
+    let mut out = Outbox::new(alloc);
+    let response = respond(alloc, state, disk, content, around, &mut out)?;
+    if !has_frame(around.waiting) {
+        settle(alloc, state, disk, &mut out)?;
+    }
+    push_notices(alloc, state, &mut out);
+    out.finish(alloc, response)
+}
+
 /// Carries out the message in `content`, the content of a frame. Returns the contents of the frames to send, in order:
 /// the response, if the message is a request, and then notifications and requests of the server. Reads schemas from
-/// `disk` when a document is opened or saved, or when settings change. Fails if an allocation fails; the message may
-/// have been carried out in part by then.
+/// `disk` when a document is opened or saved or names another schema, or when settings or files change. Fails if an
+/// allocation fails; the message may have been carried out in part by then.
 pub fn step<D: Disk>(
     alloc: Global,
     state: &mut State,
@@ -237,8 +293,9 @@ pub fn step<D: Disk>(
 ) -> Result<Vec<Vec<u8>>, AllocError>
     ensures { IfOk result (λ messages. Answers content.now (map (λ text. text.items) messages.items)) }
 {
-    let mut out = Outbox::new(alloc);
-    let response = respond(alloc, state, disk, content, &mut out)?;
-    push_notices(alloc, state, &mut out);
-    out.finish(alloc, response)
+    let around = Around {
+        waiting: &[],
+        reading: None,
+    };
+    step_around(alloc, state, disk, content, around)
 }

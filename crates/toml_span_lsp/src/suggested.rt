@@ -1,6 +1,6 @@
 //! Writes completion items.
 use crate::methods::Request;
-use crate::outgoing::Json;
+use crate::outgoing::{Json, write_markup};
 use std::alloc::AllocError;
 use toml_span_editor::completion::{Completion, Suggestion, SuggestionKind};
 
@@ -25,19 +25,26 @@ fn rank_of(suggestion: &Suggestion) -> &'static str {
     }
 }
 
-/// Writes the documentation of a suggestion as Markdown.
-fn write_documentation(out: &mut Json, documentation: &str) {
-    out.object("documentation");
-    out.text("kind", "markdown");
-    out.text("value", documentation);
-    out.end_object();
+/// Writes the documentation of a suggestion, as Markdown if the client supports it.
+fn write_documentation(
+    request: &Request<'_, '_, '_>,
+    documentation: &str,
+    out: &mut Json,
+) -> Result<(), AllocError> {
+    out.key("documentation");
+    write_markup(
+        request.alloc,
+        documentation,
+        request.client.has_markdown_items,
+        out,
+    )
 }
 
 /// Writes the range that a suggestion replaces, and the new text: the snippet if there is one and the client supports
 /// snippets, otherwise `suggestion.text`.
 fn write_edit(request: &Request<'_, '_, '_>, suggestion: &Suggestion, out: &mut Json) {
     let new = match &suggestion.snippet {
-        Some(snippet) if request.has_snippets => {
+        Some(snippet) if request.client.has_snippets => {
             out.number("insertTextFormat", 2);
             snippet.as_str()
         }
@@ -65,7 +72,7 @@ fn write_suggestion(
         out.text("detail", suggestion.detail.as_str());
     }
     if !suggestion.documentation.is_empty() {
-        write_documentation(out, suggestion.documentation.as_str());
+        write_documentation(request, suggestion.documentation.as_str(), out)?;
     }
     if suggestion.is_deprecated {
         out.flag("deprecated", true);

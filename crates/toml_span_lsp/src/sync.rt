@@ -2,6 +2,7 @@
 use crate::incoming::{member, range_of, text_in};
 use crate::outgoing::{Outbox, log_message};
 use crate::publish::{publish, published};
+use crate::schemas::read_schema;
 use crate::state::{Open, State};
 use crate::uris::name_of;
 use json::Value;
@@ -23,33 +24,23 @@ fn store(
     text: String,
     version: Option<i64>,
 ) -> Result<(), AllocError> {
-    let name = name_of(alloc, state.root.as_str(), uri)?;
+    let name = name_of(alloc, state.root(), uri)?;
     let uri = String::from_str(alloc, uri)?;
+    let revision = state.next_number();
     let open = Open {
         text,
         version,
+        revision,
         name,
         complaint: String::new(alloc),
+        schema_fault: String::new(alloc),
+        address: String::new(alloc),
+        is_pending: false,
+        reports: None,
+        tokens: None,
     };
     state.documents.insert(uri, open)?;
     Ok(())
-}
-
-/// Reads and compiles the schema of the open document `uri`, unless it has been read and has not changed since. Appends
-/// errors to `state.notices`.
-fn read_schema<D: Disk>(
-    alloc: Global,
-    state: &mut State,
-    disk: &mut D,
-    uri: &str,
-) -> Result<(), AllocError> {
-    if let Some(open) = state.documents.get(uri) {
-        state
-            .lookup
-            .refresh(alloc, disk, open.name.as_str(), open.text.as_str())?;
-    }
-    let complaint = state.lookup.take_complaint(alloc);
-    state.notices.push_str(complaint.as_str())
 }
 
 /// Reads the schema of the open document `uri`, as `read_schema` does. Then appends the notification with the
@@ -142,8 +133,8 @@ fn new_text(
     }
 }
 
-/// Changes a document, and appends the notification with its diagnostics, as `publish` does. If the document is not
-/// open or a change is not valid, changes nothing and appends a warning.
+/// Changes a document, whose diagnostics are then pending (see `settle`). If the document is not open or a change is
+/// not valid, changes nothing and appends a warning.
 pub(crate) fn change(
     alloc: Global,
     state: &mut State,
@@ -155,6 +146,7 @@ pub(crate) fn change(
         return Ok(());
     };
     let new = new_text(alloc, state, uri, params)?;
+    let revision = state.next_number();
     let (Some(open), Some(text)) = (state.documents.get_mut(uri), new) else {
         let message = "didChange: the document is not open, or a change is not valid";
         out.add(log_message(alloc, message));
@@ -162,7 +154,11 @@ pub(crate) fn change(
     };
     open.text = text;
     open.version = version_of(params);
-    publish(alloc, state, uri, out)
+    open.revision = revision;
+    open.reports = None;
+    open.is_pending = true;
+    state.has_pending = true;
+    Ok(())
 }
 
 /// Carries out the notification that a document was saved: reads its schema again if the schema has changed, and
@@ -187,6 +183,6 @@ pub(crate) fn close(alloc: Global, state: &mut State, params: &Value<'_>, out: &
         return;
     };
     if state.documents.remove(uri).is_some() && !state.client.asks_diagnostics {
-        out.add(published(alloc, uri, None, &[]));
+        out.add(published(alloc, state.client, uri, None, &[]));
     }
 }

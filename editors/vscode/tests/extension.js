@@ -116,7 +116,9 @@ const TESTS = {
     await until(() => editor.diagnostics.size);
     await sleep(50);
     const [[one]] = [...editor.diagnostics.values()];
-    assert.deepEqual([one.message, one.severity, one.code, one.source], ["m", 1, "c", "s"]);
+    assert.deepEqual([one.message, one.severity, one.code.value, one.source], ["m", 1, "c", "s"]);
+    assert.equal(one.code.target.toString(), "toml-span:c");
+    assert.equal(await editor.pages["toml-span"].provideTextDocumentContent(one.code.target), "about c\n");
     await stop();
     assert.equal(editor.diagnostics.size, 0);
   },

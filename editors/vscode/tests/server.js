@@ -3,6 +3,11 @@
 // is written to the file $LOG, a message per line.
 const { appendFileSync } = require("fs");
 
+if (process.argv[2] === "explain") {
+  console.log(`about ${process.argv[3]}`);
+  process.exit();
+}
+
 const range = { start: { line: 0, character: 0 }, end: { line: 0, character: 1 } };
 const ranges = { range, selectionRange: range };
 const edit = { range, newText: "é" };

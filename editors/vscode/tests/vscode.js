@@ -37,11 +37,11 @@ class Range extends record("start", "end") {
 class Uri {
   constructor(text) {
     this.text = text;
-    [, this.scheme] = /^(\w+):/.exec(text);
+    [, this.scheme, this.path] = /^([\w-]+):(?:\/\/)?(.*)/.exec(text);
   }
 
   static parse(text, strict) {
-    if (!strict || !/^\w+:/.test(text)) throw new Error(`not a URI: ${text}`);
+    if (!strict || !/^[\w-]+:/.test(text)) throw new Error(`not a URI: ${text}`);
     return new Uri(text);
   }
 
@@ -133,6 +133,7 @@ const editor = {
   documents: [],
   folders: [],
   providers: {}, // by their kinds
+  pages: {}, // what returns the contents of pages, by their schemes
   diagnostics: new Map(),
   commands: {},
   executed: [],
@@ -235,6 +236,10 @@ const workspace = {
   },
   getConfiguration,
   createFileSystemWatcher,
+  registerTextDocumentContentProvider: (scheme, provider) => {
+    editor.pages[scheme] = provider;
+    return new Disposable(() => delete editor.pages[scheme]);
+  },
   applyEdit: async (edit) => editor.applied.push(edit) > 0,
 };
 for (const name of `ChangeConfiguration ChangeTextDocument ChangeWorkspaceFolders CloseTextDocument GrantWorkspaceTrust

@@ -1,0 +1,143 @@
+//! The folders that are open in the editor, with the schemas of the documents in each.
+use crate::incoming::text_in;
+use crate::settings::rooted_options;
+use crate::uris::path_of_uri;
+use json::Value;
+use std::alloc::{AllocError, Global};
+use std::collections::BTreeMap;
+use toml_span_lookup::lookup::Lookup;
+use toml_span_lookup::options::Options;
+
+/// A folder, and the schemas of the documents in it.
+#[derive(Drop)]
+pub(crate) struct Folder {
+    /// The path of the folder, with a slash at the end. Empty if no folder is open.
+    pub path: String,
+    pub lookup: Lookup,
+    /// Why schemas that documents name can't be used, by the paths of the schemas.
+    pub faults: BTreeMap<String, String>,
+}
+
+impl Folder {
+    /// Returns a folder of which no schemas have been read. Paths in `options` are relative to the folder.
+    fn new(alloc: Global, path: &str, options: &Options) -> Result<Folder, AllocError> {
+        Ok(Folder {
+            path: String::from_str(alloc, path)?,
+            lookup: Lookup::new(alloc, rooted_options(alloc, path, options)?),
+            faults: BTreeMap::new(alloc),
+        })
+    }
+}
+
+/// The folders that are open, at least one.
+#[derive(Drop)]
+pub(crate) struct Folders {
+    first: Folder,
+    others: Vec<Folder>,
+}
+
+impl Folders {
+    /// Returns the folders for an editor that has none, with `options` for schemas.
+    pub(crate) fn none(alloc: Global, options: Options) -> Folders {
+        Folders {
+            first: Folder {
+                path: String::new(alloc),
+                lookup: Lookup::new(alloc, options),
+                faults: BTreeMap::new(alloc),
+            },
+            others: Vec::new(alloc),
+        }
+    }
+
+    /// Returns the folders at these paths, of which no schemas have been read, or one with an empty path if there are
+    /// none. Paths in `options` are relative to each folder.
+    pub(crate) fn at_paths(
+        alloc: Global,
+        paths: &[String],
+        options: &Options,
+    ) -> Result<Folders, AllocError> {
+        let mut others = Vec::new(alloc);
+        for path in paths.get(1..).unwrap_or(&[]) {
+            others.push(Folder::new(alloc, path.as_str(), options)?)?;
+        }
+        let first = match paths.first() {
+            Some(path) => path.as_str(),
+            None => "",
+        };
+        Ok(Folders {
+            first: Folder::new(alloc, first, options)?,
+            others,
+        })
+    }
+
+    /// Returns the position in `others` of the folder that contains the file `name`, the longest one of several.
+    /// Returns `None` if none of them does, or if the first folder does, with a longer path.
+    fn position_of(&self, name: &str) -> Option<usize> {
+        let mut best = None;
+        let mut length = 0;
+        if name.starts_with(self.first.path.as_str()) {
+            length = self.first.path.len();
+        }
+        for (at, folder) in self.others.as_slice().iter().enumerate() {
+            let path = folder.path.as_str();
+            if path.len() > length && name.starts_with(path) {
+                best = Some(at);
+                length = path.len();
+            }
+        }
+        best
+    }
+
+    /// Returns the folder that contains the file `name`, or the first one if none does.
+    pub(crate) fn folder_of(&self, name: &str) -> &Folder {
+        let Some(at) = self.position_of(name) else {
+            return &self.first;
+        };
+        match self.others.get(at) {
+            Some(folder) => folder,
+            None => &self.first,
+        }
+    }
+
+    /// Returns the folder that contains the file `name`, or the first one if none does, to be changed.
+    pub(crate) fn folder_of_mut(&mut self, name: &str) -> &mut Folder {
+        let Some(at) = self.position_of(name) else {
+            return &mut self.first;
+        };
+        match self.others.get_mut(at) {
+            Some(folder) => folder,
+            None => &mut self.first,
+        }
+    }
+}
+
+/// Returns the path of a folder, with a slash at the end. Returns `None` if `path_of_uri` does for its URI.
+pub(crate) fn folder_path(alloc: Global, uri: &str) -> Result<Option<String>, AllocError> {
+    let Some(mut path) = path_of_uri(alloc, uri)? else {
+        return Ok(None);
+    };
+    if !path.ends_with('/') {
+        path.push('/')?;
+    }
+    Ok(Some(path))
+}
+
+/// Appends the paths of folders in a list of the client, except for those that are in `paths` already. Ignores folders
+/// for which `folder_path` returns `None`.
+pub(crate) fn push_paths(
+    alloc: Global,
+    folders: Option<&Value<'_>>,
+    paths: &mut Vec<String>,
+) -> Result<(), AllocError> {
+    let Some(Value::Array(folders)) = folders else {
+        return Ok(());
+    };
+    for folder in folders.as_slice() {
+        if let Some(path) = folder_path(alloc, text_in(folder, &["uri"]).unwrap_or(""))? {
+            if !paths.iter().any(|known| *known == path) {
+                paths.push(path)?;
+            }
+        }
+    }
+    Ok(())
+}

@@ -1,0 +1,103 @@
+//! Documents that are read once for all requests about the same text.
+use crate::state::{Open, State};
+use std::alloc::{AllocError, Global};
+use toml_span_editor::document::{Document, read, readable};
+use toml_span_editor::positions::Encoding;
+use toml_span_editor::table::PositionTable;
+use toml_span_lines::run::BOUND;
+
+/// A text of an open document.
+#[derive(Drop)]
+pub(crate) struct TextName {
+    /// The URI of the document.
+    pub uri: String,
+    /// The number of the text.
+    pub revision: u64,
+}
+
+impl TextName {
+    pub(crate) fn new(alloc: Global, uri: &str, revision: u64) -> Result<TextName, AllocError> {
+        Ok(TextName {
+            uri: String::from_str(alloc, uri)?,
+            revision,
+        })
+    }
+}
+
+/// The text of a document, as far as it can be read.
+#[derive(Drop)]
+pub(crate) struct Reading<'t> {
+    pub name: TextName,
+    /// The text, with its positions.
+    pub table: PositionTable<'t>,
+    /// The whole document, or `None` if the text has errors.
+    pub document: Option<Document<'t>>,
+    /// If the text has errors, what can be read of it, as `readable` returns it.
+    pub partial: Option<Document<'t>>,
+}
+
+impl<'t> Reading<'t> {
+    /// Returns the document or, if the text has errors, what can be read of it.
+    pub(crate) fn known(&self) -> Option<&Document<'t>> {
+        match &self.document {
+            Some(document) => Some(document),
+            None => self.partial.as_ref(),
+        }
+    }
+}
+
+/// The messages that came after the one that is answered, and the document that has been read.
+#[derive(Clone, Copy)]
+pub(crate) struct Around<'w, 'r, 't> {
+    /// The bytes that have been read after the message.
+    pub waiting: &'w [u8],
+    pub reading: Option<&'r Reading<'t>>,
+}
+
+/// Returns a copy of a text. Returns `None` if its document is not open or has another text now.
+pub(crate) fn text_of(state: &State, name: &TextName) -> Result<Option<String>, AllocError> {
+    match state.documents.get(name.uri.as_str()) {
+        Some(open) if open.revision == name.revision => Ok(Some(open.text.clone()?)),
+        _ => Ok(None),
+    }
+}
+
+/// Returns what can be read of a text with errors. For a text without errors, which has a `document`, returns an empty
+/// text.
+pub(crate) fn kept_of(
+    alloc: Global,
+    document: Option<&Document<'_>>,
+    text: &str,
+) -> Result<String, AllocError> {
+    match document {
+        Some(_) => Ok(String::new(alloc)),
+        None => readable(alloc, text),
+    }
+}
+
+/// Returns a reading of `text`, which has this name. `document` is the result of `read` for `text`, and `kept` that of
+/// `kept_of`.
+pub(crate) fn reading_of<'t>(
+    alloc: Global,
+    encoding: Encoding,
+    name: TextName,
+    text: &'t str,
+    document: Option<Document<'t>>,
+    kept: &'t str,
+) -> Result<Reading<'t>, AllocError> {
+    let partial = match &document {
+        Some(_) => None,
+        None => read(alloc, kept)?,
+    };
+    Ok(Reading {
+        name,
+        table: PositionTable::new(alloc, encoding, text)?,
+        document,
+        partial,
+    })
+}
+
+/// Returns whether the text of a document is longer than 16 MiB. Such a text is kept, but not read.
+pub(crate) fn is_too_long(open: &Open) -> bool {
+    open.text.len() > BOUND
+}
