@@ -4,7 +4,8 @@
 A session is a file of lines: `-> JSON` is a message to the server, `<- JSON` one that it must send next, `=> TEXT`
 bytes that are sent as they are (with the escapes of Python), `spaces N` that many spaces that are sent, and `status N`
 the exit status, by default 0.
-`"jsonrpc": "2.0"` is added to messages without it, and not compared; `"..."` stands for any value. `file PATH TEXT`
+`"jsonrpc": "2.0"` is added to messages without it, and not compared; `"..."` stands for any value. What is sent after
+`<-` lines is sent once their messages have come; lines with nothing between them are sent at once. `file PATH TEXT`
 writes a file in the folder in which the server runs, once all messages before it have come; `HERE` stands for the path
 of that folder. Lines that begin with `#` are comments. A line that begins with spaces goes on with the line before it.
 
@@ -14,7 +15,8 @@ has written until then, or writes after that, must be as usual, except for one e
 
 With `--fuzz COUNT [SEED]`, sends that many frames at random, most of them wrong, and checks after each hundred that a
 right request is answered. With `--speed FILE`, opens the file and measures how long the server takes for a keystroke
-until its diagnostics are there, and how much memory it has after many of them.
+until its diagnostics are there, how much memory it has after many of them, and how much processor time it takes for a
+keystroke with all that an editor asks for then.
 """
 
 import difflib
@@ -95,9 +97,11 @@ def read_session(name, here):
     for line in lines_of(name):
         kind, _, text = line.partition(" ")
         text = text.replace("HERE", here)
+        is_next = len(wanted) > (parts[-2].wanted if len(parts) > 1 else 0)
+        if kind in ("->", "=>", "spaces") and is_next or kind == "file" and parts[-1].sent:
+            parts.append(Part())
+            parts[-1].wanted = len(wanted)
         if kind == "file":
-            if parts[-1].sent:
-                parts.append(Part())
             parts[-1].files.append(text.partition(" "))
         elif kind == "->":
             parts[-1].sent += encoded(json.loads(text))
@@ -252,9 +256,24 @@ def opened(uri, text, version=1):
 METHODS = """textDocument/documentSymbol textDocument/foldingRange textDocument/selectionRange
 textDocument/documentHighlight textDocument/references textDocument/definition textDocument/hover textDocument/rename
 textDocument/prepareRename textDocument/formatting textDocument/rangeFormatting textDocument/codeAction
-textDocument/completion textDocument/semanticTokens/full textDocument/diagnostic textDocument/didOpen
-textDocument/didChange textDocument/didSave textDocument/didClose textDocument/documentLink workspace/symbol
-workspace/didChangeConfiguration $/cancelRequest $/other initialized initialize""".split()
+textDocument/completion textDocument/semanticTokens/full textDocument/semanticTokens/full/delta
+textDocument/semanticTokens/range textDocument/diagnostic textDocument/didOpen textDocument/didChange
+textDocument/didSave textDocument/didClose textDocument/documentLink workspace/symbol
+workspace/didChangeConfiguration workspace/didChangeWatchedFiles $/cancelRequest $/other initialized
+initialize""".split()
+
+# what a client can announce
+CAPABILITIES = {
+    "general": {"positionEncodings": ["utf-32"]},
+    "textDocument": {
+        "codeAction": {"codeActionLiteralSupport": {}},
+        "completion": {"completionItem": {"snippetSupport": True, "documentationFormat": ["markdown"]}},
+        "documentSymbol": {"hierarchicalDocumentSymbolSupport": True},
+        "hover": {"contentFormat": ["markdown"]},
+        "publishDiagnostics": {"relatedInformation": True},
+    },
+    "workspace": {"workspaceEdit": {"documentChanges": True}},
+}
 
 TEXTS = [
     "",
@@ -344,6 +363,8 @@ class Fuzz:
             },
             "options": {"tabSize": self.number()},
             "settings": {"toml-span": self.one(*SETTINGS, self.junk(2))},
+            "id": self.one(1, 2, "x"),
+            "previousResultId": str(self.random.randrange(40)),
         }
         while self.random.random() < 0.2:
             params[self.one(*params)] = self.junk(3)
@@ -375,6 +396,7 @@ def fuzz(program, count, seed):
         rounds = 20
         settings = makes.one({}, {"schema": "schema.json"}, {"toml": "1.0", "schema": "schema.json"}, makes.junk(2))
         params = {"rootUri": f"file://{here}", "initializationOptions": settings}
+        params["capabilities"] = makes.one({}, CAPABILITIES, makes.junk(2))
         sent = encoded({"id": "start", "method": "initialize", "params": params})
         for number in range(rounds):
             sent += b"".join(makes.frame() for _ in range(100))
@@ -399,11 +421,37 @@ def memory(process):
         return int(re.search(r"VmRSS:\s+(\d+)", file.read())[1])
 
 
+def processor(process):
+    """Returns the processor time of a process in ms."""
+    with open(f"/proc/{process.pid}/stat", encoding="utf-8") as file:
+        fields = file.read().rpartition(")")[2].split()
+    return (int(fields[11]) + int(fields[12])) * 1000 / os.sysconf("SC_CLK_TCK")
+
+
+def keys(server, place, count):
+    """Types keys. After each, sends at once what an editor asks for. Returns the processor time for each in ms."""
+    asked = ["semanticTokens/full/delta", "documentSymbol", "foldingRange", "codeAction", "documentLink", "hover"]
+    asked += ["documentHighlight", "completion"]
+    start = processor(server.process)
+    for number in range(count):
+        document = {"uri": "u", "version": 20_000 + number}
+        change = {"text": "#", "range": {"start": place, "end": place}}
+        changed = {"textDocument": document, "contentChanges": [change]}
+        messages = [{"method": "textDocument/didChange", "params": changed}]
+        for method in asked:
+            params = {"textDocument": {"uri": "u"}, "position": place, "range": change["range"], "context": {}}
+            params["previousResultId"] = "0"
+            messages.append({"id": f"{method} {number}", "method": f"textDocument/{method}", "params": params})
+        server.send(*messages)
+        server.answer(messages[-1]["id"])
+    return (processor(server.process) - start) / count
+
+
 def speed(program, name):
     with open(name, encoding="utf-8") as file:
         text = file.read()
     server = Server(program)
-    server.send({"id": 0, "method": "initialize", "params": {}})
+    server.send({"id": 0, "method": "initialize", "params": {"capabilities": CAPABILITIES}})
     server.answer(0)
     server.send(opened("u", text))
     server.receive()
@@ -430,6 +478,7 @@ def speed(program, name):
         server.send({"id": method, "method": method, "params": params})
         server.answer(method)
         print(f"{method}: {(time.perf_counter() - start) * 1000:.2f} ms")
+    print(f"all requests after a keystroke: {keys(server, place, 50):.1f} ms of processor time")
     server.process.kill()
 
 

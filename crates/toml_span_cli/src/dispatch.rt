@@ -17,6 +17,7 @@ use toml_span_commands::fmt::fmt;
 use toml_span_commands::help::{HELP, VERSION};
 use toml_span_commands::helping::{help, say_unknown};
 use toml_span_commands::say::say;
+use toml_span_commands::schema::schema;
 use toml_span_commands::show::show;
 use toml_span_commands::start::get;
 use toml_span_commands::words::{is_file, is_help, is_version};
@@ -81,6 +82,7 @@ fn perform<O: Sink, E: Sink>(
         Command::Lsp => lsp(alloc, words, host, out, errors),
         Command::Config => config(alloc, words, host, out, errors),
         Command::Explain => explain(alloc, words, out, errors),
+        Command::Schema => schema(alloc, words, host, out, errors),
         Command::Help => help(alloc, words, out, errors),
         Command::Set
         | Command::Rename

@@ -21,5 +21,6 @@ command_named name =
     else if bytes_eq name (codes "lsp") then Some commands.Lsp
     else if bytes_eq name (codes "config") then Some commands.Config
     else if bytes_eq name (codes "explain") then Some commands.Explain
+    else if bytes_eq name (codes "schema") then Some commands.Schema
     else if bytes_eq name (codes "help") then Some commands.Help
     else None

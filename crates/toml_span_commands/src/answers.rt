@@ -1,8 +1,10 @@
 //! The output and the exit status of a command that prints only at its end.
 ghost use Rattle.std.specs.Prelude.{◌≡◌, ◌≤◌, false};
 
-use crate::say::quoted_word;
+use crate::commands::{Command, help_of};
+use crate::say::{misuse_text, quoted_word};
 use std::alloc::{AllocError, Global};
+use toml_span::Stop;
 use toml_span_lines::run::write_bytes;
 use toml_span_lines::sink::Sink;
 use toml_span_report::visible::push_visible;
@@ -45,6 +47,30 @@ pub(crate) fn failed(
         out: String::new(alloc),
         errors,
         status,
+    })
+}
+
+/// Returns the answer of a command that prints its help.
+pub(crate) fn helped(alloc: Global, command: Command) -> Result<Answer, AllocError> {
+    Ok(printed(alloc, String::from_str(alloc, help_of(command))?))
+}
+
+/// Returns the answer for wrong arguments. `message` says what is wrong.
+pub(crate) fn misuse(alloc: Global, command: Command, message: &str) -> Result<Answer, AllocError> {
+    Ok(Answer {
+        out: String::new(alloc),
+        errors: misuse_text(alloc, command, message)?,
+        status: 2,
+    })
+}
+
+/// Returns the answer of a command that fails with status 2. `stop` has the message for standard error. Fails if `stop`
+/// is `Stop::Memory`.
+pub(crate) fn stopped(alloc: Global, stop: Stop<String>) -> Result<Answer, AllocError> {
+    Ok(Answer {
+        out: String::new(alloc),
+        errors: stop.fault()?,
+        status: 2,
     })
 }
 

@@ -1,16 +1,18 @@
 //! The arguments of the commands that edit a file.
 use crate::commands::Command;
 use crate::files::set_write_option;
-use crate::say::unexpected;
+use crate::options::search_of;
+use crate::say::{missing_value, option_parts, unexpected};
 use std::alloc::{AllocError, Global};
 use toml_span::Stop;
+use toml_span_config::sources::Search;
 use toml_span_files::Options;
 
 /// The maximum value of `--wait`: a day, in seconds.
 const MOST_WAIT: u64 = 86_400;
 
 /// The options of the commands that edit a file.
-const OPTIONS: [&str; 10] = [
+const OPTIONS: [&str; 13] = [
     "--help",
     "--dry-run",
     "--diff",
@@ -20,6 +22,9 @@ const OPTIONS: [&str; 10] = [
     "--change-owner",
     "--in-place",
     "--wait",
+    "--config",
+    "--no-config",
+    "--stdin-name",
     "-e",
 ];
 
@@ -47,29 +52,67 @@ pub(crate) struct Arguments<'w> {
     pub(crate) is_string: bool,
     /// Whether a value may replace a table or array that headers or dotted keys define.
     pub(crate) replaces_tables: bool,
+    /// The path of the configuration file, or an empty text.
+    config: &'w str,
+    /// Whether to use no configuration file.
+    has_no_config: bool,
+    /// The name of standard input.
+    stdin_name: &'w str,
     pub(crate) is_help: bool,
 }
 
-/// What the next argument is.
-#[derive(Clone, Copy)]
-enum Waiting {
-    /// An option, or an argument that is neither an option nor the value of one.
-    No,
-    /// The value of `--wait`.
-    Wait,
-    /// The value of `-e`.
-    Edit,
-    /// An argument after `--`: neither an option nor the value of one.
-    Never,
+impl<'w> Arguments<'w> {
+    /// Returns which configuration file to use.
+    pub(crate) fn search(&self) -> Search<'w> {
+        search_of(self.config, self.has_no_config)
+    }
+
+    /// Returns the name of the file in messages.
+    pub(crate) fn shown<'s>(&'s self, file: &'s str) -> &'s str {
+        if file == "-" { self.stdin_name } else { file }
+    }
 }
 
-/// The arguments that have been parsed so far, and what the next one is.
+/// An option that has a value.
+#[derive(Clone, Copy)]
+enum Valued {
+    Wait,
+    Config,
+    StdinName,
+    Edit,
+}
+
+/// Returns the option of the command with this name, or `None` if no option that has a value has this name.
+fn option_with_value(command: Command, name: &str) -> Option<Valued> {
+    match name {
+        "--wait" => Some(Valued::Wait),
+        "--config" => Some(Valued::Config),
+        "--stdin-name" => Some(Valued::StdinName),
+        "-e" if command == Command::Edit => Some(Valued::Edit),
+        _ => None,
+    }
+}
+
+/// Returns the message that the value of the last option is missing.
+fn missing(alloc: Global, option: Valued) -> Result<String, AllocError> {
+    match option {
+        Valued::Wait => missing_value(alloc, "--wait", "wait"),
+        Valued::Config => missing_value(alloc, "--config", "config"),
+        Valued::StdinName => missing_value(alloc, "--stdin-name", "stdin-name"),
+        Valued::Edit => missing_value(alloc, "-e", "edit"),
+    }
+}
+
+/// The arguments that have been parsed so far.
 #[derive(Drop)]
 struct Reading<'w> {
     alloc: Global,
     command: Command,
     asked: Arguments<'w>,
-    waiting: Waiting,
+    /// The option whose value is the next argument, if any.
+    waiting: Option<Valued>,
+    /// Whether no later argument is an option.
+    is_over: bool,
 }
 
 /// Parses a number of seconds. Fails with a message if `word` is not a number from 0 to `MOST_WAIT`.
@@ -83,14 +126,19 @@ pub(crate) fn seconds(alloc: Global, word: &str) -> Result<u64, Stop<String>> {
 }
 
 impl<'w> Reading<'w> {
-    /// Always fails, with a message that the argument `word` is unexpected.
-    fn unexpected(&self, word: &str) -> Result<(), Stop<String>> {
-        let note = "; to pass it as a value, write `--` before all values";
-        Err(Stop::Fault(unexpected(self.alloc, word, note, &OPTIONS)?))
+    /// Parses `word` as the value of an option, and stores it. Fails with a message if the value is wrong.
+    fn set(&mut self, option: Valued, word: &'w str) -> Result<(), Stop<String>> {
+        match option {
+            Valued::Wait => self.asked.options.wait = seconds(self.alloc, word)?,
+            Valued::Config => self.asked.config = word,
+            Valued::StdinName => self.asked.stdin_name = word,
+            Valued::Edit => self.asked.edits.push(word)?,
+        }
+        Ok(())
     }
 
-    /// Stores the argument `word`, which begins with a dash. Fails with a message if it is an unknown option with two
-    /// dashes, or if VALUE in `--wait=VALUE` is wrong. Any other unknown argument, such as `-1`, is not an option.
+    /// Stores the argument `word`, which begins with a dash and is no option with a value. Fails with a message if it
+    /// is an unknown option with two dashes. Any other unknown argument, such as `-1`, is not an option.
     fn option(&mut self, word: &'w str) -> Result<(), Stop<String>> {
         if set_write_option(&mut self.asked.options, word) {
             return Ok(());
@@ -99,16 +147,16 @@ impl<'w> Reading<'w> {
             "-h" | "--help" => self.asked.is_help = true,
             "--string" => self.asked.is_string = true,
             "--replace-table" => self.asked.replaces_tables = true,
+            "--no-config" => self.asked.has_no_config = true,
             "--dry-run" => self.asked.show = Show::Text,
             "--diff" => self.asked.show = Show::Diff,
-            "--wait" => self.waiting = Waiting::Wait,
-            "-e" if self.command == Command::Edit => self.waiting = Waiting::Edit,
-            "--" => self.waiting = Waiting::Never,
-            _ => match word.strip_prefix("--wait=") {
-                Some(value) => self.asked.options.wait = seconds(self.alloc, value)?,
-                None if word.starts_with("--") => return self.unexpected(word),
-                None => self.asked.words.push(word)?,
-            },
+            "--" => self.is_over = true,
+            _ => {
+                if word.starts_with("--") {
+                    return Err(Stop::Fault(unexpected(self.alloc, word, true, &OPTIONS)?));
+                }
+                self.asked.words.push(word)?;
+            }
         }
         Ok(())
     }
@@ -116,21 +164,22 @@ impl<'w> Reading<'w> {
     /// Stores the next argument: an option, the value of the preceding option, or neither. Fails with a message if the
     /// argument is wrong.
     fn take(&mut self, word: &'w str) -> Result<(), Stop<String>> {
-        match self.waiting {
-            Waiting::Wait => self.asked.options.wait = seconds(self.alloc, word)?,
-            Waiting::Edit => self.asked.edits.push(word)?,
-            Waiting::No if word.starts_with('-') => return self.option(word),
-            Waiting::No => {
-                self.asked.words.push(word)?;
-                return Ok(());
-            }
-            Waiting::Never => {
-                self.asked.words.push(word)?;
-                return Ok(());
-            }
+        if let Some(option) = self.waiting.take() {
+            return self.set(option, word);
         }
-        self.waiting = Waiting::No;
-        Ok(())
+        if self.is_over || !word.starts_with('-') {
+            self.asked.words.push(word)?;
+            return Ok(());
+        }
+        let (name, value) = option_parts(word);
+        match (option_with_value(self.command, name), value) {
+            (Some(option), Some(value)) => self.set(option, value),
+            (Some(option), None) => {
+                self.waiting = Some(option);
+                Ok(())
+            }
+            (None, _) => self.option(word),
+        }
     }
 }
 
@@ -151,19 +200,19 @@ pub(crate) fn arguments_asked<'w>(
             show: Show::No,
             is_string: false,
             replaces_tables: false,
+            config: "",
+            has_no_config: false,
+            stdin_name: "-",
             is_help: false,
         },
-        waiting: Waiting::No,
+        waiting: None,
+        is_over: false,
     };
     for word in words {
         reading.take(word.as_str())?;
     }
     match reading.waiting {
-        Waiting::Wait => Err(Stop::Fault(String::from_str(
-            alloc,
-            "a number must follow '--wait'",
-        )?)),
-        Waiting::Edit => Err(Stop::Fault(String::from_str(alloc, "an edit must follow '-e'")?)),
-        _ => Ok(reading.asked),
+        Some(option) => Err(Stop::Fault(missing(alloc, option)?)),
+        None => Ok(reading.asked),
     }
 }

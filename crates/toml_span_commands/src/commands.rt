@@ -4,7 +4,7 @@ ghost use Rattle.toml_span_commands.specs.Commands as spec;
 
 use crate::help::{
     ADD, APPEND, CHECK, CONFIG, EDIT, EXPLAIN, FMT, GET, HELP, INSERT, LSP, MOVE, REMOVE, RENAME,
-    SET, SHOW,
+    SCHEMA, SET, SHOW,
 };
 
 /// A command.
@@ -25,13 +25,14 @@ pub enum Command {
     Lsp,
     Config,
     Explain,
+    Schema,
     Help,
 }
 
 /// The names of the commands.
-pub(crate) const NAMES: [&str; 16] = [
+pub(crate) const NAMES: [&str; 17] = [
     "check", "show", "get", "fmt", "set", "rename", "remove", "add", "append", "insert", "move",
-    "edit", "lsp", "config", "explain", "help",
+    "edit", "lsp", "config", "explain", "schema", "help",
 ];
 
 /// Returns the command with this name, or `None` for any other name.
@@ -54,6 +55,7 @@ pub fn command_named(name: &str) -> Option<Command>
         "lsp" => Some(Command::Lsp),
         "config" => Some(Command::Config),
         "explain" => Some(Command::Explain),
+        "schema" => Some(Command::Schema),
         "help" => Some(Command::Help),
         _ => None,
     }
@@ -77,6 +79,7 @@ pub(crate) fn arguments_of(command: Command) -> &'static str {
         Command::Lsp => "lsp",
         Command::Config => "config [OPTION].. [FILE]",
         Command::Explain => "explain [CODE]",
+        Command::Schema => "schema check [OPTION].. FILE..",
         Command::Help => "help [COMMAND]",
     }
 }
@@ -99,6 +102,7 @@ pub(crate) fn help_of(command: Command) -> &'static str {
         Command::Lsp => LSP,
         Command::Config => CONFIG,
         Command::Explain => EXPLAIN,
+        Command::Schema => SCHEMA,
         Command::Help => HELP,
     }
 }

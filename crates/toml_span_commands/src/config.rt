@@ -1,16 +1,17 @@
 //! The command `config`.
 ghost use Rattle.std.specs.Prelude.{◌≡◌, ◌≤◌, IfOk, false};
 
-use crate::commands::{Command, help_of};
+use crate::answers::{Answer, give, helped, misuse, printed, stopped};
+use crate::commands::Command;
 use crate::options::search_of;
-use crate::say::{say, say_misuse, unexpected};
-use crate::words::is_help;
+use crate::say::{missing_value, option_parts, unexpected};
+use crate::words::{after_name, has_help};
 use std::alloc::{AllocError, Global};
 use toml_span::Stop;
 use toml_span_check::input::Host;
 use toml_span_check::newer::Version;
 use toml_span_check::words::shown_word;
-use toml_span_config::layers::{Chosen, Layer, Origin};
+use toml_span_config::layers::{Chosen, Crlf, ExpandArrays, Layer, Origin, Settings};
 use toml_span_config::sources::{Found, Sources};
 use toml_span_edit::string_text;
 use toml_span_lines::sink::Sink;
@@ -40,24 +41,23 @@ fn asked_of<'w>(alloc: Global, arguments: &'w [String]) -> Result<Asked<'w>, Sto
     let mut is_waiting = false;
     for word in arguments {
         let word = word.as_str();
+        let (name, value) = option_parts(word);
         if is_waiting {
             asked.config = word;
             is_waiting = false;
-        } else if word == "--config" {
-            is_waiting = true;
+        } else if name == "--config" {
+            asked.config = value.unwrap_or("");
+            is_waiting = value.is_none();
         } else if word == "--no-config" {
             asked.has_no_config = true;
-        } else if let Some(path) = word.strip_prefix("--config=") {
-            asked.config = path;
         } else if asked.file.is_some() || (word.starts_with('-') && word != "-") {
-            return Err(Stop::Fault(unexpected(alloc, word, "", &OPTIONS)?));
+            return Err(Stop::Fault(unexpected(alloc, word, false, &OPTIONS)?));
         } else {
             asked.file = Some(word);
         }
     }
     if is_waiting {
-        let message = String::from_str(alloc, "a file must follow '--config'")?;
-        return Err(Stop::Fault(message));
+        return Err(Stop::Fault(missing_value(alloc, "--config", "config")?));
     }
     Ok(asked)
 }
@@ -126,7 +126,31 @@ impl Table<'_> {
         self.add_number("fmt.width", settings.width.value, settings.width.origin)?;
         let indent = u16::from(settings.indent.value);
         self.add_number("fmt.indent", indent, settings.indent.origin)?;
-        self.add_flag("fmt.sort-keys", settings.sort_keys)
+        self.add_flag("fmt.sort-keys", settings.sort_keys)?;
+        self.add_layout(&settings)
+    }
+
+    /// Adds a line for each setting that says how the formatter writes commas, lines and comments.
+    fn add_layout(&mut self, settings: &Settings) -> Result<(), AllocError> {
+        self.add_flag("fmt.trailing-comma", settings.trailing_comma)?;
+        let expansion = match settings.expand_arrays.value {
+            ExpandArrays::Auto => "\"auto\"",
+            ExpandArrays::Keep => "\"keep\"",
+        };
+        self.add(
+            "fmt.expand-arrays",
+            expansion,
+            settings.expand_arrays.origin,
+        )?;
+        self.add_flag("fmt.align-comments", settings.align_comments)?;
+        let blank_lines = u16::from(settings.blank_lines.value);
+        self.add_number("fmt.blank-lines", blank_lines, settings.blank_lines.origin)?;
+        let crlf = match settings.crlf.value {
+            Crlf::Auto => "\"auto\"",
+            Crlf::Always => "\"always\"",
+            Crlf::Never => "\"never\"",
+        };
+        self.add("fmt.crlf", crlf, settings.crlf.origin)
     }
 
     /// Adds a line with the schema, if the configuration names one. A path is relative to the current directory.
@@ -184,6 +208,24 @@ fn shown(alloc: Global, asked: Asked<'_>, host: &mut Host) -> Result<String, Sto
     Ok(table.out)
 }
 
+/// Returns the answer for these arguments.
+fn answer_of(alloc: Global, arguments: &[String], host: &mut Host) -> Result<Answer, AllocError> {
+    if has_help(arguments) {
+        return helped(alloc, Command::Config);
+    }
+    let asked = match asked_of(alloc, arguments) {
+        Ok(asked) => asked,
+        Err(stop) => {
+            let message = stop.fault()?;
+            return misuse(alloc, Command::Config, message.as_str());
+        }
+    };
+    match shown(alloc, asked, host) {
+        Ok(text) => Ok(printed(alloc, text)),
+        Err(stop) => stopped(alloc, stop),
+    }
+}
+
 /// Carries out `config`: prints the settings for a file, the help, or that the arguments or a configuration file are
 /// wrong. `words` are the name of the command and its arguments. Returns the exit status.
 pub fn config<O: Sink, E: Sink>(
@@ -197,25 +239,6 @@ pub fn config<O: Sink, E: Sink>(
     requires errors { E.failed errors.old ≡ false }
     ensures { IfOk result (λ status. status ≤ 4) }
 {
-    let arguments = match words {
-        [_, rest @ ..] => rest,
-        [] => words,
-    };
-    if arguments.iter().any(|word| is_help(word.as_str())) {
-        return Ok(say(out, help_of(Command::Config), 0));
-    }
-    let asked = match asked_of(alloc, arguments) {
-        Ok(asked) => asked,
-        Err(stop) => {
-            let message = stop.fault()?;
-            return say_misuse(alloc, Command::Config, message.as_str(), errors);
-        }
-    };
-    match shown(alloc, asked, host) {
-        Ok(text) => Ok(say(out, text.as_str(), 0)),
-        Err(stop) => {
-            let message = stop.fault()?;
-            Ok(say(errors, message.as_str(), 2))
-        }
-    }
+    let answer = answer_of(alloc, after_name(words), host)?;
+    Ok(give(&answer, out, errors))
 }

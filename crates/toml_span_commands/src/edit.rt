@@ -1,21 +1,25 @@
 //! The commands that edit a file.
 ghost use Rattle.std.specs.Prelude.{◌≡◌, ◌≤◌, IfOk, false};
 
-use crate::answers::{Answer, failed, give, printed};
+use crate::answers::{Answer, failed, give, misuse, printed, stopped};
 use crate::arguments::{Arguments, Show, arguments_asked};
 use crate::changes::{PathEdit, change_of, count_of, option_changes, script_changes};
 use crate::commands::{Command, help_of};
 use crate::files::{read_file, unedited};
 use crate::help::EDITING;
-use crate::making::{Refusal, new_text};
-use crate::say::misuse_text;
+use crate::making::{Refusal, Way, new_text};
+use crate::words::after_name;
 use std::alloc::{AllocError, Global};
 use std::io::IsTerminal;
 use toml_span::Stop;
 use toml_span_check::input::{Host, Inputs};
+use toml_span_check::newer::Version;
 use toml_span_check::words::is_bytes;
+use toml_span_config::layers::Layer;
+use toml_span_config::sources::Sources;
 use toml_span_files::{Failed, Failure, LIMIT, edit_file, unified};
 use toml_span_lines::sink::Sink;
+use toml_span_report::Style;
 use toml_span_report::visible::{push_char, visible};
 
 /// Returns a text as it is printed. For a terminal, characters that terminals act on are escaped, except tabs and line
@@ -58,27 +62,29 @@ fn show(
     file: &str,
     changes: &[PathEdit<'_>],
     asked: &Arguments<'_>,
+    way: Way<'_>,
     host: &mut Host,
 ) -> Result<Answer, AllocError> {
     let bytes = match read_file(alloc, host, file)? {
         Ok(bytes) => bytes,
         Err(reason) => {
-            return failed(alloc, "error: cannot read ", file, reason.as_str(), 2);
+            let shown = asked.shown(file);
+            return failed(alloc, "error: cannot read ", shown, reason.as_str(), 2);
         }
     };
-    let (is_string, replaces_tables) = (asked.is_string, asked.replaces_tables);
-    let new = match new_text(alloc, bytes.as_slice(), changes, is_string, replaces_tables) {
+    let shown = asked.shown(file);
+    let new = match new_text(alloc, bytes.as_slice(), changes, way) {
         Ok(new) => new,
-        Err(stop) => return refused(alloc, file, stop),
+        Err(stop) => return refused(alloc, shown, stop),
     };
     if new.len() > LIMIT {
-        return unedited(alloc, file, &Failure::ResultTooLong, asked.options, true);
+        return unedited(alloc, shown, &Failure::ResultTooLong, asked.options, true);
     }
     if asked.show != Show::Diff {
         return Ok(printed(alloc, escaped(alloc, new, host.rt.stdout().is_terminal())?));
     }
     let old = str::from_utf8(bytes.as_slice()).unwrap_or("");
-    let name = visible(alloc, file)?;
+    let name = visible(alloc, shown)?;
     let diff = unified(alloc, name.as_str(), old, new.as_str())?;
     Ok(printed(alloc, escaped(alloc, diff, host.rt.stdout().is_terminal())?))
 }
@@ -89,10 +95,10 @@ fn write(
     file: &str,
     changes: &[PathEdit<'_>],
     asked: &Arguments<'_>,
+    way: Way<'_>,
     host: &mut Host,
 ) -> Result<Answer, AllocError> {
-    let (is_string, replaces_tables) = (asked.is_string, asked.replaces_tables);
-    let make = |bytes: &[u8]| new_text(alloc, bytes, changes, is_string, replaces_tables);
+    let make = |bytes: &[u8]| new_text(alloc, bytes, changes, way);
     match edit_file(&host.rt, file, asked.options, make) {
         Ok(_) => Ok(printed(alloc, String::new(alloc))),
         Err(Failed::Edit(stop)) => refused(alloc, file, stop),
@@ -100,8 +106,22 @@ fn write(
     }
 }
 
+/// Returns the version of TOML of the file `shown`, as the arguments and its configuration say. Fails with a message,
+/// for standard error, if the configuration file can't be read or is wrong.
+fn version_of(
+    alloc: Global,
+    shown: &str,
+    asked: &Arguments<'_>,
+    host: &mut Host,
+) -> Result<Version, Stop<String>> {
+    let layer = Layer::empty();
+    let mut sources = Sources::new(alloc, host, asked.search(), layer, Style::Plain)?;
+    let found = sources.settings_for(alloc, host, shown)?;
+    Ok(found.settings.toml.value)
+}
+
 /// Makes edits, and returns the answer. For `-`, `--dry-run` and `--diff`, does what `show` does; otherwise replaces
-/// the file.
+/// the file. If the configuration file can't be read or is wrong, makes no edits, and the answer says why.
 fn perform(
     alloc: Global,
     file: &str,
@@ -109,10 +129,21 @@ fn perform(
     asked: &Arguments<'_>,
     host: &mut Host,
 ) -> Result<Answer, AllocError> {
+    let name = asked.shown(file);
+    let version = match version_of(alloc, name, asked, host) {
+        Ok(version) => version,
+        Err(stop) => return stopped(alloc, stop),
+    };
+    let way = Way {
+        is_string: asked.is_string,
+        replaces_tables: asked.replaces_tables,
+        version,
+        name,
+    };
     if file == "-" || asked.show != Show::No {
-        show(alloc, file, changes, asked, host)
+        show(alloc, file, changes, asked, way, host)
     } else {
-        write(alloc, file, changes, asked, host)
+        write(alloc, file, changes, asked, way, host)
     }
 }
 
@@ -150,15 +181,6 @@ pub(crate) fn edit_help(alloc: Global, command: Command) -> Result<String, Alloc
     let mut text = String::from_str(alloc, help_of(command))?;
     text.push_str(EDITING)?;
     Ok(text)
-}
-
-/// Returns the answer for wrong arguments. `message` says what is wrong.
-fn misuse(alloc: Global, command: Command, message: &str) -> Result<Answer, AllocError> {
-    Ok(Answer {
-        out: String::new(alloc),
-        errors: misuse_text(alloc, command, message)?,
-        status: 2,
-    })
 }
 
 /// Returns the answer for a wrong number of arguments. `given` is this number.
@@ -254,10 +276,6 @@ pub fn edit<O: Sink, E: Sink>(
     requires errors { E.failed errors.old ≡ false }
     ensures { IfOk result (λ status. status ≤ 4) }
 {
-    let arguments = match words {
-        [_, rest @ ..] => rest,
-        [] => words,
-    };
-    let answer = answer_of(alloc, command, arguments, host)?;
+    let answer = answer_of(alloc, command, after_name(words), host)?;
     Ok(give(&answer, out, errors))
 }

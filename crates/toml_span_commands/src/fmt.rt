@@ -2,15 +2,15 @@
 ghost use Rattle.std.specs.Prelude.{◌≡◌, ◌≤◌, IfOk, false};
 ghost use Rattle.std.specs.Str.{IsValidUpTo};
 
-use crate::answers::{Answer, failed, give, printed};
+use crate::answers::{Answer, failed, give, helped, misuse, printed, stopped};
 use crate::arguments::seconds;
-use crate::commands::{Command, help_of};
+use crate::commands::Command;
 use crate::configured::{Configured, Wanted, configured_files};
 use crate::edit::escaped;
 use crate::files::{read_file, replace, set_write_option};
 use crate::options::search_of;
-use crate::say::{say, say_misuse, unexpected};
-use crate::words::is_help;
+use crate::say::{missing_value, option_parts, unexpected};
+use crate::words::{after_name, has_help};
 use std::alloc::{AllocError, Global};
 use std::fmt::Write;
 use std::io::IsTerminal;
@@ -19,7 +19,7 @@ use toml_span_check::encoding::not_utf8;
 use toml_span_check::folder::is_folder;
 use toml_span_check::input::Host;
 use toml_span_check::words::shown_word;
-use toml_span_config::layers::{Layer, Settings, given};
+use toml_span_config::layers::{Crlf, ExpandArrays, Layer, Settings, given};
 use toml_span_config::sources::Sources;
 use toml_span_files::unified;
 use toml_span_format::{FormatError, Options, format, format_sorted};
@@ -35,12 +35,20 @@ const MOST_COLUMNS: u16 = 65_535;
 /// The maximum value of `--indent`.
 const MOST_SPACES: u16 = 64;
 
+/// The maximum value of `--blank-lines`.
+const MOST_BLANK_LINES: u16 = 9;
+
 /// The options.
-const OPTIONS: [&str; 16] = [
+const OPTIONS: [&str; 22] = [
     "--help",
     "--check",
     "--diff",
     "--sort-keys",
+    "--no-trailing-comma",
+    "--expand-arrays",
+    "--align-comments",
+    "--blank-lines",
+    "--crlf",
     "--stdin",
     "--quiet",
     "--force",
@@ -53,6 +61,7 @@ const OPTIONS: [&str; 16] = [
     "--force-exclude",
     "--config",
     "--no-config",
+    "--stdin-name",
 ];
 
 /// An option that has a value.
@@ -60,9 +69,13 @@ const OPTIONS: [&str; 16] = [
 enum Valued {
     Width,
     Indent,
+    ExpandArrays,
+    BlankLines,
+    Crlf,
     Wait,
     Exclude,
     Config,
+    StdinName,
 }
 
 /// Returns the option with this name, or `None` if no option that has a value has this name.
@@ -70,22 +83,37 @@ fn option_with_value(name: &str) -> Option<Valued> {
     match name {
         "--width" => Some(Valued::Width),
         "--indent" => Some(Valued::Indent),
+        "--expand-arrays" => Some(Valued::ExpandArrays),
+        "--blank-lines" => Some(Valued::BlankLines),
+        "--crlf" => Some(Valued::Crlf),
         "--wait" => Some(Valued::Wait),
         "--exclude" => Some(Valued::Exclude),
         "--config" => Some(Valued::Config),
+        "--stdin-name" => Some(Valued::StdinName),
         _ => None,
     }
 }
 
-/// Returns the message that the value of the last option is missing.
-fn missing(option: Valued) -> &'static str {
+/// Returns the name of an option, without dashes.
+fn name_of(option: Valued) -> &'static str {
     match option {
-        Valued::Width => "a number must follow '--width'",
-        Valued::Indent => "a number must follow '--indent'",
-        Valued::Wait => "a number must follow '--wait'",
-        Valued::Exclude => "a pattern must follow '--exclude'",
-        Valued::Config => "a file must follow '--config'",
+        Valued::Width => "width",
+        Valued::Indent => "indent",
+        Valued::ExpandArrays => "expand-arrays",
+        Valued::BlankLines => "blank-lines",
+        Valued::Crlf => "crlf",
+        Valued::Wait => "wait",
+        Valued::Exclude => "exclude",
+        Valued::Config => "config",
+        Valued::StdinName => "stdin-name",
     }
+}
+
+/// Returns the message that the value of the last option is missing.
+fn missing(alloc: Global, option: Valued) -> Result<String, AllocError> {
+    let name = name_of(option);
+    let dashed = format!(in alloc; "--{name}")?;
+    missing_value(alloc, dashed.as_str(), name)
 }
 
 /// The most bytes of the line that counts files: two numbers of 20 digits, words and a line end.
@@ -125,6 +153,8 @@ struct Asked<'w> {
     excludes: Vec<&'w str>,
     /// Whether configuration files also exclude files that are named.
     forces_exclude: bool,
+    /// The name of standard input.
+    stdin_name: &'w str,
     /// The path of the configuration file, or an empty text.
     config: &'w str,
     /// Whether to use no configuration file.
@@ -135,13 +165,44 @@ struct Asked<'w> {
     is_over: bool,
 }
 
-/// Parses `word`, the value of `option`, as a number from 0 to `most`. Fails with a message for any other `word`.
-fn number_of(alloc: Global, option: &str, word: &str, most: u16) -> Result<u16, Stop<String>> {
+/// Parses `word`, the value of `option`, as a number from `least` to `most`. Fails with a message for any other `word`.
+fn number_of(
+    alloc: Global,
+    option: &str,
+    word: &str,
+    least: u16,
+    most: u16,
+) -> Result<u16, Stop<String>> {
     match word.parse::<u16>() {
-        Ok(number) if number <= most => Ok(number),
+        Ok(number) if least <= number && number <= most => Ok(number),
         _ => Err(Stop::Fault(format!(in alloc;
-            "the value of '{option}' must be a number from 0 to {most}"
+            "the value of '{option}' must be a number from {least} to {most}"
         )?)),
+    }
+}
+
+/// Returns the setting that the value `word` of `--expand-arrays` names. Fails with a message for any other `word`.
+fn expansion_of(alloc: Global, word: &str) -> Result<ExpandArrays, Stop<String>> {
+    match word {
+        "auto" => Ok(ExpandArrays::Auto),
+        "keep" => Ok(ExpandArrays::Keep),
+        _ => {
+            let message = "the value of '--expand-arrays' must be 'auto' or 'keep'";
+            Err(Stop::Fault(String::from_str(alloc, message)?))
+        }
+    }
+}
+
+/// Returns the setting that the value `word` of `--crlf` names. Fails with a message for any other `word`.
+fn crlf_of(alloc: Global, word: &str) -> Result<Crlf, Stop<String>> {
+    match word {
+        "auto" => Ok(Crlf::Auto),
+        "always" => Ok(Crlf::Always),
+        "never" => Ok(Crlf::Never),
+        _ => {
+            let message = "the value of '--crlf' must be 'auto', 'always' or 'never'";
+            Err(Stop::Fault(String::from_str(alloc, message)?))
+        }
     }
 }
 
@@ -150,13 +211,20 @@ impl<'w> Asked<'w> {
     fn set(&mut self, alloc: Global, option: Valued, word: &'w str) -> Result<(), Stop<String>> {
         match option {
             Valued::Width => {
-                self.layer.width = given(number_of(alloc, "--width", word, MOST_COLUMNS)?);
+                self.layer.width = given(number_of(alloc, "--width", word, 0, MOST_COLUMNS)?);
             }
             Valued::Indent => {
-                let indent = number_of(alloc, "--indent", word, MOST_SPACES)?;
+                let indent = number_of(alloc, "--indent", word, 0, MOST_SPACES)?;
                 self.layer.indent = given(u8::try_from(indent).unwrap_or(u8::MAX));
             }
+            Valued::BlankLines => {
+                let count = number_of(alloc, "--blank-lines", word, 1, MOST_BLANK_LINES)?;
+                self.layer.blank_lines = given(u8::try_from(count).unwrap_or(u8::MAX));
+            }
+            Valued::ExpandArrays => self.layer.expand_arrays = given(expansion_of(alloc, word)?),
+            Valued::Crlf => self.layer.crlf = given(crlf_of(alloc, word)?),
             Valued::Config => self.config = word,
+            Valued::StdinName => self.stdin_name = word,
             Valued::Wait => self.writing.wait = seconds(alloc, word)?,
             Valued::Exclude => self.excludes.push(word)?,
         }
@@ -172,12 +240,14 @@ impl<'w> Asked<'w> {
             "--check" => self.is_check = true,
             "--diff" => self.is_diff = true,
             "--sort-keys" => self.layer.sort_keys = given(true),
+            "--no-trailing-comma" => self.layer.trailing_comma = given(false),
+            "--align-comments" => self.layer.align_comments = given(true),
             "--force-exclude" => self.forces_exclude = true,
             "--no-config" => self.has_no_config = true,
             "--stdin" => self.names.push("-")?,
             "--quiet" => self.is_quiet = true,
             "--" => self.is_over = true,
-            _ => return Err(Stop::Fault(unexpected(alloc, word, "", &OPTIONS)?)),
+            _ => return Err(Stop::Fault(unexpected(alloc, word, true, &OPTIONS)?)),
         }
         Ok(())
     }
@@ -192,10 +262,7 @@ impl<'w> Asked<'w> {
             self.names.push(word)?;
             return Ok(());
         }
-        let (name, value) = match word.split_once('=') {
-            Some((name, value)) => (name, Some(value)),
-            None => (word, None),
-        };
+        let (name, value) = option_parts(word);
         match (option_with_value(name), value) {
             (Some(option), Some(value)) => self.set(alloc, option, value),
             (Some(option), None) => {
@@ -219,6 +286,7 @@ fn asked_of<'w>(alloc: Global, arguments: &'w [String]) -> Result<Asked<'w>, Sto
         names: Vec::new(alloc),
         excludes: Vec::new(alloc),
         forces_exclude: false,
+        stdin_name: "-",
         config: "",
         has_no_config: false,
         waiting: None,
@@ -228,7 +296,7 @@ fn asked_of<'w>(alloc: Global, arguments: &'w [String]) -> Result<Asked<'w>, Sto
         asked.take(alloc, word.as_str())?;
     }
     if let Some(option) = asked.waiting {
-        return Err(Stop::Fault(String::from_str(alloc, missing(option))?));
+        return Err(Stop::Fault(missing(alloc, option)?));
     }
     if asked.names.is_empty() {
         asked.names.push(".")?;
@@ -309,11 +377,12 @@ fn put(
     alloc: Global,
     asked: &Asked<'_>,
     host: &mut Host,
-    name: &str,
+    file: &Configured,
     text: &str,
     new: String,
     count: &mut Count,
 ) -> Result<Answer, AllocError> {
+    let name = file.name.as_str();
     let is_written = !asked.is_check && !asked.is_diff;
     if is_written && name == "-" {
         return Ok(printed(alloc, new));
@@ -324,7 +393,7 @@ fn put(
     }
     let new = new.as_str();
     let answer = if !is_written {
-        would_change(alloc, asked, name, text, new)?
+        would_change(alloc, asked, file.shown.as_str(), text, new)?
     } else if let Some(unwritten) = replace(
         alloc,
         &host.rt,
@@ -360,6 +429,15 @@ fn formatted<'t>(
     let options = Options {
         width: usize::from(settings.width.value),
         indent: usize::from(settings.indent.value),
+        has_trailing_comma: settings.trailing_comma.value,
+        keeps_lines: settings.expand_arrays.value == ExpandArrays::Keep,
+        aligns_comments: settings.align_comments.value,
+        blank_lines: usize::from(settings.blank_lines.value),
+        has_crlf: match settings.crlf.value {
+            Crlf::Auto => None,
+            Crlf::Always => Some(true),
+            Crlf::Never => Some(false),
+        },
     };
     if settings.sort_keys.value {
         format_sorted(alloc, text, options)
@@ -376,12 +454,12 @@ fn format_file(
     file: &Configured,
     count: &mut Count,
 ) -> Result<Answer, AllocError> {
-    let name = file.name.as_str();
+    let name = file.shown.as_str();
     let front = "error: cannot format ";
-    let bytes = match read_file(alloc, host, name)? {
+    let bytes = match read_file(alloc, host, file.name.as_str())? {
         Ok(bytes) => bytes,
         Err(reason) => {
-            let reason = unread(host, name, reason.as_str());
+            let reason = unread(host, file.name.as_str(), reason.as_str());
             return failed(alloc, "error: cannot read ", name, reason, 2);
         }
     };
@@ -397,7 +475,7 @@ fn format_file(
             let reason = "the result would be larger than 16 MiB";
             failed(alloc, front, name, reason, 1)
         }
-        Ok(new) => put(alloc, asked, host, name, text, new, count),
+        Ok(new) => put(alloc, asked, host, file, text, new, count),
         Err(stop) => {
             let error = stop.fault()?;
             refused(alloc, name, text, &error)
@@ -477,7 +555,7 @@ fn files_of(
     let wanted = Wanted {
         names: asked.names.as_slice(),
         excludes: asked.excludes.as_slice(),
-        stdin_name: "-",
+        stdin_name: asked.stdin_name,
         forces_exclude: asked.forces_exclude,
     };
     configured_files(alloc, host, &mut sources, wanted)
@@ -488,13 +566,7 @@ fn files_of(
 fn format_all(alloc: Global, asked: &Asked<'_>, host: &mut Host) -> Result<Answer, AllocError> {
     let files = match files_of(alloc, asked, host) {
         Ok(files) => files,
-        Err(stop) => {
-            return Ok(Answer {
-                out: String::new(alloc),
-                errors: stop.fault()?,
-                status: 2,
-            });
-        }
+        Err(stop) => return stopped(alloc, stop),
     };
     let answer = format_each(alloc, asked, host, files.as_slice())?;
     if !asked.is_diff {
@@ -513,6 +585,20 @@ fn format_all(alloc: Global, asked: &Asked<'_>, host: &mut Host) -> Result<Answe
     })
 }
 
+/// Returns the answer for these arguments.
+fn answer_of(alloc: Global, arguments: &[String], host: &mut Host) -> Result<Answer, AllocError> {
+    if has_help(arguments) {
+        return helped(alloc, Command::Fmt);
+    }
+    match asked_of(alloc, arguments) {
+        Ok(asked) => format_all(alloc, &asked, host),
+        Err(stop) => {
+            let message = stop.fault()?;
+            misuse(alloc, Command::Fmt, message.as_str())
+        }
+    }
+}
+
 /// Formats files. `words` are the name of the command and its arguments.
 ///
 /// Returns the exit status: 0 for success; 1 if a file can't be formatted, or would change with `--check` or `--diff`;
@@ -528,20 +614,6 @@ pub fn fmt<O: Sink, E: Sink>(
     requires errors { E.failed errors.old ≡ false }
     ensures { IfOk result (λ status. status ≤ 4) }
 {
-    let arguments = match words {
-        [_, rest @ ..] => rest,
-        [] => words,
-    };
-    if arguments.iter().any(|word| is_help(word.as_str())) {
-        return Ok(say(out, help_of(Command::Fmt), 0));
-    }
-    let asked = match asked_of(alloc, arguments) {
-        Ok(asked) => asked,
-        Err(stop) => {
-            let message = stop.fault()?;
-            return say_misuse(alloc, Command::Fmt, message.as_str(), errors);
-        }
-    };
-    let answer = format_all(alloc, &asked, host)?;
+    let answer = answer_of(alloc, after_name(words), host)?;
     Ok(give(&answer, out, errors))
 }

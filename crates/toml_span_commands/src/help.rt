@@ -23,6 +23,7 @@ Commands:
   lsp      run the language server for an editor
   config   print the settings for a file, and where they come from
   explain  print what an error code means
+  schema   check schemas, or print commands that fetch them
   help     print this help, or the help of a command
 
 Options:
@@ -71,7 +72,8 @@ Options:
                    SchemaStore's format, with `fileMatch` and `url`
   --schema-map URL=FILE
                    read FILE instead of the schema at URL, since nothing is
-                   fetched; can be repeated
+                   fetched; if URL ends with `/`, FILE is a folder with the
+                   schemas below URL; can be repeated
   --no-formats     ignore the keyword `format` of schemas
   --exclude GLOB   skip matching files and directories in a search; GLOB is
                    written as in a `.gitignore` file; can be repeated
@@ -126,7 +128,7 @@ PATH is a dotted key such as server.ports[0], or a pointer such as
 whole document. For `-`, standard input is read.
 
 Options:
-  --json           print JSON, with floats and dates as strings (the default)
+  --json           print JSON, with dates, inf and nan as strings (the default)
   --raw            print strings, floats and dates without quotes, other values
                    as JSON
   --toml           print TOML on one line
@@ -189,6 +191,34 @@ Exit status:
   4  out of memory
 ";
 
+/// The help of `schema`.
+pub(crate) const SCHEMA: &str = "\
+Checks JSON Schemas, or prints commands that fetch them.
+
+Usage: toml-span schema check [OPTION].. FILE..
+       toml-span schema get [OPTION].. ADDRESS..
+
+`check` reports wrong keywords and missing documents, and warns of what is not
+checked, such as a misspelled keyword. `get` opens no connection. It prints a
+shell script that fetches schemas and all they refer to, and writes a catalog:
+
+  toml-span schema get https://json.schemastore.org/pyproject.json | sh
+  toml-span check --catalog schemas/catalog.json --schema-map https://=schemas
+
+Options:
+  --schema-map URL=FILE  with check, use FILE for the schema at URL, or the files
+                         of a folder for all schemas below a URL that ends with /
+  --folder FOLDER        with get, where to put the schemas [default: schemas]
+  -h, --help             print this help
+
+Exit status:
+  0  done
+  1  a schema can't be used
+  2  the arguments are wrong
+  3  output can't be written
+  4  out of memory
+";
+
 /// The help of `fmt`.
 pub(crate) const FMT: &str = "\
 Formats TOML files, and keeps their values and comments.
@@ -206,6 +236,18 @@ Options:
   --stdin         the same as `-`
   --width N       maximum width of an array on one line [default: 80 columns]
   --indent N      spaces before an element on a line of its own [default: 4]
+  --no-trailing-comma
+                  write no comma after the last element on a line of its own
+  --expand-arrays auto|keep
+                  which arrays get several lines: those that are too wide or end
+                  in a comma, or those that have them [default: auto]
+  --align-comments
+                  keep comments at the ends of lines aligned
+  --blank-lines N
+                  maximum number of blank lines in a row [default: 1]
+  --crlf auto|always|never
+                  whether lines end with CRLF; auto: if the first one does
+                  [default: auto]
   --exclude GLOB  skip matching files and directories in a search; GLOB is
                   written as in a `.gitignore` file; can be repeated
   --config FILE   take settings from FILE, not from the nearest
@@ -214,6 +256,9 @@ Options:
   --force-exclude
                   also skip files that are named, if `toml-span.toml` excludes
                   them
+  --stdin-name NAME
+                  the name of standard input in messages, by which its settings
+                  are found [default: -]
   --quiet         print no summary and, with --check, no names
   --force         write read-only files too
   --change-owner  write files whose owner or group can't be kept too
@@ -378,13 +423,19 @@ Options:
   --in-place       write into the file itself, which keeps its owner, hard links
                    and attributes; a run that is killed may leave half a file
   --wait SECONDS   how long to wait for another edit of the file [default: 5]
+  --config FILE    take the version of TOML from FILE, not from the nearest
+                   `toml-span.toml` in the directory of the file or above
+  --no-config      read no `toml-span.toml`
+  --stdin-name NAME
+                   the name of standard input in messages, by which its settings
+                   are found [default: -]
   --               treat no later argument as an option
   -h, --help       print this help
 
 Exit status:
   0  done
   1  refused: the file has an error, or the edit is not possible
-  2  the file can't be read, or the arguments are wrong
+  2  the file or its configuration can't be read, or the arguments are wrong
   3  the result can't be written
   4  out of memory
 ";

@@ -10,15 +10,38 @@ use crate::words::is_help;
 use std::alloc::{AllocError, Global};
 use toml_span_lines::sink::Sink;
 
-/// Prints to `errors` that an argument is neither a command nor a file, and the most similar command, if one is
-/// similar. Returns status 2, or 3 if the write fails.
+/// Returns the command that a word means which names a command of other programs, such as `format`.
+fn other_name(word: &str) -> Option<&'static str> {
+    match word {
+        "format" | "reformat" => Some("fmt"),
+        "lint" | "validate" | "verify" => Some("check"),
+        "query" | "read" | "print" => Some("get"),
+        "update" | "replace" => Some("set"),
+        "delete" | "rm" | "unset" => Some("remove"),
+        "mv" => Some("move"),
+        "settings" => Some("config"),
+        "server" => Some("lsp"),
+        _ => None,
+    }
+}
+
+/// Returns the line that names the command that a word probably means, or an empty text if there is none.
+fn suggestion(alloc: Global, word: &str) -> Result<String, AllocError> {
+    match other_name(word) {
+        Some(name) => format!(in alloc; "help: the command is `{name}`\n"),
+        None => similar_line(alloc, "command", word, &NAMES),
+    }
+}
+
+/// Prints to `errors` that an argument is neither a command nor a file, and the command that it probably means, if there
+/// is one. Returns status 2, or 3 if the write fails.
 pub fn say_unknown<E: Sink>(alloc: Global, word: &str, errors: &mut E) -> Result<u8, AllocError>
     requires { E.failed errors.old ≡ false }
     ensures { IfOk result (λ status.
         Warns (E.contents errors.old) (E.contents errors.new) (E.failed errors.new) 2 status) }
 {
     let shown = quoted_word(alloc, word)?;
-    let similar = similar_line(alloc, "command", word, &NAMES)?;
+    let similar = suggestion(alloc, word)?;
     let text = format!(in alloc;
         "error: no such command or file: {shown}\n{similar}help: `toml-span --help` lists the commands\n"
     )?;

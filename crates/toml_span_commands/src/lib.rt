@@ -19,6 +19,7 @@ mod making;
 pub mod options;
 mod paths;
 pub mod say;
+pub mod schema;
 mod schema_pages;
 mod schemas;
 pub mod show;

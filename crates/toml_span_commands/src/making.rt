@@ -7,8 +7,12 @@ use std::borrow::CowStr;
 use std::fmt::Write;
 use toml_span::Stop;
 use toml_span_check::encoding::{not_utf8, not_utf8_text};
+use toml_span_check::newer::{Version, version_reports, with_older_forms};
 use toml_span_edit::{Edit, EditError, Edits, Reason, path_segments, segment_names, string_text};
 use toml_span_report::line_column;
+
+/// The text before a value that makes it a document.
+const PROBE: &str = "v = ";
 
 /// The kind of an edit.
 #[derive(Clone, Copy)]
@@ -64,12 +68,42 @@ fn segments_of<'w>(alloc: Global, path: &'w str) -> Result<Vec<CowStr<'w>>, Allo
     }
 }
 
-/// Returns an argument as TOML. If `is_string`, the argument is the content of a string.
-fn value_of(alloc: Global, value: &str, is_string: bool) -> Result<String, AllocError> {
-    if is_string {
-        string_text(alloc, value)
+/// How to make edits.
+#[derive(Clone, Copy)]
+pub(crate) struct Way<'w> {
+    /// Whether values are the content of strings rather than TOML.
+    pub(crate) is_string: bool,
+    /// Whether a value may replace a table or array that headers or dotted keys define.
+    pub(crate) replaces_tables: bool,
+    /// The version of TOML in which values are written.
+    pub(crate) version: Version,
+    /// The name of the file.
+    pub(crate) name: &'w str,
+}
+
+/// Returns a value in the version of TOML that the file has. Fails if this version can't have the value on as many
+/// lines. A value that can't be read is returned as it is.
+fn older_value(alloc: Global, value: &str, way: Way<'_>) -> Result<String, Stop<Refusal>> {
+    let probe = format!(in alloc; "{PROBE}{value}")?;
+    let made = with_older_forms(alloc, probe.as_str(), way.version, way.name)?;
+    let text = made.text.as_str();
+    let reports = version_reports(alloc, text, way.version, way.name)?;
+    if let Some(report) = reports.first() {
+        return Err(Stop::Fault(Refusal {
+            message: String::from_str(alloc, report.message.as_str())?,
+            is_table: false,
+        }));
+    }
+    Ok(String::from_str(alloc, text.strip_prefix(PROBE).unwrap_or(value))?)
+}
+
+/// Returns an argument as TOML: the content of a string if `way.is_string` is set, otherwise a value. Fails as
+/// `older_value` does.
+fn value_of(alloc: Global, value: &str, way: Way<'_>) -> Result<String, Stop<Refusal>> {
+    if way.is_string {
+        Ok(string_text(alloc, value)?)
     } else {
-        String::from_str(alloc, value)
+        older_value(alloc, value, way)
     }
 }
 
@@ -108,12 +142,12 @@ fn locate_all<'w>(alloc: Global, changes: &[PathEdit<'w>]) -> Result<Vec<Located
     Ok(list)
 }
 
-/// Prepares an edit for `toml_span_edit`. If `is_string`, the value is the content of a string rather than TOML.
+/// Prepares an edit for `toml_span_edit`. Fails as `value_of` does.
 fn prepare<'w>(
     alloc: Global,
     located: &'w Located<'_>,
-    is_string: bool,
-) -> Result<Prepared<'w>, AllocError> {
+    way: Way<'_>,
+) -> Result<Prepared<'w>, Stop<Refusal>> {
     let mut prepared = Prepared {
         kind: kind_of(located.change.action),
         path: segment_names(alloc, located.path.as_slice())?,
@@ -122,11 +156,11 @@ fn prepare<'w>(
     };
     match located.change.action {
         Action::Set(value) | Action::Append(value) | Action::Insert(value) => {
-            prepared.value = value_of(alloc, value, is_string)?;
+            prepared.value = value_of(alloc, value, way)?;
         }
         Action::Add(key, value) => {
             prepared.path.push(key)?;
-            prepared.value = value_of(alloc, value, is_string)?;
+            prepared.value = value_of(alloc, value, way)?;
         }
         Action::Rename(name) => prepared.value = String::from_str(alloc, name)?,
         Action::Move(_) | Action::Remove => {}
@@ -134,15 +168,15 @@ fn prepare<'w>(
     Ok(prepared)
 }
 
-/// Prepares edits for `toml_span_edit`. If `is_string`, values are the content of strings rather than TOML.
+/// Prepares edits for `toml_span_edit`. Fails as `value_of` does.
 fn prepare_all<'w>(
     alloc: Global,
     changes: &'w [Located<'_>],
-    is_string: bool,
-) -> Result<Vec<Prepared<'w>>, AllocError> {
+    way: Way<'_>,
+) -> Result<Vec<Prepared<'w>>, Stop<Refusal>> {
     let mut list = Vec::new(alloc);
     for change in changes {
-        list.push(prepare(alloc, change, is_string)?)?;
+        list.push(prepare(alloc, change, way)?)?;
     }
     Ok(list)
 }
@@ -248,15 +282,13 @@ fn not_text(alloc: Global, bytes: &[u8], at: usize) -> Result<String, AllocError
     format!(in alloc; "{message} (line {line}, column {column})")
 }
 
-/// Makes edits in the bytes of a file, and returns the new text. If `is_string`, values are the content of strings
-/// rather than TOML. If `replaces_tables`, an edit that sets a value may replace a table or array that headers or dotted
-/// keys define. Fails if the file is not valid UTF-8 or an edit is refused.
+/// Makes edits in the bytes of a file, and returns the new text. Fails if the file is not valid UTF-8 or an edit is
+/// refused.
 pub(crate) fn new_text(
     alloc: Global,
     bytes: &[u8],
     changes: &[PathEdit<'_>],
-    is_string: bool,
-    replaces_tables: bool,
+    way: Way<'_>,
 ) -> Result<String, Stop<Refusal>> {
     let text = match str::from_utf8(bytes) {
         Ok(text) => text,
@@ -268,6 +300,6 @@ pub(crate) fn new_text(
         }
     };
     let located = locate_all(alloc, changes)?;
-    let list = prepare_all(alloc, located.as_slice(), is_string)?;
-    made(alloc, text, list, replaces_tables)
+    let list = prepare_all(alloc, located.as_slice(), way)?;
+    made(alloc, text, list, way.replaces_tables)
 }

@@ -9,7 +9,7 @@ use toml_span_check::words::shown_word;
 use toml_span_lines::run::write_bytes;
 use toml_span_lines::sink::Sink;
 use toml_span_report::nearest;
-use toml_span_report::visible::{push_visible, visible_lines};
+use toml_span_report::visible::{push_visible, visible, visible_lines};
 
 /// Writes a text. Returns `status`, or 3 if the write fails.
 pub fn say<W: Sink>(writer: &mut W, text: &str, status: u8) -> u8
@@ -46,22 +46,54 @@ pub(crate) fn similar_line(
     }
 }
 
-/// Returns the message that an argument is unexpected, followed by `note` and, if one of the options `names` is similar,
-/// by a line that names it.
+/// Returns the message that an argument is unexpected, in the words of clap. If one of the options `names` is similar, a
+/// second line names it. Otherwise, it says how to pass an argument with two dashes as a value, if the command has
+/// the option `--` (`has_dashes`).
 pub(crate) fn unexpected(
     alloc: Global,
     word: &str,
-    note: &str,
+    has_dashes: bool,
     names: &[&str],
 ) -> Result<String, AllocError> {
-    let shown = quoted_word(alloc, word)?;
-    let mut message = format!(in alloc; "unexpected argument {shown}{note}")?;
-    if let Some(name) = nearest(alloc, word, names)? {
-        message.push_str("\n\n  tip: a similar argument exists: `")?;
-        message.push_str(name)?;
-        message.push('`')?;
+    let word = shown_word(alloc, word)?;
+    let shown = visible(alloc, word.as_str())?;
+    let shown = shown.as_str();
+    if let Some(name) = nearest(alloc, word.as_str(), names)? {
+        return format!(in alloc;
+            "unexpected argument '{shown}' found\n\n  tip: a similar argument exists: '{name}'"
+        );
     }
-    Ok(message)
+    if has_dashes && shown.starts_with('-') {
+        return format!(in alloc;
+            "unexpected argument '{shown}' found\n\n  tip: to pass '{shown}' as a value, use '-- {shown}'"
+        );
+    }
+    format!(in alloc; "unexpected argument '{shown}' found")
+}
+
+/// Returns the message that an option has no value, in the words of clap. `name` is the option without dashes.
+pub(crate) fn missing_value(alloc: Global, option: &str, name: &str) -> Result<String, AllocError> {
+    format!(in alloc; "a value is required for '{option} <{name}>' but none was supplied")
+}
+
+/// Returns the name and the value of an argument such as `--name=value`. An argument without `=` is a name.
+pub(crate) fn option_parts<'w>(word: &'w str) -> (&'w str, Option<&'w str>) {
+    match word.split_once('=') {
+        Some((name, value)) => (name, Some(value)),
+        None => (word, None),
+    }
+}
+
+/// Returns a text about wrong arguments: `message`, which says what is wrong, and the usage of the command.
+pub(crate) fn usage_text(
+    alloc: Global,
+    command: Command,
+    message: &str,
+) -> Result<String, AllocError> {
+    let arguments = arguments_of(command);
+    format!(in alloc;
+        "error: {message}\n\nUsage: toml-span {arguments}\n\nFor more information, try '--help'.\n"
+    )
 }
 
 /// Returns a text about wrong arguments, escaped for a terminal. The text has `message`, which says what is wrong, and
@@ -73,10 +105,7 @@ pub(crate) fn misuse_text(
 ) -> Result<String, AllocError>
     ensures { IfOk result (λ out. (text : List ℕ) × (string_bytes out ≡ shown_lines text)) }
 {
-    let arguments = arguments_of(command);
-    let text = format!(in alloc;
-        "error: {message}\n\nUsage: toml-span {arguments}\n\nFor more information, try '--help'.\n"
-    )?;
+    let text = usage_text(alloc, command, message)?;
     visible_lines(alloc, text.as_str())
 }
 

@@ -5,7 +5,7 @@ ghost use Rattle.toml_span_commands.specs.Explain as spec;
 use toml_span_report::tables::text_in;
 
 /// The codes of reports about schemas.
-pub(crate) const SCHEMA_CODES: [&str; 31] = [
+pub(crate) const SCHEMA_CODES: [&str; 32] = [
     "schema",
     "schema-false",
     "schema-type",
@@ -36,11 +36,12 @@ pub(crate) const SCHEMA_CODES: [&str; 31] = [
     "schema-one-of",
     "schema-not",
     "schema-deprecated",
+    "schema-not-checked",
     "schema-not-fetched",
 ];
 
 /// Each code of `SCHEMA_CODES` with its explanation.
-const SCHEMA_PAGES: [(&str, &str); 31] = [
+const SCHEMA_PAGES: [(&str, &str); 32] = [
     (
         "schema",
         "a value that does not match its schema\n\nThe JSON Schema of the file refuses the marked value. The schema is the one that\n`--schema`, a comment `#:schema PATH` in the file, or a catalog names.",
@@ -160,6 +161,10 @@ const SCHEMA_PAGES: [(&str, &str); 31] = [
     (
         "schema-deprecated",
         "a value that the schema calls deprecated\n\nThis is a warning. The schema's description may name a replacement.",
+    ),
+    (
+        "schema-not-checked",
+        "a part of a schema that is not checked\n\nThis is a warning. The schema has an unknown keyword or format that is near to a\nknown one, a regular expression that is not supported, such as one with\nlookahead, or a reference to a metaschema.",
     ),
     (
         "schema-not-fetched",

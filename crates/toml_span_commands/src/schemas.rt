@@ -33,7 +33,7 @@ pub(crate) struct SchemaOptions<'w> {
 
 impl SchemaOptions<'_> {
     /// Converts the options for `Lookup`. Leaves out values of `maps` without `=`.
-    fn options(&self, alloc: Global) -> Result<Options, AllocError> {
+    pub(crate) fn options(&self, alloc: Global) -> Result<Options, AllocError> {
         let mut options = Options::new(alloc, Place::Arguments);
         options.schema = String::from_str(alloc, self.schema)?;
         options.catalog = String::from_str(alloc, self.catalog)?;

@@ -12,7 +12,7 @@ use crate::commands::Command;
 use crate::help::{CHECK, GET, VERSION};
 use crate::options::{Query, options_of};
 use crate::paths::wrong_path;
-use crate::say::{misuse_text, say};
+use crate::say::{misuse_text, say, usage_text};
 use clap::Error;
 use clap::error::ErrorKind;
 use std::alloc::{AllocError, Global};
@@ -34,6 +34,27 @@ fn help_of(query: Query) -> &'static str
     }
 }
 
+/// Returns the command that `query` names.
+fn command_of(query: Query) -> Command {
+    match query {
+        Query::Check => Command::Check,
+        Query::Get => Command::Get,
+    }
+}
+
+/// Returns what clap's message about wrong arguments says is wrong, without the usage after it.
+fn problem_of(message: &str) -> &str {
+    let message = message.strip_prefix("error: ").unwrap_or(message);
+    let end = match message.split_once("\n\nUsage:") {
+        Some((front, _)) => front,
+        None => message,
+    };
+    match end.split_once("\n\nFor more") {
+        Some((front, _)) => front,
+        None => end,
+    }
+}
+
 /// Returns the message about wrong arguments. `words` are the arguments, escaped for a terminal. If the escaped
 /// arguments are right, the mistake is that the path is not valid UTF-8.
 fn message_of(alloc: Global, query: Query, words: &[String]) -> Result<String, AllocError> {
@@ -46,7 +67,8 @@ fn message_of(alloc: Global, query: Query, words: &[String]) -> Result<String, A
             if error.kind() == ErrorKind::OutOfMemory {
                 return Err(AllocError);
             }
-            error.to_string(alloc)
+            let message = error.to_string(alloc)?;
+            usage_text(alloc, command_of(query), problem_of(message.as_str()))
         }
     }
 }

@@ -36,6 +36,19 @@ pub fn given_words(rt: &HostRuntime) -> Result<Vec<String>, AllocError> {
     Ok(words)
 }
 
+/// Returns the arguments after the name of the command, which is the first of `words`.
+pub(crate) fn after_name(words: &[String]) -> &[String] {
+    match words {
+        [_, rest @ ..] => rest,
+        [] => words,
+    }
+}
+
+/// Returns whether one of the arguments is `-h` or `--help`.
+pub(crate) fn has_help(words: &[String]) -> bool {
+    words.iter().any(|word| is_help(word.as_str()))
+}
+
 /// Returns whether an argument is `-h` or `--help`.
 pub fn is_help(word: &str) -> bool
     ensures { result ≡ spec.is_help word.now }

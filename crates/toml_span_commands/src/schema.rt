@@ -1,0 +1,232 @@
+//! The command `schema`, which checks schemas and prints commands that fetch them.
+ghost use Rattle.std.specs.Prelude.{◌≡◌, ◌≤◌, IfOk, false};
+
+use crate::answers::{Answer, give};
+use crate::commands::Command;
+use crate::help::SCHEMA;
+use crate::say::{say, say_misuse};
+use crate::schemas::SchemaOptions;
+use crate::words::is_help;
+use std::alloc::{AllocError, Global};
+use std::fmt::Write;
+use toml_span_check::input::Host;
+use toml_span_lines::sink::Sink;
+use toml_span_lookup::disk::Disk;
+use toml_span_lookup::lookup::Lookup;
+use toml_span_lookup::options::{LocalCopy, Options, Place};
+use toml_span_report::visible::push_visible;
+
+/// The folder for schemas if none is named.
+const FOLDER: &str = "schemas";
+
+/// The arguments after `schema check` or `schema get`.
+#[derive(Drop)]
+struct Arguments<'w> {
+    /// The values of `--schema-map`.
+    maps: Vec<&'w str>,
+    folder: &'w str,
+    /// The paths or URLs of schemas.
+    names: Vec<&'w str>,
+}
+
+/// Parses the arguments after `schema check` or `schema get`. Returns `None` if an option is unknown or has no value.
+fn arguments_in<'w>(
+    alloc: Global,
+    words: &'w [String],
+) -> Result<Option<Arguments<'w>>, AllocError> {
+    let mut made = Arguments {
+        maps: Vec::new(alloc),
+        folder: FOLDER,
+        names: Vec::new(alloc),
+    };
+    let mut option = "";
+    for word in words {
+        let word = word.as_str();
+        if option == "--schema-map" {
+            if !word.contains('=') {
+                return Ok(None);
+            }
+            made.maps.push(word)?;
+        } else if option == "--folder" {
+            made.folder = word;
+        } else if word == "--schema-map" || word == "--folder" {
+            option = word;
+            continue;
+        } else if word.starts_with("-") {
+            return Ok(None);
+        } else {
+            made.names.push(word)?;
+        }
+        option = "";
+    }
+    let is_right = option.is_empty() && !made.names.is_empty();
+    Ok(if is_right { Some(made) } else { None })
+}
+
+/// Appends a local copy to the options, from its address and its path.
+fn push_copy(
+    alloc: Global,
+    options: &mut Options,
+    address: &str,
+    path: &str,
+) -> Result<(), AllocError> {
+    options.copies.push(LocalCopy {
+        address: String::from_str(alloc, address)?,
+        path: String::from_str(alloc, path)?,
+    })?;
+    Ok(())
+}
+
+/// Appends a word in quotes for a shell.
+fn push_shell_word(out: &mut String, word: &str) -> Result<(), AllocError> {
+    out.push('\'')?;
+    for c in word.chars() {
+        match c {
+            '\'' => out.push_str("'\\''")?,
+            _ => out.push(c)?,
+        }
+    }
+    out.push('\'')
+}
+
+/// Checks the schemas that the arguments name. Returns status 1 if one of them can't be used.
+fn check_schemas(
+    alloc: Global,
+    host: &mut Host,
+    arguments: &Arguments<'_>,
+) -> Result<Answer, AllocError> {
+    let given = SchemaOptions {
+        schema: "",
+        catalog: "",
+        maps: Vec::from_slice(alloc, arguments.maps.as_slice())?,
+        has_formats: true,
+    };
+    let mut lookup = Lookup::new(alloc, given.options(alloc)?);
+    let mut lines = String::new(alloc);
+    for name in arguments.names.as_slice() {
+        for report in lookup.check_schema(alloc, host, *name)?.as_slice() {
+            lines.push_str("warning: ")?;
+            push_visible(&mut lines, report.message.as_str())?;
+            for help in report.help.as_slice() {
+                lines.push_str("; ")?;
+                push_visible(&mut lines, help.as_str())?;
+            }
+            lines.push('\n')?;
+        }
+    }
+    let errors = lookup.take_complaint(alloc);
+    let status = if errors.is_empty() { 0 } else { 1 };
+    lines.push_str(errors.as_str())?;
+    Ok(Answer {
+        out: String::new(alloc),
+        errors: lines,
+        status,
+    })
+}
+
+/// Appends the lines of a shell script that write a catalog for schemas to a file.
+fn push_catalog(out: &mut String, catalog: &str, names: &[&str]) -> Result<(), AllocError> {
+    out.push_str("cat >")?;
+    push_shell_word(out, catalog)?;
+    out.push_str(" <<'END'\n{\n  \"version\": 1,\n  \"schemas\": [\n")?;
+    for (i, name) in names.iter().enumerate() {
+        let end = name.rsplit_once("/").map_or(*name, |parts| parts.1);
+        let stem = end.split_once(".").map_or(end, |parts| parts.0);
+        let comma = if i.saturating_add(1) < names.len() {
+            ","
+        } else {
+            ""
+        };
+        let name = *name;
+        write!(
+            out,
+            "    {{\"fileMatch\": [\"{stem}.toml\"], \"url\": \"{name}\"}}{comma}\n"
+        )?;
+    }
+    out.push_str("  ]\n}\nEND\n")
+}
+
+/// Returns a shell script that fetches the schemas that the arguments name, and what they need, into a folder, as far
+/// as that is not known to be there. The script ends with the command that prints the next such script, or, if nothing
+/// is missing, writes a catalog.
+fn fetch_schemas(
+    alloc: Global,
+    host: &mut Host,
+    arguments: &Arguments<'_>,
+) -> Result<Answer, AllocError> {
+    let folder = arguments.folder;
+    let mut options = Options::new(alloc, Place::Arguments);
+    push_copy(alloc, &mut options, "https://", folder)?;
+    push_copy(alloc, &mut options, "http://", folder)?;
+    let mut lookup = Lookup::new(alloc, options);
+    let mut out = String::new(alloc);
+    let mut again = String::from_str(alloc, "toml-span schema get --folder ")?;
+    push_shell_word(&mut again, folder)?;
+    for name in arguments.names.as_slice() {
+        for copy in lookup.absent_copies(alloc, host, *name)?.as_slice() {
+            out.push_str("curl -fgsSL --create-dirs -o ")?;
+            push_shell_word(&mut out, copy.path.as_str())?;
+            out.push(' ')?;
+            push_shell_word(&mut out, copy.address.as_str())?;
+            out.push_str(" || exit\n")?;
+        }
+        again.push(' ')?;
+        push_shell_word(&mut again, *name)?;
+    }
+    let errors = lookup.take_complaint(alloc);
+    if !errors.is_empty() {
+        return Ok(Answer {
+            out: String::new(alloc),
+            errors,
+            status: 1,
+        });
+    }
+    let catalog = format!(in alloc; "{folder}/catalog.json")?;
+    if !out.is_empty() {
+        out.push_str(again.as_str())?;
+        out.push_str(" | sh\n")?;
+    } else if host.stamp(catalog.as_str()).is_none() {
+        push_catalog(&mut out, catalog.as_str(), arguments.names.as_slice())?;
+    }
+    Ok(Answer {
+        out,
+        errors,
+        status: 0,
+    })
+}
+
+/// Carries out `schema`. `words` are the name of the command and its arguments. Returns the exit status.
+pub fn schema<O: Sink, E: Sink>(
+    alloc: Global,
+    words: &[String],
+    host: &mut Host,
+    out: &mut O,
+    errors: &mut E,
+) -> Result<u8, AllocError>
+    requires out { O.failed out.old ≡ false }
+    requires errors { E.failed errors.old ≡ false }
+    ensures { IfOk result (λ status. status ≤ 4) }
+{
+    let [_, task, rest @ ..] = words else {
+        return say_misuse(
+            alloc,
+            Command::Schema,
+            "`schema` needs `check` or `get`",
+            errors,
+        );
+    };
+    if is_help(task.as_str()) || rest.iter().any(|word| is_help(word.as_str())) {
+        return Ok(say(out, SCHEMA, 0));
+    }
+    let message =
+        "`schema` takes `check [--schema-map URL=FILE].. FILE..` or `get [--folder FOLDER] ADDRESS..`";
+    let Some(arguments) = arguments_in(alloc, rest)? else {
+        return say_misuse(alloc, Command::Schema, message, errors);
+    };
+    let answer = match task.as_str() {
+        "check" => check_schemas(alloc, host, &arguments)?,
+        "get" => fetch_schemas(alloc, host, &arguments)?,
+        _ => return say_misuse(alloc, Command::Schema, message, errors),
+    };
+    Ok(give(&answer, out, errors))
+}
