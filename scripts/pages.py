@@ -42,8 +42,9 @@ ROWS = "crates/toml_span_rows"
 FIELDS = ("first", "expected", "found", "key", "name")
 # names of the toolchain, of the C library and of other crates
 FOREIGN = """AsRef BuiltModule Comparable DeTable From Given Goals IsSortedBy IsStableBy Lts MALLOC_MMAP_THRESHOLD_
-MALLOC_TRIM_THRESHOLD_ ParsesChar Serialize Tie as_ codespan_reporting column_width deny_unknown_fields from_iter
-indent_string reorder_keys table_from_str the_lemmas write_all""".split()
+MALLOC_TRIM_THRESHOLD_ ParsesChar Serialize Tie allowed_blank_lines array_auto_collapse array_auto_expand
+array_trailing_comma as_ codespan_reporting column_width deny_unknown_fields from_iter indent_string reorder_keys
+table_from_str the_lemmas write_all""".split()
 # names that only a reader of other papers could look up, and rules cited by their numbers
 THINGS = r"(?:rule|row|rung|table|paper|section|request) (?:\d+|[A-F])"
 CITED = [

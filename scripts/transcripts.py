@@ -29,7 +29,7 @@ import sys
 
 TOP = os.path.dirname(os.path.dirname(os.path.abspath(__file__)))
 MEMBERS = {"file": "data/", "after": "after/", "input": "stdin", "errors": "stderr"}
-COMMANDS = "add append check config edit explain fmt get insert lsp move remove rename set show help".split()
+COMMANDS = "add append check config edit explain fmt get insert lsp move remove rename schema set show help".split()
 PARTS = "fix schema tagged".split()
 ESCAPES = {b"\n": r"\n", b"\r": r"\r", b"\t": r"\t", b"\\": r"\\"}
 
