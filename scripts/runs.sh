@@ -171,10 +171,14 @@ share() {
     echo "$count $wrong" >"$work/counts"
 }
 
-# as many runs at a time as there are processors; what one worker finds wrong is printed when it ends
+# As many runs at a time as there are processors; what one worker finds wrong is printed when it ends. The workers are
+# started by a shell of their own: a shell that has had processes in the background may take the status of one of them
+# for that of a later process with the same number.
 jobs=$(nproc)
-for ((worker = 0; worker < jobs; worker++)); do (share "$worker" >"$work/found.$worker" 2>&1) & done
-wait
+(
+    for ((worker = 0; worker < jobs; worker++)); do (share "$worker" >"$work/found.$worker" 2>&1) & done
+    wait
+)
 for ((worker = 0; worker < jobs; worker++)); do
     cat "$work/found.$worker"
     if ! read -r checked differing <"$work/$worker/counts"; then exit 1; fi

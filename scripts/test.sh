@@ -81,17 +81,27 @@ run_schemas() {
     return "$status"
 }
 
+mapfile -t unproved < <(sed -n 's/:.*# unproved$//p' crates.txt)
+# (they need no proof, so they are built while other crates wait for those that they use)
+for program in "${unproved[@]}"; do start "stored runs of $program" run_unproved "$program"; done
+
 echo "== rt ci"
 gate=$work/gate
 mkdir "$gate"
-mapfile -t unproved < <(sed -n 's/:.*# unproved$//p' crates.txt)
 # shellcheck disable=SC2016 # (the variable in the words of `sh -c` is for that shell)
 git ls-files -z --cached --others --exclude-standard -- . "${unproved[@]/#/:!crates/}" |
     xargs -0 sh -c 'for file; do [ ! -f "$file" ] || printf "%s\0" "$file"; done' sh |
     xargs -0 cp -P --parents -t "$gate" --
 sed -i '/# unproved$/d' "$gate/crates.txt"
 scripts=$PWD/scripts
-(cd "$gate" && python3 "$scripts/timed.py" rt ci) 2>&1 | tee "$work/log"
+# The toolchain plans with more memory than these proofs take, and then leaves processors idle. Here, crates are proved
+# on all processors, or on all but one of more than two, as long as each has 5 GB.
+crates_at_once=$(awk -v all="$(nproc)" '/^MemAvailable/ {
+    most = all > 2 ? all - 1 : all
+    fit = int($2 / 5e6)
+    print fit < 1 ? 1 : fit < most ? fit : most
+}' /proc/meminfo)
+(cd "$gate" && RT_JOBS=${RT_JOBS:-$crates_at_once} python3 "$scripts/timed.py" rt ci) 2>&1 | tee "$work/log"
 status=${PIPESTATUS[0]}
 if [[ $(grep -E '^[0-9]+ passed, [0-9]+ failed' "$work/log" | tail -n 1) =~ ^([0-9]+)\ passed,\ ([0-9]+) ]]; then
     passed=${BASH_REMATCH[1]}
@@ -110,7 +120,6 @@ start "must-fail edits" env RT_JOBS="${RT_JOBS:-2}" python3 scripts/mistakes.py 
 for program in cli show example; do
     start "stored runs of toml_span_$program" bash scripts/runs.sh "toml_span_$program"
 done
-for program in "${unproved[@]}"; do start "stored runs of $program" run_unproved "$program"; done
 start "fixes of random mistakes" python3 scripts/fixes.py --mistakes 1000 --values 200
 start "rows of characters" python3 scripts/characters.py
 start "toml-test" run_suite
