@@ -10,7 +10,7 @@ use Rattle.toml_span_syntax.specs.declared.statements.Statement.{Statement}
 use Rattle.toml_span_check.specs.declared.fixing.FixLevel.{FixLevel}
 use Rattle.toml_span_safety.specs.Drafts.{Parts, empty}
 use Rattle.toml_span_check.specs.Fixing.{AddsStatement, AddsUnit, CanFix, Checks, Drafts, FixOf, FixesError, IsUnit, Leads, Mends, NextFix, Progress, another, fix, fixed, nothing, one_more, start, way_of}
-use Rattle.toml_span_check.specs.Safety.{kept, may_fix}
+use Rattle.toml_span_check.specs.Safety.{kept, may_fix, may_head}
 use Rattle.toml_span_check.specs.Statements.{own_bytes, own_pieces}
 use Rattle.toml_span_check.specs.declared.fixing.Fix.{Fix}
 use Rattle.toml_span_check.specs.declared.fixing.Fixed.{Fixed}
@@ -61,16 +61,17 @@ drafts_more text pieces ss rest way i d p q below before is adds =
     another i p q d before below (subst (λ (xs : List Statement). AddsStatement text pieces xs (get_or ss i d) way p q) is adds)
 
 -- a statement whose new text was checked
-pub fix_checked : (text : List ℕ) (pieces : List Piece) (s : Statement) (way : Way) (old : List ℕ) (own : List Piece) (field : Option Fixed) (made : Fixed) (r : Result (Option Fix) AllocError) →
-    old ≡ own_bytes text pieces s → own ≡ own_pieces pieces s → Mends old way (option_map fixed field) → field ≡ Some made →
-    IfOk r (λ f. Checks text own (fixed made) (option_map fix f)) → may_fix text pieces s way ≡ true → IfOk r (λ f. FixOf text pieces s way (option_map fix f))
-fix_checked text pieces s way old own field made (Err e) same_text same_own mends is checks within = tt
-fix_checked text pieces s way old own field made (Ok f) same_text same_own mends is checks within =
+pub fix_checked : (text : List ℕ) (pieces : List Piece) (s : Statement) (way : Way) (old : List ℕ) (own : List Piece) (heads : Bool) (field : Option Fixed) (made : Fixed) (r : Result (Option Fix) AllocError) →
+    old ≡ own_bytes text pieces s → own ≡ own_pieces pieces s → heads ≡ may_head pieces s → Mends old way (option_map fixed field) → field ≡ Some made →
+    IfOk r (λ f. Checks text own heads (fixed made) (option_map fix f)) → may_fix text pieces s way ≡ true → IfOk r (λ f. FixOf text pieces s way (option_map fix f))
+fix_checked text pieces s way old own heads field made (Err e) same_text same_own same_heads mends is checks within = tt
+fix_checked text pieces s way old own heads field made (Ok f) same_text same_own same_heads mends is checks within =
     inl (
       fixed made,
       subst (λ (m : Option Fixed). Mends (own_bytes text pieces s) way (option_map fixed m)) is
           (subst (λ (t : List ℕ). Mends t way (option_map fixed field)) same_text mends),
-      subst (λ (ps : List Piece). Checks text ps (fixed made) (option_map fix f)) same_own checks,
+      subst (λ (h : Bool). Checks text (own_pieces pieces s) h (fixed made) (option_map fix f)) same_heads
+          (subst (λ (ps : List Piece). Checks text ps heads (fixed made) (option_map fix f)) same_own checks),
       within,
     )
 

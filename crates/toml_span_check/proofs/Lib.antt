@@ -10,4 +10,3 @@ pub mod Pieces
 pub mod Shows
 pub mod Statuses
 pub mod Collecting
-pub mod SafeFixes

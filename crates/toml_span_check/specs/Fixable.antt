@@ -1,20 +1,17 @@
 -- Which errors have fixes that `check --fix` applies.
 use Rattle.std.specs.Prelude.{◌≡◌, ◌⊎◌, ℕ, ◌+◌, Bool, true, false, not, List, [], ◌∷◌, ◌++◌, map, length, codes}
 use Rattle.std.specs.Prelude.{count_by, Option, Some, None, if◌then◌else◌}
-use Rattle.std.specs.List.{list_all}
 use Rattle.toml_span_report.specs.Report.{Repair, ReportContent}
 use Rattle.toml_span_syntax.specs.declared.pieces.Piece.{Piece}
 use Rattle.toml_span_syntax.specs.declared.statements.Statement.{Statement}
 use Rattle.toml_span_safety.specs.Drafts.{IsReading}
 use Rattle.toml_span_check.specs.Fixing.{CanFix}
+use Rattle.toml_span_check.specs.Safety.{all_safe}
 use Rattle.toml_span_check.specs.Statements.{faulty}
 use Rattle.toml_span_check.specs.declared.fixable.Count.{Count}
 use Rattle.toml_span_check.specs.declared.fixing.FixLevel.{FixLevel}
 use Rattle.toml_span_check.specs.declared.fixing.FixLevel.TheVariants as levels
 use Rattle.toml_span_check.specs.declared.fixing.FixLevel.TheVariants.{Safe, Unsafe}
-
-abbrev pub all_safe : List Repair → Bool
-all_safe repairs = list_all (λ repair. repair.is_safe) repairs
 
 -- the level of a fix with these replacements, if there are any
 abbrev pub level_of : List Repair → Option FixLevel

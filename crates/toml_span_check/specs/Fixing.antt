@@ -1,5 +1,5 @@
 -- How the replacements of reports fix errors.
-use Rattle.std.specs.Prelude.{◌≡◌, ◌<◌, ◌≤◌, ◌⊎◌, ℕ, ◌+◌, min, Bool, true, false, List, [], ◌∷◌, ◌++◌, map, length}
+use Rattle.std.specs.Prelude.{◌≡◌, ◌<◌, ◌≤◌, ◌⊎◌, ℕ, ◌+◌, min, Bool, true, false, List, map, length}
 use Rattle.std.specs.Prelude.{drop, get_or, if◌then◌else◌, Option, Some, None, String, string_bytes}
 use Rattle.std.specs.Global.{Global}
 use Rattle.std.specs.Str.{IsUtf8}
@@ -9,20 +9,18 @@ use Rattle.toml_span_tree.specs.declared.error.Error.{Error}
 use Rattle.toml_span_tree.specs.declared.value.Value.{Value}
 use Rattle.toml_span_tree.specs.Error.{ErrorContent, content_of}
 use Rattle.toml_span.specs.Parsing.{IsTree, IsRefusal}
-use Rattle.toml_span_places.specs.Replace.{SpanEdit, replaced}
+use Rattle.toml_span_places.specs.Replace.{SpanEdit}
 use Rattle.toml_span_mistakes.specs.Errors.{ReportsError}
 use Rattle.toml_span_report.specs.Report.{Repair, ReportContent}
 use Rattle.toml_span_report.specs.declared.report.Severity.TheVariants as severity
 use Rattle.toml_span_safety.specs.Drafts.{HasSizes, IsReading, Parts, add, draft, empty}
 use Rattle.toml_span_syntax.specs.declared.pieces.Piece.{Piece}
 use Rattle.toml_span_syntax.specs.declared.statements.Statement.{Statement}
-use Rattle.toml_span_check.specs.Safety as fixes
-use Rattle.toml_span_check.specs.Safety.{all_kept, first_open, kept, may_fix, repaired, same_comments, uses_crlf}
-use Rattle.toml_span_check.specs.Statements.{is_continued, offset_of, own_bytes, own_pieces, with_continued}
+use Rattle.toml_span_check.specs.Safety.{first_open, keeps, kept, may_fix, may_head, repaired, uses_crlf}
+use Rattle.toml_span_check.specs.Statements.{is_continued, own_bytes, own_pieces, with_continued}
 use Rattle.toml_span_check.specs.declared.fixing.Fix.{Fix}
 use Rattle.toml_span_check.specs.declared.fixing.Fixed.{Fixed}
 use Rattle.toml_span_check.specs.declared.fixing.FixLevel.{FixLevel}
-use Rattle.toml_span_check.specs.declared.fixing.FixLevel.TheVariants as levels
 use Rattle.toml_span_check.specs.declared.fixing.Step.{Step}
 use Rattle.toml_span_check.specs.declared.fixing.Step.TheVariants as steps
 use Rattle.toml_span_check.specs.declared.fixing.Way.{Way}
@@ -37,7 +35,7 @@ edits repairs = map (λ repair. (repair.span, repair.text)) repairs
 abbrev pub FixesError : List ℕ → ErrorContent → Way → Option (List ℕ) → Type 0
 FixesError text error way new =
     (report : ReportContent) × ReportsError severity.Error text error report
-    × (new ≡ repaired text 0 report.replacements way)
+    × (new ≡ repaired text report.replacements way)
 
 -- The first error of the statement is fixed, or can't be fixed, or there is none.
 abbrev pub NextFix : List ℕ → Way → Step → Type 0
@@ -85,20 +83,20 @@ fix f = record {
 abbrev pub mended : Parts → Mended → Parts
 mended parts m = add parts m.text m.pieces m.statements
 
--- The new text has fixes, and the same comments as these pieces of the text.
-abbrev pub Checks : List ℕ → List Piece → Made → Option Mended → Type 0
-Checks text own made (Some m) =
+-- The new text has fixes, the same comments as these pieces of the text, and no header unless `heads`.
+abbrev pub Checks : List ℕ → List Piece → Bool → Made → Option Mended → Type 0
+Checks text own heads made (Some m) =
     (m.text ≡ made.0) × (m.count ≡ made.1) × IsReading m.text m.pieces m.statements
-    × (0 < m.count) × (same_comments text own m.text m.pieces ≡ true)
-Checks text own made None =
+    × (0 < m.count) × (keeps text own heads m.text m.pieces m.statements ≡ true)
+Checks text own heads made None =
     (made.1 ≡ 0)
     ⊎ ((pieces : List Piece) × (statements : List Statement) × IsReading made.0 pieces statements
-    × (same_comments text own made.0 pieces ≡ false))
+    × (keeps text own heads made.0 pieces statements ≡ false))
 
 -- The statement is fixed, or has no error, or can't be fixed, or may not be fixed.
 abbrev pub FixOf : List ℕ → List Piece → Statement → Way → Option Mended → Type 0
 FixOf text pieces s way new =
-    ((made : Made) × Mends (own_bytes text pieces s) way (Some made) × Checks text (own_pieces pieces s) made new
+    ((made : Made) × Mends (own_bytes text pieces s) way (Some made) × Checks text (own_pieces pieces s) (may_head pieces s) made new
     × (may_fix text pieces s way ≡ true))
     ⊎ ((Mends (own_bytes text pieces s) way None ⊎ ¬ IsUtf8 (own_bytes text pieces s)
     ⊎ (may_fix text pieces s way ≡ false)) × (new ≡ None))
@@ -188,8 +186,6 @@ Fixes text level made =
     ⊎ ((((root : Value) × IsTree text depth_limit root) ⊎ FixesStatements text level None)
     × (made.0 ≡ text) × (made.1 ≡ 0))
 
--- ---- one fix
-
 -- Fixes of this level fix the errors of a statement and of the lines that continue it, or not.
 abbrev pub CanFix : List ℕ → List Piece → List Statement → Statement → FixLevel → Bool → Type 0
 CanFix text pieces ss s level true =
@@ -197,29 +193,3 @@ CanFix text pieces ss s level true =
     × ((m : Mended) × FixOf text pieces unit (way_of pieces level) (Some m))
 CanFix text pieces ss s level false =
     (unit : Statement) × IsUnit text pieces ss s unit × FixOf text pieces unit (way_of pieces level) None
-
--- The statement with these replacements made has no error, and the same comments. It may be fixed.
-abbrev pub IsMade : List ℕ → List Piece → Statement → List Repair → Way → Mended → Type 0
-IsMade text pieces s repairs way m =
-    (Some m.text ≡ repaired (own_bytes text pieces s) (offset_of text pieces s.first) repairs way)
-    × ((root : Value) × IsTree m.text depth_limit root) × IsReading m.text m.pieces m.statements
-    × (same_comments text (own_pieces pieces s) m.text m.pieces ≡ true)
-    × (may_fix text pieces s way ≡ true)
-
--- The text with these replacements made is that of the parts, and has their pieces and statements.
-abbrev pub Makes : List ℕ → List Repair → Bool → Parts → Type 0
-Makes text repairs crlf parts =
-    (replaced text (fixes.edits 0 crlf repairs) ≡ Some parts.text) × HasSizes parts.text parts true
-
--- The replacements are a safe fix by themselves: they are made in one statement, and the other statements stay as they
--- are.
-pub record IsSafeFix (text : List ℕ) (repairs : List Repair) : Type 0 where
-  pub pieces : List Piece
-  pub before : List Statement
-  pub statement : Statement
-  pub after : List Statement
-  pub reading : IsReading text pieces (before ++ statement ∷ after)
-  pub fix : Mended
-  pub made : IsMade text pieces statement repairs (way_of pieces levels.Safe) fix
-  pub others : Makes text repairs (uses_crlf pieces)
-      (all_kept text pieces (mended (all_kept text pieces empty before) fix) after)

@@ -1,5 +1,5 @@
 -- The reports on newer forms, which are syntax that TOML 1.0 lacks, and the replacements of these reports.
-use Rattle.std.specs.Prelude.{◌≡◌, ◌⊎◌, ℕ, ◌-◌, Bool, true, false, ◌==◌, ◌||◌, List, [], ◌++◌, map, drop, length, codes}
+use Rattle.std.specs.Prelude.{◌≡◌, ◌⊎◌, ℕ, ◌+◌, ◌-◌, min, Bool, true, false, ◌==◌, ◌||◌, List, [], ◌++◌, map, drop, length, codes}
 use Rattle.std.specs.Prelude.{encode_utf8, slice_index, if◌then◌else◌, None, Ok, Err}
 use Rattle.std.specs.List.{flat_map}
 use Rattle.std.specs.Str.{bytes_eq}
@@ -13,7 +13,8 @@ use Rattle.toml_span_read.specs.Read.{document}
 use Rattle.toml_span_read.specs.declared.fault.Fault.{Fault}
 use Rattle.toml_span_report.specs.Report.{ReportContent, bare, with_help, with_note, with_primary, with_replacement}
 use Rattle.toml_span_report.specs.declared.report.Severity.TheVariants as severity
-use Rattle.toml_span_check.specs.Fixing.{edits}
+use Rattle.toml_span_check.specs.Fixing.{Fixes, Made, edits}
+use Rattle.toml_span_check.specs.declared.fixing.FixLevel.{FixLevel}
 use Rattle.toml_span_check.specs.declared.newer.Version.{Version}
 use Rattle.toml_span_check.specs.declared.newer.Version.TheVariants.{Auto, Toml10, Toml11}
 
@@ -119,3 +120,9 @@ Replaces version name text n new =
     × (((first_fault text 0 0 (all_edits rs) ≡ None) × (n ≡ length (all_edits rs))
     × (new ≡ edited_from text 0 (all_edits rs)))
     ⊎ (¬ (first_fault text 0 0 (all_edits rs) ≡ None) × (n ≡ 0) × (new ≡ text)))
+
+-- The errors of a text are fixed, and then newer forms are replaced.
+abbrev pub FixesAll : Version → List ℕ → FixLevel → List ℕ → Made → Type 0
+FixesAll version name level text made =
+    (first : Made) × (n : ℕ) × Fixes text level first × Replaces version name first.0 n made.0
+    × (made.1 ≡ min (first.1 + n) 18446744073709551615)

@@ -1,10 +1,9 @@
 -- What a fix must keep.
-use Rattle.std.specs.Prelude.{◌≡◌, ℕ, ◌+◌, ◌-◌, Bool, true, false, ◌&&◌, ◌==◌, List, [], ◌∷◌, map, length}
+use Rattle.std.specs.Prelude.{◌≡◌, ℕ, ◌+◌, ◌-◌, Bool, true, false, ◌&&◌, ◌||◌, ◌==◌, List, [], ◌∷◌, map, length}
 use Rattle.std.specs.Prelude.{Option, Some, None, if◌then◌else◌, min, nat_le, not, position, slice_get, slice_index}
-use Rattle.std.specs.Prelude.{drop, unwrap_or}
+use Rattle.std.specs.Prelude.{drop, is_some, unwrap_or}
 use Rattle.std.specs.List.{list_all}
 use Rattle.std.specs.Str.{bytes_eq}
-use Rattle.toml_span_lex.specs.declared.span.Span.{Span}
 use Rattle.toml_span_places.specs.Replace.{SpanEdit, replaced}
 use Rattle.toml_span_report.specs.Report.{Repair}
 use Rattle.toml_span_safety.specs.Comments.{comments}
@@ -12,6 +11,7 @@ use Rattle.toml_span_safety.specs.Drafts.{Parts, add}
 use Rattle.toml_span_safety.specs.Quotes.{quotes_value}
 use Rattle.toml_span_syntax.specs.Heads.{kind_of}
 use Rattle.toml_span_syntax.specs.Statements.{is_line_end, is_open_long}
+use Rattle.toml_span_syntax.specs.declared.heads.StatementKind.{StatementKind}
 use Rattle.toml_span_syntax.specs.declared.heads.StatementKind.TheVariants as is
 use Rattle.toml_span_syntax.specs.declared.pieces.Kind.{Kind}
 use Rattle.toml_span_syntax.specs.declared.pieces.Kind.TheVariants as kinds
@@ -39,19 +39,14 @@ may_be_made statement repairs edits levels.Unsafe = true
 abbrev pub line_ended : List ℕ → Bool → List ℕ
 line_ended text crlf = if crlf && bytes_eq text (10 ∷ []) then 13 ∷ 10 ∷ [] else text
 
--- replacements in the part of a text that begins at `start`
-abbrev pub edit_in : ℕ → Bool → Repair → SpanEdit
-edit_in start crlf repair =
-    (record { start = repair.span.start - start; end = repair.span.end - start }, line_ended repair.text crlf)
-
-abbrev pub edits : ℕ → Bool → List Repair → List SpanEdit
-edits start crlf repairs = map (edit_in start crlf) repairs
+abbrev pub edits : Bool → List Repair → List SpanEdit
+edits crlf repairs = map (λ repair. (repair.span, line_ended repair.text crlf)) repairs
 
 -- The statement with these replacements made, or `None` if there are none, if they may not be made, or if they do not
 -- fit the statement.
-abbrev pub repaired : List ℕ → ℕ → List Repair → Way → Option (List ℕ)
-repaired statement start repairs way =
-    let es = edits start way.is_crlf repairs in
+abbrev pub repaired : List ℕ → List Repair → Way → Option (List ℕ)
+repaired statement repairs way =
+    let es = edits way.is_crlf repairs in
     if length repairs == 0 then None
     else if may_be_made statement repairs es way.level then replaced statement es
     else None
@@ -119,10 +114,25 @@ may_fix text pieces s way =
 abbrev pub same_comments : List ℕ → List Piece → List ℕ → List Piece → Bool
 same_comments text pieces new others = bytes_eq (comments text pieces) (comments new others)
 
--- one more statement as it is, and all of these
+abbrev pub is_header : StatementKind → Bool
+is_header is.Header = true
+is_header _ = false
+
+abbrev pub has_header : List Statement → Bool
+has_header ss = is_some (position (λ s. is_header s.kind) ss)
+
+-- Whether a fix of a statement may write a header: the statement begins with `[`, or nothing follows it, or what follows
+-- begins with `[`. Otherwise, the keys after it would get into another table.
+abbrev pub may_head : List Piece → Statement → Bool
+may_head pieces s =
+    begins_section pieces s || nat_le (length pieces) s.end
+    || begins_section pieces (record { kind = is.Blank; first = s.end; end = length pieces })
+
+-- Whether a new text for a statement with these pieces has the same comments, and no header unless `heads`. `others` and
+-- `ss` are its pieces and statements.
+abbrev pub keeps : List ℕ → List Piece → Bool → List ℕ → List Piece → List Statement → Bool
+keeps text own heads new others ss = (heads || not (has_header ss)) && same_comments text own new others
+
+-- one more statement as it is
 abbrev pub kept : Parts → List ℕ → List Piece → Statement → Parts
 kept parts text pieces s = add parts (own_bytes text pieces s) (own_pieces pieces s) (s ∷ [])
-
-unfoldable pub all_kept : List ℕ → List Piece → Parts → List Statement → Parts
-all_kept text pieces parts [] = parts
-all_kept text pieces parts (s ∷ ss) = all_kept text pieces (kept parts text pieces s) ss

@@ -3,7 +3,7 @@ ghost use Rattle.std.specs.Prelude.{◌≡◌, IfOk, map};
 ghost use Rattle.toml_span_report.specs.Report.{repair_of, report_content};
 ghost use Rattle.toml_span_check.specs.Fixable as spec;
 
-use crate::fixing::{FixLevel, is_fixable};
+use crate::fixing::{FixLevel, all_safe, is_fixable};
 use crate::statements::faulty;
 use crate::sums::sum_of;
 use std::alloc::{AllocError, Global};
@@ -74,18 +74,6 @@ impl Count {
             unsafe_fixes: sum_of(self.unsafe_fixes, more.unsafe_fixes)?,
         })
     }
-}
-
-/// Returns whether all the replacements are safe.
-fn all_safe(repairs: &[Replacement]) -> bool
-    ensures { result ≡ spec.all_safe (map repair_of repairs.now) }
-{
-    for repair in repairs {
-        if !repair.is_safe {
-            return false;
-        }
-    }
-    true
 }
 
 /// Returns the level of a fix with these replacements: `Safe` if all of them are safe. Returns `None` if there are

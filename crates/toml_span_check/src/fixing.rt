@@ -1,7 +1,6 @@
 //! Fixes errors with the replacements of their reports.
-ghost use Rattle.std.specs.Prelude.{◌≡◌, ◌++◌, IfOk, IfSome, OnOk, false, length, map, option_map, position};
+ghost use Rattle.std.specs.Prelude.{◌≡◌, ◌++◌, IfOk, OnOk, false, length, map, option_map, position};
 ghost use Rattle.std.specs.Prelude.{string_bytes};
-ghost use Rattle.std.specs.Bool.{OnTrue};
 ghost use Rattle.std.specs.Str.{bytes_eq};
 ghost use Rattle.toml_span_tree.specs.Error.{content_of};
 ghost use Rattle.toml_span_places.specs.Replace.{edit_of};
@@ -12,13 +11,10 @@ ghost use Rattle.toml_span_check.specs.Fixing as spec;
 ghost use Rattle.toml_span_check.specs.Safety as safety;
 ghost use Rattle.toml_span_check.specs.Statements.{own_bytes};
 
-use crate::statements::{
-    begins_section, is_continued, offset_of, own_bytes, own_pieces, with_continued,
-};
+use crate::statements::{begins_section, is_continued, own_bytes, own_pieces, with_continued};
 use std::alloc::{AllocError, Global};
 use toml_span::de::parse;
 use toml_span::{Error, Stop};
-use toml_span_lex::span::Span;
 use toml_span_mistakes::error_report;
 use toml_span_places::{Replacement, replace_all};
 use toml_span_report::{Replacement as Repair, Report};
@@ -81,7 +77,7 @@ pub(crate) fn push_edits<'r>(
 // ---- the replacements of a statement
 
 /// Returns whether all the replacements are safe in kind.
-fn all_safe(repairs: &[Repair]) -> bool
+pub(crate) fn all_safe(repairs: &[Repair]) -> bool
     ensures { result ≡ safety.all_safe (map repair_of repairs.now) }
 {
     for repair in repairs {
@@ -131,50 +127,36 @@ fn line_ended(text: &str, is_crlf: bool) -> &str
     }
 }
 
-/// Converts a replacement of a report to one that `replace_all` takes in the part of the text that begins at `start`.
-fn edit_in(repair: &Repair, start: usize, is_crlf: bool) -> Replacement<'_>
-    ensures { edit_of result ≡ safety.edit_in start is_crlf (repair_of repair.now) }
-{
-    Replacement {
-        span: Span {
-            start: repair.span.start.saturating_sub(start),
-            end: repair.span.end.saturating_sub(start),
-        },
-        text: line_ended(repair.text.as_str(), is_crlf),
-    }
-}
-
-/// Converts the replacements of a report to those that `replace_all` takes in the part of the text that begins at
-/// `start`.
+/// Converts the replacements of a report to those that `replace_all` takes, with line ends as lines end.
 fn edits_of<'r>(
     alloc: Global,
     repairs: &'r [Repair],
-    start: usize,
     is_crlf: bool,
 ) -> Result<Vec<Replacement<'r>>, AllocError>
-    ensures { IfOk result (λ edits. map edit_of edits.items ≡ safety.edits start is_crlf (map repair_of repairs.now)) }
+    ensures { IfOk result (λ edits. map edit_of edits.items ≡ safety.edits is_crlf (map repair_of repairs.now)) }
 {
     let mut edits = Vec::new(alloc);
     for repair in repairs {
-        edits.push(edit_in(repair, start, is_crlf))?;
+        edits.push(Replacement {
+            span: repair.span,
+            text: line_ended(repair.text.as_str(), is_crlf),
+        })?;
     }
     Ok(edits)
 }
 
-/// Returns the statement with these replacements made, whose spans are offsets in a text in which the statement begins
-/// at `start`. Returns `None` if there are no replacements, if they may not be made, or if they do not fit the
-/// statement.
+/// Returns the statement with these replacements made. Returns `None` if there are no replacements, if they may not be
+/// made, or if they do not fit the statement.
 fn repaired(
     alloc: Global,
     statement: &str,
-    start: usize,
     repairs: &[Repair],
     way: Way,
 ) -> Result<Option<String>, AllocError>
     ensures { IfOk result (λ new. option_map string_bytes new
-        ≡ safety.repaired statement.now start (map repair_of repairs.now) way) }
+        ≡ safety.repaired statement.now (map repair_of repairs.now) way) }
 {
-    let edits = edits_of(alloc, repairs, start, way.is_crlf)?;
+    let edits = edits_of(alloc, repairs, way.is_crlf)?;
     if repairs.is_empty() {
         return Ok(None);
     }
@@ -201,7 +183,7 @@ fn with_error_fixed(
         (option_map string_bytes new)) }
 {
     let report = error_report(alloc, error, statement)?;
-    let new = repaired(alloc, statement, 0, report.replacements.as_slice(), way)?;
+    let new = repaired(alloc, statement, report.replacements.as_slice(), way)?;
     Ok(new)
 }
 
@@ -394,17 +376,62 @@ struct Fix {
     reading: Reading,
 }
 
-/// Returns a new text for a statement with its reading. Returns `None` if there were no errors to fix, or if the new
-/// text has other comments than the statement.
-fn checked(alloc: Global, text: &str, own: &[Piece], new: Fixed) -> Result<Option<Fix>, AllocError>
-    ensures { IfOk result (λ fix. spec.Checks text.now own.now (spec.fixed new) (option_map spec.fix fix)) }
+/// Returns the position of the first header among the statements.
+fn header_position(statements: &[Statement]) -> Option<usize>
+    ensures { result ≡ position (λ s. safety.is_header s.kind) statements.now }
+{
+    statements.iter().position(|statement| matches!(statement.kind, StatementKind::Header))
+}
+
+/// Returns whether a fix of a statement may write a header: the statement begins with `[`, or nothing follows it, or what
+/// follows begins with `[`. Otherwise, the keys after it would get into another table.
+fn may_head(pieces: &[Piece], statement: Statement) -> bool
+    ensures { result ≡ safety.may_head pieces.now statement }
+{
+    let rest = Statement {
+        kind: StatementKind::Blank,
+        first: statement.end,
+        end: pieces.len(),
+    };
+    begins_section(pieces, statement)
+        || pieces.len() <= statement.end
+        || begins_section(pieces, rest)
+}
+
+/// Returns whether a new text for the statement with the pieces `own` has the same comments, and no header unless
+/// `heads`. `reading` is the reading of the new text.
+fn keeps(
+    alloc: Global,
+    text: &str,
+    own: &[Piece],
+    heads: bool,
+    new: &str,
+    reading: &Reading,
+) -> Result<bool, AllocError>
+    ensures { IfOk result (λ does. does ≡ safety.keeps text.now own.now heads new.now reading.now.pieces.items
+        reading.now.statements.items) }
+{
+    let has_header = header_position(reading.statements.as_slice()).is_some();
+    let is_same = same_comments(alloc, text, own, new, reading.pieces.as_slice())?;
+    Ok((heads || !has_header) && is_same)
+}
+
+/// Returns a new text for a statement with its reading. Returns `None` if there were no errors to fix, if the new text
+/// has other comments than the statement or, unless `heads`, if it has a header.
+fn checked(
+    alloc: Global,
+    text: &str,
+    own: &[Piece],
+    heads: bool,
+    new: Fixed,
+) -> Result<Option<Fix>, AllocError>
+    ensures { IfOk result (λ fix. spec.Checks text.now own.now heads (spec.fixed new) (option_map spec.fix fix)) }
 {
     if new.count == 0 {
         return Ok(None);
     }
     let reading = read(alloc, new.text.as_str())?;
-    let others = reading.pieces.as_slice();
-    if same_comments(alloc, text, own, new.text.as_str(), others)? {
+    if keeps(alloc, text, own, heads, new.text.as_str(), &reading)? {
         Ok(Some(Fix { new, reading }))
     } else {
         Ok(None)
@@ -429,7 +456,10 @@ fn fix_of(
         return Ok(None);
     };
     match mended(alloc, old, way)? {
-        Some(new) => checked(alloc, text, own_pieces(pieces, statement), new),
+        Some(new) => {
+            let heads = may_head(pieces, statement);
+            checked(alloc, text, own_pieces(pieces, statement), heads, new)
+        }
         None => Ok(None),
     }
 }
@@ -656,8 +686,8 @@ fn with_statements_fixed(
 /// fixed, at most 100, or the statement and these lines stay as they are. The statements around it stay the same, and
 /// are read as before. If the new source had other statements than these, the source is returned unchanged. Statements
 /// after a multi-line string that is not closed stay as they are, since they may be parts of the string. So does a
-/// statement before an item of a YAML list and, at `FixLevel::Safe`, one that ends with a comma before an unreadable
-/// line.
+/// statement before an item of a YAML list, one that would become a header above lines that do not begin with `[` and,
+/// at `FixLevel::Safe`, one that ends with a comma before an unreadable line.
 ///
 /// At `FixLevel::Safe`, all replacements are safe, and the quotes that they add enclose a whole value. At either level,
 /// a statement keeps its comments, except that the markers `//` and `;` of comments become `#`. Takes time linear in
@@ -675,19 +705,6 @@ pub fn with_fixes(alloc: Global, text: &str, level: FixLevel) -> Result<Fixed, A
         text: String::from_str(alloc, text)?,
         count: 0,
     })
-}
-
-// ---- one fix
-
-/// Returns the position of the last statement that begins at or before the offset `place`, or 0.
-fn position_of(text: &str, pieces: &[Piece], statements: &[Statement], place: usize) -> usize {
-    let mut found = 0;
-    for (index, statement) in statements.iter().enumerate() {
-        if offset_of(text, pieces, statement.first) <= place {
-            found = index;
-        }
-    }
-    found
 }
 
 /// Returns whether `with_fixes` at this level fixes the errors of this statement of a text, which does not continue
@@ -708,102 +725,4 @@ pub(crate) fn is_fixable(
         Some(_) => Ok(true),
         None => Ok(false),
     }
-}
-
-/// Appends the statements to the draft as they are.
-#[tactic(auto, unfolding(crate::specs::Safety::all_kept))]
-fn push_all(
-    draft: &mut Draft,
-    text: &str,
-    pieces: &[Piece],
-    statements: &[Statement],
-) -> Result<(), AllocError>
-    ensures { OnOk result (drafts.draft draft.new
-        ≡ safety.all_kept text.now pieces.now (drafts.draft draft.old) statements.now) }
-{
-    for statement in statements {
-        push_kept(draft, text, pieces, *statement)?;
-    }
-    Ok(())
-}
-
-/// Returns the statement with these replacements made, whose spans are offsets in the text. Returns `None` if they may
-/// not be made, if the statement then has an error, if its comments change, or if `may_fix` is false.
-fn fix_with(
-    alloc: Global,
-    text: &str,
-    pieces: &[Piece],
-    statement: Statement,
-    repairs: &[Repair],
-    way: Way,
-) -> Result<Option<Fix>, AllocError>
-    ensures { IfOk result (λ fix. IfSome fix (λ f. spec.IsMade text.now pieces.now statement
-        (map repair_of repairs.now) way (spec.fix f))) }
-{
-    if !may_fix(text, pieces, statement, way) {
-        return Ok(None);
-    }
-    let Ok(old) = str::from_utf8(own_bytes(text, pieces, statement)) else {
-        return Ok(None);
-    };
-    let start = offset_of(text, pieces, statement.first);
-    let Some(new) = repaired(alloc, old, start, repairs, way)? else {
-        return Ok(None);
-    };
-    if parse(alloc, new.as_str()).is_err() {
-        return Ok(None);
-    }
-    let made = Fixed {
-        text: new,
-        count: 1,
-    };
-    checked(alloc, text, own_pieces(pieces, statement), made)
-}
-
-/// Returns whether a text with these replacements made is the text of the draft.
-fn makes(
-    alloc: Global,
-    text: &str,
-    repairs: &[Repair],
-    is_crlf: bool,
-    draft: &Draft,
-) -> Result<bool, AllocError>
-    ensures { IfOk result (λ same. OnTrue same (spec.Makes text.now (map repair_of repairs.now) is_crlf
-        (drafts.draft draft.now))) }
-{
-    let edits = edits_of(alloc, repairs, 0, is_crlf)?;
-    match replace_all(alloc, text, edits.as_slice()) {
-        Ok(new) => Ok(
-            is_same(new.as_bytes(), draft.text.as_slice()) && is_right(alloc, new.as_str(), draft)?,
-        ),
-        Err(Stop::Fault(_)) => Ok(false),
-        Err(Stop::Memory(error)) => Err(error),
-    }
-}
-
-/// Returns whether the replacements of a report are a safe fix by themselves: they are safe in kind and within one
-/// statement, which has no error afterwards, and they keep what `with_fixes` keeps at `FixLevel::Safe`. Takes time
-/// linear in the length of the text. Fails if an allocation fails.
-pub fn is_safe_fix(alloc: Global, text: &str, replacements: &[Repair]) -> Result<bool, AllocError>
-    ensures { IfOk result (λ safe. OnTrue safe (spec.IsSafeFix text.now (map repair_of replacements.now))) }
-{
-    let reading = read(alloc, text)?;
-    let pieces = reading.pieces.as_slice();
-    let statements = reading.statements.as_slice();
-    let [first, ..] = replacements else {
-        return Ok(false);
-    };
-    let at = position_of(text, pieces, statements, first.span.start);
-    if at >= statements.len() {
-        return Ok(false);
-    }
-    let way = way_of(pieces, FixLevel::Safe);
-    let Some(fix) = fix_with(alloc, text, pieces, statements[at], replacements, way)? else {
-        return Ok(false);
-    };
-    let mut draft = empty(alloc);
-    push_all(&mut draft, text, pieces, &statements[..at])?;
-    push_fix(&mut draft, &fix)?;
-    push_all(&mut draft, text, pieces, &statements[at + 1..])?;
-    makes(alloc, text, replacements, way.is_crlf, &draft)
 }

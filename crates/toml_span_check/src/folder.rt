@@ -111,22 +111,27 @@ fn path_of(alloc: Global, folder: &str, name: &[u8]) -> Result<String, AllocErro
     Ok(path)
 }
 
-/// Returns the text of a file, up to `BOUND + 1` bytes. Returns an empty string if the file can't be read, is not a
-/// regular file or is not valid UTF-8.
-fn text_of(rt: &HostRuntime, alloc: Global, path: &str) -> Result<String, AllocError> {
-    if is_special(rt, path) {
-        return Ok(String::new(alloc));
+/// Returns the text of a file, up to `BOUND + 1` bytes. Returns an empty string if there is no file at `path`, or if its
+/// text is not valid UTF-8, and `None` if it can't be read or is a pipe, a device or a socket.
+fn text_of(rt: &HostRuntime, alloc: Global, path: &str) -> Result<Option<String>, AllocError> {
+    if is_folder(rt, path) {
+        return Ok(Some(String::new(alloc)));
     }
-    let Ok(file) = File::open(rt, path) else {
-        return Ok(String::new(alloc));
+    if is_special(rt, path) {
+        return Ok(None);
+    }
+    let file = match File::open(rt, path) {
+        Ok(file) => file,
+        Err(error) if error.kind() == ErrorKind::NotFound => return Ok(Some(String::new(alloc))),
+        Err(_) => return Ok(None),
     };
     match read_bytes(alloc, &mut Tracked::new(file)) {
-        Ok(bytes) => match str::from_utf8(bytes.as_slice()) {
-            Ok(text) => String::from_str(alloc, text),
-            Err(_) => Ok(String::new(alloc)),
-        },
+        Ok(bytes) => {
+            let text = str::from_utf8(bytes.as_slice()).unwrap_or("");
+            Ok(Some(String::from_str(alloc, text)?))
+        }
         Err(Cut::Memory) => Err(AllocError),
-        Err(Cut::Failed(_)) => Ok(String::new(alloc)),
+        Err(Cut::Failed(_)) => Ok(None),
     }
 }
 
@@ -136,6 +141,12 @@ fn last_name(path: &str) -> &str {
         Some((_, name)) => name,
         None => path,
     }
+}
+
+/// Returns whether a path is that of an ignore file.
+pub(crate) fn is_ignore_file(path: &str) -> bool {
+    let name = last_name(path);
+    name == ".gitignore" || name == ".ignore" || path.ends_with("/.git/info/exclude")
 }
 
 /// Returns whether a search leaves out directories of this name: `target`, `node_modules`, and names that begin with
@@ -292,9 +303,10 @@ impl Below {
         }
     }
 
-    /// Reads the ignore file at `path`, unless it has no patterns or can't be read. `front` and `length` are those of
-    /// `Ignore`, and `above` is the position in `ignores` of the ignore file that applies if this file does not decide.
-    /// Returns the position of the ignore file that applies first.
+    /// Reads the ignore file at `path`, if it has patterns. If it can't be read, adds its path to the files found, so
+    /// that reading it reports why. `front` and `length` are those of `Ignore`, and `above` is the position in `ignores`
+    /// of the ignore file that applies if this file does not decide. Returns the position of the ignore file that
+    /// applies first.
     fn push_ignore(
         &mut self,
         rt: &HostRuntime,
@@ -304,7 +316,10 @@ impl Below {
         length: usize,
         above: Option<usize>,
     ) -> Result<Option<usize>, AllocError> {
-        let text = text_of(rt, alloc, path)?;
+        let Some(text) = text_of(rt, alloc, path)? else {
+            self.files.push(String::from_str(alloc, path)?)?;
+            return Ok(above);
+        };
         let patterns = ignore_patterns(alloc, text.as_str())?;
         if patterns.is_empty() {
             return Ok(above);
@@ -411,7 +426,7 @@ fn patterns_of(alloc: Global, texts: &[&str]) -> Result<Vec<Pattern>, AllocError
 }
 
 /// Returns the sorted paths of the TOML files below a directory. Does not follow links to directories. A directory that
-/// can't be listed is included, so that reading it reports why.
+/// can't be listed and an ignore file that can't be read are included, so that reading them reports why.
 ///
 /// Leaves out paths that the patterns `excludes` exclude, or those of the files `.gitignore` and `.ignore`: of the
 /// directories that are searched and, if the directory is in a Git repository, of those above it in the repository, and

@@ -3,7 +3,7 @@ ghost use Rattle.std.specs.Prelude.{◌≡◌, ◌∷◌, [], IfOk, Option, None
 ghost use Rattle.std.specs.IoError.{error_kind};
 ghost use Rattle.toml_span_check.specs.Run.{Asked, LogsSearch, HasReadOrNot, IsReason, Logs, read_of};
 
-use crate::folder::{files_below, is_folder};
+use crate::folder::{files_below, is_folder, is_ignore_file, is_special};
 use crate::words::is_bytes;
 use std::alloc::{AllocError, Global};
 use std::fs::File;
@@ -93,6 +93,9 @@ impl Inputs for Host {
         }
         if is_bytes(name) {
             return Ok(Err(String::from_str(alloc, "its name is not valid UTF-8")?));
+        }
+        if is_ignore_file(name) && is_special(&self.rt, name) {
+            return Ok(Err(String::from_str(alloc, "it is not a regular file")?));
         }
         match File::open(&self.rt, name) {
             Ok(file) => read_all(alloc, &mut Tracked::new(file)),

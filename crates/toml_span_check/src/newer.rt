@@ -2,9 +2,10 @@
 ghost use Rattle.std.specs.Prelude.{◌≡◌, IfOk, map, string_bytes};
 ghost use Rattle.toml_span_places.specs.Replace.{edit_of};
 ghost use Rattle.toml_span_report.specs.Report.{report_content};
+ghost use Rattle.toml_span_check.specs.Fixing.{fixed};
 ghost use Rattle.toml_span_check.specs.Newer as spec;
 
-use crate::fixing::{Fixed, push_edits};
+use crate::fixing::{FixLevel, Fixed, push_edits, with_fixes};
 use std::alloc::{AllocError, Global};
 use toml_span::Stop;
 use toml_span_lex::span::Span;
@@ -239,4 +240,24 @@ pub fn with_older_forms(
         }),
         Err(Stop::Memory(error)) => Err(error),
     }
+}
+
+/// Fixes errors of a source as `with_fixes` does, and then replaces newer forms as `with_older_forms` does. Returns the
+/// new source with the number of errors fixed and forms replaced: what `check --fix` writes, and what "fix all" of an
+/// editor makes. Fails if an allocation fails.
+pub fn with_all_fixes(
+    alloc: Global,
+    text: &str,
+    version: Version,
+    name: &str,
+    level: FixLevel,
+) -> Result<Fixed, AllocError>
+    ensures { IfOk result (λ made. spec.FixesAll version name.now level text.now (fixed made)) }
+{
+    let made = with_fixes(alloc, text, level)?;
+    let older = with_older_forms(alloc, made.text.as_str(), version, name)?;
+    Ok(Fixed {
+        text: older.text,
+        count: made.count.saturating_add(older.count),
+    })
 }

@@ -69,6 +69,7 @@ const HEAD: &str = r#"{
 {"id":"schema-one-of","shortDescription":{"text":"A value that does not match exactly one alternative."}},
 {"id":"schema-not","shortDescription":{"text":"A value that the schema rules out."}},
 {"id":"schema-deprecated","shortDescription":{"text":"A value that the schema calls deprecated."}},
+{"id":"schema-not-checked","shortDescription":{"text":"A part of a schema that is not checked."}},
 {"id":"schema-not-fetched","shortDescription":{"text":"A schema on a server, for which no local copy is named."}}
 ]}},"columnKind":"unicodeCodePoints","results":["#;
 

@@ -109,7 +109,12 @@ fn is_element(byte: u8) -> bool {
 
 /// Returns whether the byte is of the class `Plain`.
 fn is_plain(byte: u8) -> bool {
-    is_element(byte) && byte > 32 && !matches!(byte, b'\\' | 127 | 0xC2 | 0xE2 | 0xE3 | 0xEF)
+    is_element(byte)
+        && byte > 32
+        && !matches!(
+            byte,
+            b'\\' | 127 | 0xC2 | 0xCC | 0xCD | 0xD8 | 0xE1 | 0xE2 | 0xE3 | 0xEF
+        )
 }
 
 /// Returns whether a string can contain the byte: it is a tab, or no ASCII control character.

@@ -140,7 +140,7 @@ pub(crate) fn at_value<'a>(text: &'a str, at: usize) -> Option<Finding<'a>> {
 
 /// Returns the finding for a header that begins at `bracket`, and is not closed on its line. The `]` is expected at
 /// `at`. The replacement is not safe for a header such as `[[bin]`, which may have too many brackets or too few, and
-/// for one such as `[c#`, where `#` may be part of the name.
+/// for one such as `[c#` or `[c #1]`, where `#` may be part of the name.
 fn open_header<'a>(text: &'a str, at: usize, bracket: usize) -> Finding<'a> {
     let end = start_of(Class::Blank, text, at);
     let last = byte_at(text, end.saturating_sub(1));
@@ -150,7 +150,8 @@ fn open_header<'a>(text: &'a str, at: usize, bracket: usize) -> Finding<'a> {
         "]"
     };
     let code = pieces(part(text, bracket, end), closing, "");
-    let is_whole = end < at || byte_at(text, at) != b'#';
+    let comment = part(text, at, last_of_line(text, at));
+    let is_whole = (end < at || byte_at(text, at) != b'#') && !comment.contains(']');
     safe_if(
         replaced(OPEN_HEADER, bracket, end, code),
         last != b']' && is_whole,

@@ -1,7 +1,9 @@
 //! Mistakes in numbers. Functions that take `start` and `end` are given a number that spans `start..end`. The module
 //! `mistakes` says what the functions take and return.
 
-use crate::bytes::{Class, ahead, begins, byte_at, end_of, ends_value, is_in, part, start_of};
+use crate::bytes::{
+    Class, ahead, begins, byte_after, byte_at, end_of, ends_value, is_in, part, start_of,
+};
 use crate::finding::{Code, Finding, marked, pieces, replaced, safe_if, six};
 use crate::mistakes::dates::slash_date;
 use crate::mistakes::values::{float_word, unquoted_value};
@@ -312,7 +314,13 @@ fn plain<'a>(text: &'a str, start: usize, digits: usize, end: usize) -> Option<F
     let has_zero = byte_at(text, digits) == b'0'
         && is_in(Class::Digit, byte_at(text, ahead(text, digits, 1)));
     if has_zero && end <= end_of(Class::Decimal, text, digits) {
-        Some(zeros(text, start, digits, end))
+        // (without the zeros, `010.0.0.1` and `007 bond` would be other texts, and no numbers)
+        let is_number = end_of(Class::Grouped, text, ahead(text, point, 1)) >= end;
+        if is_number && ends_value(text, end) {
+            Some(zeros(text, start, digits, end))
+        } else {
+            Some(unquoted_value(text, start))
+        }
     } else if digits < point && point == end {
         Some(integer(text, start, digits, end))
     } else if end <= end_of(Class::Number, text, start) {
@@ -344,7 +352,11 @@ pub(crate) fn number<'a>(text: &'a str, at: usize) -> Option<Finding<'a>> {
     if let Some(found) = prefixed_number(text, start, digits, end) {
         return Some(found);
     }
-    if matches!(byte_at(text, digits), b'+' | b'-') {
+    let is_signed_twice = matches!(byte_at(text, digits), b'+' | b'-');
+    if is_signed_twice && !is_in(Class::Digit, byte_at(text, ahead(text, digits, 1))) {
+        return Some(unquoted_value(text, start));
+    }
+    if is_signed_twice {
         let code = pieces(part(text, digits, end), "", "");
         return Some(replaced(SIGNS, start, end, code));
     }
@@ -354,7 +366,7 @@ pub(crate) fn number<'a>(text: &'a str, at: usize) -> Option<Finding<'a>> {
     }
 }
 
-/// Recognizes a decimal comma, at `at`, as in `1,5`.
+/// Recognizes a decimal comma, at `at`, as in `1,5`, without another comma after it.
 pub(crate) fn decimal_comma<'a>(text: &'a str, at: usize) -> Option<Finding<'a>> {
     let start = start_of(Class::Atom, text, at);
     let next = ahead(text, at, 1);
@@ -363,6 +375,7 @@ pub(crate) fn decimal_comma<'a>(text: &'a str, at: usize) -> Option<Finding<'a>>
     if digits == at
         || end_of(Class::Digit, text, digits) != at
         || next == end
+        || byte_after(text, end) == b','
         || !ends_value(text, end)
     {
         return None;

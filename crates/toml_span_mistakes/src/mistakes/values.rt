@@ -44,12 +44,12 @@ fn is_within_one_edit(word: &str, name: &str) -> bool {
         || is_within_one_edit_at(word, name, 5)
 }
 
-/// Returns the boolean to write instead of a word that probably misspells it (`is_within_one_edit`). Returns `None` for
-/// any other word.
+/// Returns the boolean to write instead of a word that probably misspells it: one in other letter case, or with one
+/// mistake (`is_within_one_edit`). Returns `None` for any other word.
 fn near_boolean(word: &str) -> Option<Substitute> {
-    if is_within_one_edit(word, "true") {
+    if word.eq_ignore_ascii_case("true") || is_within_one_edit(word, "true") {
         as_substitute(NEAR_TRUE, "", "true")
-    } else if is_within_one_edit(word, "false") {
+    } else if word.eq_ignore_ascii_case("false") || is_within_one_edit(word, "false") {
         as_substitute(NEAR_FALSE, "", "false")
     } else {
         None
@@ -64,9 +64,17 @@ pub(crate) fn known_word(word: &str) -> Option<Substitute> {
         "False" | "FALSE" => as_substitute(UPPER_BOOLEAN, "", "false"),
         "yes" | "Yes" | "YES" | "on" | "On" | "ON" => as_substitute(OTHER_BOOLEAN, "", "true"),
         "no" | "No" | "NO" | "off" | "Off" | "OFF" => as_substitute(OTHER_BOOLEAN, "", "false"),
-        "null" | "Null" | "NULL" | "none" | "None" | "NONE" | "nil" | "undefined" => {
-            as_substitute(NULL, "", "")
-        }
+        "null"
+        | "Null"
+        | "NULL"
+        | "nul"
+        | "none"
+        | "None"
+        | "NONE"
+        | "nil"
+        | "Nil"
+        | "NIL"
+        | "undefined" => { as_substitute(NULL, "", "") }
         _ => match float_word(word) {
             Some(known) => Some(known),
             None => near_boolean(word),
@@ -78,8 +86,16 @@ pub(crate) fn known_word(word: &str) -> Option<Substitute> {
 /// for any other word.
 pub(crate) fn float_word(word: &str) -> Option<Substitute> {
     match word {
-        "NaN" | "NAN" | "Nan" => as_substitute(OTHER_FLOAT, "", "nan"),
-        "Inf" | "INF" => as_substitute(OTHER_FLOAT, "", "inf"),
+        "NaN" | "NAN" | "Nan" | "NAn" | "nAN" | "nAn" | "naN" => as_substitute(
+            OTHER_FLOAT,
+            "",
+            "nan",
+        ),
+        "Inf" | "INF" | "INf" | "InF" | "iNF" | "iNf" | "inF" => as_substitute(
+            OTHER_FLOAT,
+            "",
+            "inf",
+        ),
         "Infinity" | "infinity" | "INFINITY" => as_substitute(INFINITY, "", "inf"),
         _ => None,
     }

@@ -6,5 +6,5 @@ use Rattle.toml_span_check.proofs.fixing.edits_of.Given as goal
 
 abbrev pub invariant-loop-repair : goal.invariant-loop-repair
 invariant-loop-repair l =
-    map edit_of l.edits.items ++ edits l.start l.is_crlf (map repair_of (drop l.repair-index l.repairs))
-    ≡ edits l.start l.is_crlf (map repair_of l.repairs)
+    map edit_of l.edits.items ++ edits l.is_crlf (map repair_of (drop l.repair-index l.repairs))
+    ≡ edits l.is_crlf (map repair_of l.repairs)
