@@ -6,7 +6,7 @@ ghost use Rattle.toml_span_edit.specs.Kept.{InsertsLines, is_line_end};
 use crate::document::{Document, written};
 use crate::given::{check_value, key_text};
 use crate::items::{Item, bare, count_of, put_item};
-use crate::lines::{begins_line, indent, is_open, line_end, part, point};
+use crate::lines::{begins_line, indent, is_directive, is_open, line_end, part, point};
 use crate::mentions::{Home, PathMention, opens_element};
 use crate::plan::Plan;
 use crate::reach::after_line;
@@ -68,9 +68,26 @@ fn entry_site<'s, 'de>(mentions: &[PathMention<'s, 'de>]) -> Option<EntrySite<'s
     }
 }
 
+/// Returns the byte offset after the last directive above the first header and assignment of `text`. Without a
+/// directive, returns the start of `text`, after a byte order mark.
+fn after_directives(text: &str) -> usize {
+    let mut at = first_place(text);
+    let mut found = at;
+    for line in part(text, at, text.len()).split_inclusive('\n') {
+        if !line.trim().is_empty() && !line.trim_start().starts_with('#') {
+            break;
+        }
+        at = at.saturating_add(line.len());
+        if is_directive(line) {
+            found = at;
+        }
+    }
+    found
+}
+
 /// Returns the byte offset for an entry at the top of `text`, after a byte order mark if there is one. If comment lines
 /// begin there, and a blank line or the end of `text` follows them, the offset is after the comment lines and the blank
-/// line.
+/// line. It is not before a directive.
 fn top_of(text: &str) -> usize {
     let start = first_place(text);
     let mut at = start;
@@ -81,11 +98,12 @@ fn top_of(text: &str) -> usize {
         at = at.saturating_add(line.len());
     }
     let rest = part(text, at, after_line(text, at));
-    if at > start && rest.trim().is_empty() {
+    let place = if at > start && rest.trim().is_empty() {
         after_line(text, at)
     } else {
         start
-    }
+    };
+    place.max(after_directives(text))
 }
 
 /// Returns the line end to insert before new lines at the byte offset `at`: none at the start of a line.

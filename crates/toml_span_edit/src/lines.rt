@@ -74,9 +74,15 @@ pub(crate) fn indent(text: &str, offset: usize) -> &str {
     part(text, start, text.len().saturating_sub(rest.len()))
 }
 
+/// Returns whether a line is a directive, a comment that begins with `#:`, such as `#:schema`. It is about the whole
+/// file.
+pub(crate) fn is_directive(line: &str) -> bool {
+    line.trim_start().starts_with("#:")
+}
+
 /// Returns the start of the comment lines directly above the byte offset `offset`, the start of a line. Without such
 /// lines, returns `offset`. `floor` is an offset after which there are only blanks, line ends and comments up to
-/// `offset`; lines that begin before `floor` do not count.
+/// `offset`; lines that begin before `floor`, directives, and lines above a directive do not count.
 pub(crate) fn comments_above(text: &str, floor: usize, offset: usize) -> usize {
     let mut at = if is_open(text, floor) {
         after_line(text, floor)
@@ -86,7 +92,7 @@ pub(crate) fn comments_above(text: &str, floor: usize, offset: usize) -> usize {
     let mut start = at;
     for line in part(text, at, offset).split_inclusive('\n') {
         at = at.saturating_add(line.len());
-        if !line.trim_start().starts_with('#') {
+        if !line.trim_start().starts_with('#') || is_directive(line) {
             start = at;
         }
     }

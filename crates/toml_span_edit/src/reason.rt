@@ -56,7 +56,9 @@ impl Reason {
             Reason::NoKey => "the path does not name a key",
             Reason::AlreadyThere(_) => "this path already has a value",
             Reason::NoTable => "the path does not name a table",
-            Reason::NoArray => "the path does not name an array, or a position in one",
+            Reason::NoArray => {
+                "the path does not name an array, or does not end with a position such as `[0]`"
+            }
             Reason::PastEnd => {
                 "the array has no element at this position; `append` adds one at its end"
             }

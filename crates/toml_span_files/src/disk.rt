@@ -57,6 +57,8 @@ pub struct Disk<'r> {
     open: Option<File>,
     /// The new text, if the file is to be written in place.
     ready: Vec<u8>,
+    /// The mode that the new file gets before it replaces the file.
+    mode: u32,
     /// Whether the file is locked against other runs.
     is_locked: bool,
     /// Whether the file has been read since the new text was prepared.
@@ -133,20 +135,18 @@ fn keep_owner(file: &File, found: &Metadata, may_change_owner: bool) -> Result<u
     }
 }
 
-/// Writes the text to a new file, and gives it the owner, group and mode of the old file, whose metadata is `found`.
-/// Fails with `Unwritten` if the file can't be written, and with `Owner` as `keep_owner` does. The file may then have a
-/// part of the text.
+/// Writes the text to a new file, and gives it the owner and group of the old file, whose metadata is `found`. Returns
+/// the mode that the file should get. Fails with `Unwritten` if the file can't be written, and with `Owner` as
+/// `keep_owner` does. The file may then have a part of the text.
 fn fill(
     file: &mut File,
     found: &Metadata,
     text: &[u8],
     may_change_owner: bool,
-) -> Result<(), Failure> {
+) -> Result<u32, Failure> {
     file.write_all(text).map_err(unwritten)?;
     file.sync_all().map_err(unwritten)?;
-    let mode = keep_owner(file, found, may_change_owner)?;
-    file.set_permissions(Permissions::from_mode(mode))
-        .map_err(unwritten)
+    keep_owner(file, found, may_change_owner)
 }
 
 /// Reads a file, up to its end or until more than `LIMIT` bytes have been read. Fails with `Unread` if a read fails.
@@ -207,6 +207,7 @@ impl<'r> Disk<'r> {
             beside: None,
             open: None,
             ready: Vec::new(rt.alloc()),
+            mode: 0o600,
             is_locked: false,
             is_fresh: false,
         })
@@ -275,7 +276,7 @@ impl Steps for Disk<'_> {
         } else {
             match (&mut self.beside, &self.found) {
                 (Some(beside), Some(found)) => {
-                    fill(&mut beside.file, found, text, self.options.may_change_owner)?;
+                    self.mode = fill(&mut beside.file, found, text, self.options.may_change_owner)?;
                 }
                 _ => return Err(Failure::Changed),
             }
@@ -294,6 +295,11 @@ impl Steps for Disk<'_> {
         let Some(beside) = &self.beside else {
             return Err(Failure::Changed);
         };
+        // (last, since a run that is killed must leave a file with the mode by which the next run knows it)
+        beside
+            .file
+            .set_permissions(Permissions::from_mode(self.mode))
+            .map_err(unwritten)?;
         fs::rename(self.rt, beside.name.as_str(), self.place.as_str()).map_err(unwritten)?;
         self.beside = None;
         self.is_fresh = false;
