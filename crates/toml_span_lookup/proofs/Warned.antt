@@ -2,7 +2,7 @@
 use Rattle.toml_span_lex.proofs.Common.{◌≡◌, ◌<◌, ◌==◌, ◌∙◌, ◌++◌, ap, sym, subst, inl, inr, ℕ, zero, suc, List, [], ◌∷◌, map, length, Option, Some, Result, Ok, Err, IfOk, AllocError, Global, Vec, append_assoc, map-append, length-map, arith}
 use Rattle.std.specs.List.{All}
 use Rattle.std.proofs.lemmas.List.{append-nil}
-use Rattle.std.proofs.lemmas.List.Elements.{All-append}
+use Rattle.std.proofs.lemmas.List.Elements.{All-append, All-map}
 use Rattle.toml_span_tree.specs.Node.{Node}
 use Rattle.toml_span_report.specs.Report.{ReportContent, report_content}
 use Rattle.toml_span_report.specs.declared.report.Report.{Report}
@@ -10,7 +10,7 @@ use Rattle.toml_span_report.specs.declared.report.Severity.TheVariants.{Warning}
 use Rattle.toml_span_schema.specs.Valid.{valid}
 use Rattle.toml_span_schema.specs.declared.schema.Schema.{Schema}
 use Rattle.toml_span_schema.specs.declared.guide.Guide.{Guide}
-use Rattle.toml_span_lookup.specs.Findings.{AddsWarnings, ChecksWith, IsWarning, ReportsOf}
+use Rattle.toml_span_lookup.specs.Findings.{AddsWarnings, ChecksWith, IsError, IsWarning, ReportsOf}
 
 pub adds-none : (reports : List ReportContent) → AddsWarnings reports reports
 adds-none reports = ([], sym (append-nil reports), λ k d within. absurd (omega arith))
@@ -30,9 +30,10 @@ adds-more old mid new report (warnings, is, all) more warns = (
 
 -- more warnings may follow
 pub checks_more : (schema : Schema) (root : Node) (reports more : List ReportContent) → ChecksWith schema root reports → AddsWarnings reports more → ChecksWith schema root more
-checks_more schema root reports more (errors, is, (first, same, all)) (others, after, each) = (
+checks_more schema root reports more (errors, is, wrong, (first, same, all)) (others, after, each) = (
   errors,
   is,
+  wrong,
   (
     first ++ others,
     after ∙ ap (λ l. l ++ others) same ∙ append_assoc errors first others,
@@ -51,6 +52,10 @@ noted (Ok all) found guide name root reports before after is checks (adds, same)
 noted (Err e) found guide name root reports before after is checks adds = tt
 
 pub checks-with : (schema : Schema) (root : Node) (errors reports : List Report) → valid schema schema.depth root ≡ Some (length errors == 0) →
-    AddsWarnings (map report_content errors) (map report_content reports) → ChecksWith schema root (map report_content reports)
-checks-with schema root errors reports is adds =
-    (map report_content errors, is ∙ ap (λ n. Some (n == 0)) (sym (length-map errors report_content)), adds)
+    All (λ report. IsError (report_content report)) errors → AddsWarnings (map report_content errors) (map report_content reports) → ChecksWith schema root (map report_content reports)
+checks-with schema root errors reports is wrong adds = (
+  map report_content errors,
+  is ∙ ap (λ n. Some (n == 0)) (sym (length-map errors report_content)),
+  All-map IsError report_content errors wrong,
+  adds,
+)

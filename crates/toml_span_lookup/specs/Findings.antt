@@ -10,7 +10,7 @@ use Rattle.toml_span_lookup.specs.declared.compiling.Used.{Used}
 use Rattle.toml_span_lookup.specs.declared.lookup.Choice.{Choice}
 use Rattle.toml_span_lookup.specs.declared.lookup.Choice.TheVariants as choices
 use Rattle.toml_span_report.specs.Report.{ReportContent}
-use Rattle.toml_span_report.specs.declared.report.Severity.TheVariants.{Warning}
+use Rattle.toml_span_report.specs.declared.report.Severity.TheVariants.{Error, Warning}
 use Rattle.toml_span_report.specs.Visible.{visible}
 use Rattle.toml_span_schema.specs.Valid.{valid}
 use Rattle.toml_span_schema.specs.declared.guide.Guide.{Guide}
@@ -31,6 +31,9 @@ HasNoSchema chooser text = (chooser ≡ Files) × (names_schema text ≡ false)
 abbrev pub IsNotFetched : ReportContent → Type 0
 IsNotFetched report = (report.severity ≡ Warning) × (report.code ≡ codes "schema-not-fetched")
 
+abbrev pub IsError : ReportContent → Type 0
+IsError report = report.severity ≡ Error
+
 abbrev pub IsWarning : ReportContent → Type 0
 IsWarning report = report.severity ≡ Warning
 
@@ -43,7 +46,7 @@ AddsWarnings errors reports = (warnings : List ReportContent) × (reports ≡ er
 abbrev pub ChecksWith : Schema → Node → List ReportContent → Type 0
 ChecksWith schema root reports =
     (errors : List ReportContent) × (valid schema schema.depth root ≡ Some (length errors == 0))
-    × AddsWarnings errors reports
+    × All IsError errors × AddsWarnings errors reports
 
 -- the compiled schema of the first file with this path; `None` if no file has the path, or if its schema can't be used
 abbrev pub guide_at : List Used → List ℕ → Option Guide

@@ -102,6 +102,7 @@ fn push_globs(alloc: Global, text: &str, patterns: &mut Vec<Pattern>) -> Result<
         Some(rest) => ("!", rest),
         None => ("", text),
     };
+    let rest = rest.strip_prefix("./").unwrap_or(rest);
     let rest = rest.strip_prefix('/').unwrap_or(rest);
     let mut texts = vec![in alloc; format!(in alloc; "{mark}**/{rest}")?]?;
     for _ in 0..MOST_BRACKETS {

@@ -74,7 +74,7 @@ fn compile(alloc: Global, documents: &[Loaded]) -> Result<Guide, SchemaError> {
 /// Returns the text of the file at `path` without a byte order mark. If the file can't be read, is larger than 16 MiB
 /// or is not valid UTF-8, returns `None` and adds an error to `complaint`. `what` names the failed action in this
 /// error, such as `read the catalog`.
-pub(crate) fn text_of<D: Disk>(
+pub fn text_of<D: Disk>(
     alloc: Global,
     disk: &mut D,
     complaint: &mut String,
@@ -176,7 +176,7 @@ fn refuse(
         SchemaError::Json { address } => {
             refuse_text(alloc, complaint, documents, address.as_str())
         }
-        SchemaError::Wrong { flaws } => {
+        SchemaError::Wrong { flaws, .. } => {
             let flaws = flaws.as_slice();
             if let Some(reason) = remote_reason(alloc, options.place, flaws)? {
                 complain(complaint, "use the schema", path, reason.as_str())?;
@@ -373,7 +373,7 @@ fn compile_used<D: Disk>(
             Err(error) => error,
         };
         let is_more = match &error {
-            SchemaError::Wrong { flaws } if loading.documents.len() <= MOST_DOCUMENTS => {
+            SchemaError::Wrong { flaws, .. } if loading.documents.len() <= MOST_DOCUMENTS => {
                 let (loading, flaws) = (&mut loading, flaws.as_slice());
                 push_missing(alloc, disk, options, complaint, used, loading, flaws)?
             }
@@ -382,6 +382,9 @@ fn compile_used<D: Disk>(
         if !is_more {
             let path = used.path.as_str();
             let documents = loading.documents.as_slice();
+            if let SchemaError::Wrong { warnings, .. } = &error {
+                used.warnings = warnings_of(alloc, documents, warnings.as_slice())?;
+            }
             return refuse(alloc, options, complaint, path, documents, &error);
         }
     }

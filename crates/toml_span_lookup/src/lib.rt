@@ -4,7 +4,7 @@
 
 mod addresses;
 mod catalog;
-mod compiling;
+pub mod compiling;
 pub mod directive;
 pub mod disk;
 mod findings;

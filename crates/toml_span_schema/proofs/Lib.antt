@@ -6,3 +6,4 @@ pub mod Monotone
 pub mod Remainders
 pub mod Rests
 pub mod Views
+pub mod Violated

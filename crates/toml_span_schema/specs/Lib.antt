@@ -6,4 +6,5 @@ pub mod Formats
 pub mod Numbers
 pub mod Parts
 pub mod Patterns
+pub mod Reports
 pub mod Valid

@@ -21,6 +21,8 @@ struct Tried<'s, 'v, 'de> {
     count: usize,
     /// Whether the value has a wrong type, or is not among the constants, in all of these.
     is_unlisted: bool,
+    /// The constants that the alternatives list for entries of the value, with the starts of the entries' values.
+    constants: Vec<(usize, &'s str)>,
     /// The violations of the alternative with the least distance, and this distance.
     best: Vec<Violation<'s, 'v, 'de>>,
     least: usize,
@@ -46,6 +48,7 @@ impl Schema {
             valid: Vec::new(alloc),
             count: 0,
             is_unlisted: true,
+            constants: Vec::new(alloc),
             best: Vec::new(alloc),
             least: usize::MAX,
         };
@@ -95,6 +98,18 @@ impl Schema {
         let is_unlisted = found
             .iter()
             .any(|one| one.is_unlisted() && one.level == level);
+        for one in found.iter() {
+            if let (Keyword::Enum(_, shown), 1) = (
+                &one.placed.keyword,
+                one.level.saturating_sub(level),
+            ) {
+                for constant in shown.as_slice() {
+                    tried
+                        .constants
+                        .push((one.part.value().span.start, constant.as_str()))?;
+                }
+            }
+        }
         let distance = self.distance(walk.alloc, found.as_slice(), level, node, part)?;
         tried.is_unlisted = tried.is_unlisted && is_unlisted;
         tried.count = tried.count.saturating_add(1);
@@ -248,7 +263,19 @@ fn conclude<'s, 'v, 'de>(
     if tried.count != 1 && tried.is_unlisted {
         return walk.push(at.0, at.1, Cause::Unlisted(nodes), part);
     }
-    for violation in tried.best {
+    let Tried {
+        constants,
+        best,
+        ..
+    } = tried;
+    for violation in best {
+        let mut violation = violation;
+        let start = violation.part.value().span.start;
+        for pair in constants.as_slice() {
+            if pair.0 == start && violation.level.saturating_sub(walk.path.len()) == 1 {
+                violation.others.push(pair.1)?;
+            }
+        }
         walk.violations.push(violation)?;
     }
     Ok(())

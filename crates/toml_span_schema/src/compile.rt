@@ -197,7 +197,8 @@ fn compile_sources(alloc: Global, sources: Sources<'_, '_>) -> Result<Guide, Sch
     }
     if !compiler.sources.errors.is_empty() {
         let flaws = mem::replace(&mut compiler.sources.errors, Vec::new(alloc));
-        return Err(SchemaError::Wrong { flaws });
+        let warnings = mem::replace(&mut compiler.sources.warnings, Vec::new(alloc));
+        return Err(SchemaError::Wrong { flaws, warnings });
     }
     let notes = compiler.notes()?;
     let Compiler {

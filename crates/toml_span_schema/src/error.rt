@@ -26,11 +26,19 @@ pub enum SchemaError {
     /// An allocation failed.
     OutOfMemory,
     /// The document with this address is not JSON, or nests more than 128 levels deep.
-    Json { address: String },
-    /// At least one keyword has a wrong value, or names something that does not exist. At most 100 flaws are listed.
-    Wrong { flaws: Vec<Flaw> },
+    Json {
+        address: String,
+    },
+    /// At least one keyword has a wrong value, or names something that does not exist. At most 100 flaws are listed,
+    /// and at most 100 warnings (see `Guide::warnings`).
+    Wrong {
+        flaws: Vec<Flaw>,
+        warnings: Vec<Flaw>,
+    },
     /// The schema exceeds this limit: it nests too deep, has too many schemas, or takes too many steps to compile.
-    TooLarge { limit: &'static str },
+    TooLarge {
+        limit: &'static str,
+    },
 }
 
 /// Returns a JSON pointer as messages show it: unchanged, except that the empty pointer becomes `the root`.
@@ -44,7 +52,7 @@ impl SchemaError {
         match self {
             SchemaError::OutOfMemory => String::from_str(alloc, "out of memory"),
             SchemaError::Json { address } => format!(in alloc; "{address} is not JSON"),
-            SchemaError::Wrong { flaws } => {
+            SchemaError::Wrong { flaws, .. } => {
                 let mut out = String::new(alloc);
                 for flaw in flaws.as_slice() {
                     let line = if out.is_empty() { "" } else { "\n" };

@@ -195,7 +195,7 @@ pub(crate) fn expected_text(want: Want) -> &'static str {
         Want::Number => "a number",
         Want::Divisor => "a number above 0 with at most 18 digits",
         Want::Count => "an integer of at least 0",
-        Want::TypeName => "the name of a type",
+        Want::TypeName => "`array`, `boolean`, `integer`, `null`, `number`, `object` or `string`",
         Want::TypeNames => "an array of names of types",
         Want::Names => "an array of strings",
         Want::NamesByKey => "an object of arrays of strings",

@@ -42,8 +42,8 @@ impl<'v, 'de> Part<'v, 'de> {
 }
 
 impl<'v, 'de> Part<'v, 'de> {
-    /// Returns the span that marks the value in a report: that of its key if the value is a table with a header, the
-    /// start of a document, and otherwise the value's own.
+    /// Returns the span that marks the value in a report: that of its key if the value has a header, the start of
+    /// a document, and otherwise the value's own.
     pub(crate) fn mark(&self) -> Span {
         let Span { start, end } = self.value().span;
         match self {
@@ -53,12 +53,11 @@ impl<'v, 'de> Part<'v, 'de> {
         }
     }
 
-    /// Returns whether the value is a table with a header, in which its key is.
+    /// Returns whether the value is a table or an array of tables with a header, in which its key is.
     pub(crate) fn is_header(&self) -> bool {
         match self {
             Part::Member(key, value) => {
-                let is_inside = value.span.start < key.span.start && key.span.end <= value.span.end;
-                is_inside && value.as_table().is_some()
+                value.span.start < key.span.start && key.span.end <= value.span.end
             }
             _ => false,
         }

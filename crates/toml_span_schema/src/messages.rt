@@ -10,7 +10,7 @@ use json::{Scratch, is_valid};
 use std::alloc::{AllocError, Global};
 use std::borrow::CowStr;
 use std::fmt::Write;
-use toml_span_tree::{Value, ValueInner};
+use toml_span_tree::{FloatText, Value, ValueInner};
 
 /// The number of schemas that may be nested to say which types and constants they name, and to check a key.
 const MOST_NESTED: usize = 65;
@@ -176,6 +176,11 @@ impl Schema {
                 for constant in shown.as_slice() {
                     constants.push(constant.as_str())?;
                 }
+                for other in violation.others.as_slice() {
+                    if !constants.iter().any(|one| one == other) {
+                        constants.push(*other)?;
+                    }
+                }
             }
             (_, Cause::Unlisted(nodes)) => {
                 self.push_listed(MOST_NESTED, nodes, &mut types, &mut constants)?;
@@ -307,7 +312,8 @@ impl Schema {
         if let Some(message) = size_message(alloc, placed, value)? {
             return Ok(message);
         }
-        let is_local_time = value.type_str() == "datetime" && limit == "`time`";
+        let is_date = value.type_str() == "datetime";
+        let is_local = is_date && (limit == "`time`" || limit == "`date-time`");
         let text = match (&placed.keyword, cause) {
             (Keyword::Contains(_, least, most, _), Cause::Count(found)) => {
                 let is_less = (found as u64) < *least;
@@ -336,9 +342,13 @@ impl Schema {
             (Keyword::ExclusiveMaximum(_), _) => "the number must be less than ",
             (Keyword::MultipleOf(_, _), _) => "the number must be a multiple of ",
             (Keyword::Pattern(_), _) => "the string must match the regular expression ",
-            (Keyword::Format(_, _, true), _) if is_local_time => {
+            (Keyword::Format(_, _, _), _) if is_local && limit == "`time`" => {
                 "the format `time` needs an offset, which no local time of TOML has"
             }
+            (Keyword::Format(_, _, _), _) if is_local => {
+                "the format `date-time` needs a date, a time and an offset, such as `Z`"
+            }
+            (Keyword::Format(_, _, _), _) if is_date => "the date or time must have the format ",
             (Keyword::Format(_, _, _) | Keyword::RegexFormat, _) => {
                 "the string must have the format "
             }
@@ -373,6 +383,20 @@ impl Schema {
         Ok(format!(in alloc; "key `{name}` is not allowed")?)
     }
 
+    /// Returns whether `items` of the schema at index `node` does not rule out tables by `type`.
+    fn has_tables(&self, node: usize) -> bool {
+        for placed in self.keywords(node) {
+            if let Keyword::Items(_, Some(next)) = &placed.keyword {
+                for inner in self.keywords(*next) {
+                    if let Keyword::Type(types) = &inner.keyword {
+                        return types.object;
+                    }
+                }
+            }
+        }
+        true
+    }
+
     /// Returns what to do about a value of a wrong type, or an empty text: quotes around a number or boolean, or a
     /// table instead of an array of tables.
     pub(crate) fn help_of<'s>(
@@ -394,11 +418,30 @@ impl Schema {
                 return format!(in alloc; "remove the quotes: {quoted}");
             }
         }
-        if let (true, Part::Member(key, _)) = (violation.part.is_header(), violation.part) {
-            if types.array && !types.object {
-                let name = key.name.as_ref();
-                return format!(in alloc; "write `[[{name}]]` for an array of tables");
-            }
+        let found = match (value.as_integer(), value.as_bool(), value.as_float()) {
+            (Some(number), _, _) => format!(in alloc; "{number}")?,
+            (_, Some(truth), _) => format!(in alloc; "{truth}")?,
+            (_, _, Some(FloatText::Finite(text))) => text.clone()?,
+            _ => String::new(alloc),
+        };
+        let quoted = format!(in alloc; "`\"{found}\"`")?;
+        let is_meant = if constants.is_empty() {
+            types.string
+        } else {
+            constants.iter().any(|one| *one == quoted.as_str())
+        };
+        if is_meant && !found.is_empty() {
+            return format!(in alloc; "put it in quotes: {quoted}");
+        }
+        let header = violation.table.as_str();
+        if !violation.part.is_header() || header.contains('[') || types.array == types.object {
+            return Ok(String::new(alloc));
+        }
+        if types.object && value.as_array().is_some() {
+            return format!(in alloc; "write `[{header}]` for a table");
+        }
+        if types.array && self.has_tables(violation.node) {
+            return format!(in alloc; "write `[[{header}]]` for an array of tables");
         }
         Ok(String::new(alloc))
     }

@@ -1,6 +1,7 @@
 //! Reports violations and deprecated values.
-ghost use Rattle.std.specs.Prelude.{◌≡◌, ◌<◌, ◌+◌, ◌==◌, ℕ, IfOk, Some, length};
+ghost use Rattle.std.specs.Prelude.{◌≡◌, ◌<◌, ◌+◌, ◌==◌, ℕ, All, IfOk, OnOk, Some, length};
 ghost use Rattle.toml_span_tree.specs.Value.{view};
+ghost use Rattle.toml_span_schema.specs.Reports.{IsError};
 ghost use Rattle.toml_span_schema.specs.Valid.{valid};
 
 use crate::canonical::canonical;
@@ -31,6 +32,7 @@ impl Schema {
             valid self.now self.now.depth (view value.now) ≡ Some (length reports.items == 0)) }
         ensures deeper { IfOk result (λ reports. (more : ℕ) →
             valid self.now (self.now.depth + more) (view value.now) ≡ Some (length reports.items == 0)) }
+        ensures errors { IfOk result (λ reports. All IsError reports.items) }
     {
         let mut left = MOST_STEPS;
         if self.is_valid(alloc, &mut left, self.depth, 0, value)? {
@@ -41,7 +43,8 @@ impl Schema {
 
     /// Returns the reports on a value that is not valid, at least one. Fails like `check`.
     fn reports(&self, alloc: Global, value: &Value<'_>) -> Result<Vec<Report>, CheckError>
-        ensures { IfOk result (λ reports. 0 < length reports.items) }
+        ensures some { IfOk result (λ reports. 0 < length reports.items) }
+        ensures errors { IfOk result (λ reports. All IsError reports.items) }
     {
         let mut reports = self.violations(alloc, value)?;
         if !reports.is_empty() {
@@ -52,23 +55,41 @@ impl Schema {
         Ok(reports)
     }
 
+    /// Returns a report for each violation that no other one implies, each once. `others` are all violations. Fails like
+    /// `check`.
+    fn distinct<'s, 'v, 'de>(
+        &'s self,
+        alloc: Global,
+        found: &[Violation<'s, 'v, 'de>],
+        others: &[Violation<'s, 'v, 'de>],
+    ) -> Result<Vec<Report>, CheckError>
+        ensures { IfOk result (λ reports. All IsError reports.items) }
+    {
+        let mut reports: Vec<Report> = Vec::new(alloc);
+        for violation in found {
+            if self.is_implied(alloc, violation, others)? {
+                continue;
+            }
+            let report = self.report(alloc, violation)?;
+            push_new(&mut reports, report)?;
+        }
+        Ok(reports)
+    }
+
     /// Returns a report for each violation, in the order of the text. Fails like `check`.
-    fn violations(&self, alloc: Global, value: &Value<'_>) -> Result<Vec<Report>, CheckError> {
+    fn violations(&self, alloc: Global, value: &Value<'_>) -> Result<Vec<Report>, CheckError>
+        ensures { IfOk result (λ reports. All IsError reports.items) }
+    {
         let mut left = MOST_STEPS;
         let found = self.walked(alloc, &mut left, 0, value)?.violations;
-        let mut reports: Vec<Report> = Vec::new(alloc);
-        for violation in found.iter().take(MOST - 1) {
-            if !self.is_misspelled(alloc, violation, found.as_slice())? {
-                let report = self.report(alloc, violation)?;
-                if !reports.iter().any(|other| is_same(other, &report)) {
-                    reports.push(report)?;
-                }
-            }
+        let all = found.as_slice();
+        let reports = self.distinct(alloc, all.get(..MOST - 1).unwrap_or(all), all)?;
+        let mut reports = in_order(reports)?;
+        if all.len() < MOST {
+            return Ok(reports);
         }
-        reports.sort_by_key(|report| start_of(report))?;
-        if found.len() >= MOST {
-            reports.push(Report::error(alloc, "too-many-errors", "too many errors")?)?;
-        }
+        let last = Report::error(alloc, "too-many-errors", "too many errors")?;
+        push_error(&mut reports, last)?;
         Ok(reports)
     }
 
@@ -118,36 +139,61 @@ impl Schema {
         Ok(false)
     }
 
+    /// Returns whether a key is unknown only because of other violations, which `others` has: the schema in which
+    /// `unevaluatedProperties` is knows it, but does not allow the table.
+    fn is_consequence(
+        &self,
+        alloc: Global,
+        violation: &Violation<'_, '_, '_>,
+        others: &[Violation<'_, '_, '_>],
+    ) -> Result<bool, AllocError> {
+        let (Keyword::UnevaluatedProperties(node, _), Part::Member(key, _)) = (
+            &violation.placed.keyword,
+            violation.part,
+        ) else {
+            return Ok(false);
+        };
+        for other in others {
+            if !matches!(&other.placed.keyword, Keyword::UnevaluatedProperties(_, _)) {
+                let known = self.known_keys(alloc, &[*node])?;
+                return Ok(known.iter().any(|name| *name == key.name.as_ref()));
+            }
+        }
+        Ok(false)
+    }
+
+    /// Returns whether a violation needs no report, since another one has one that says more.
+    fn is_implied<'s>(
+        &'s self,
+        alloc: Global,
+        violation: &Violation<'s, '_, '_>,
+        others: &[Violation<'s, '_, '_>],
+    ) -> Result<bool, AllocError> {
+        Ok(
+            self.is_misspelled(alloc, violation, others)?
+                || self.is_consequence(alloc, violation, others)?,
+        )
+    }
+
     /// Returns the report on a violation.
     fn report<'s, 'v, 'de>(
         &'s self,
         alloc: Global,
         violation: &Violation<'s, 'v, 'de>,
-    ) -> Result<Report, CheckError> {
+    ) -> Result<Report, CheckError>
+        ensures { IfOk result IsError }
+    {
         let message = self.message_of(alloc, violation)?;
         let code = code_of(alloc, violation)?;
-        let mut report = Report::error(alloc, code.as_str(), message.as_str())?;
         let span = self.span_of(alloc, violation)?;
-        report = report.primary(span, "")?;
-        if let (Keyword::UniqueItems, Some(pair)) = (
-            &violation.placed.keyword,
-            equal_elements(alloc, violation.part.value())?,
-        ) {
-            report = report.secondary(pair.0, "equal to this element")?;
-        }
-        if let Some(meant) = self.meant(alloc, violation)? {
-            let help = format!(in alloc; "did you mean `{meant}`?")?;
-            report = report.help(help.as_str())?;
-            if is_plain(meant) {
-                report = report.suggest(span, meant)?;
-            }
-        }
+        let meant = self.meant(alloc, violation)?;
         let help = self.help_of(alloc, violation)?;
-        if !help.is_empty() {
-            report = report.help(help.as_str())?;
-        }
         let place = self.place_of(alloc, violation)?;
-        report = report.note(place.as_str())?;
+        let equal = equal_elements_of(alloc, violation)?;
+        let report = Report::error(alloc, code.as_str(), message.as_str())?;
+        let report = with_equal(report.primary(span, "")?, equal)?;
+        let report = with_help(with_meant(alloc, report, meant, span)?, help.as_str())?;
+        let report = report.note(place.as_str())?;
         Ok(self.with_title(report, violation.node)?)
     }
 
@@ -251,11 +297,84 @@ impl Schema {
     }
 
     /// Adds a note with the title of the schema at index `node`, if it has a title.
-    fn with_title(&self, report: Report, node: usize) -> Result<Report, AllocError> {
+    fn with_title(&self, report: Report, node: usize) -> Result<Report, AllocError>
+        ensures { IfOk result (λ made. made.severity ≡ report.severity) }
+    {
         match self.nodes.get(node).and_then(|node| node.title.as_ref()) {
             Some(title) => report.note(title.as_str()),
             None => Ok(report),
         }
+    }
+}
+
+/// Appends a report.
+#[tactic(auto, using(crate::proofs::Violated::errors_push))]
+fn push_error(reports: &mut Vec<Report>, report: Report) -> Result<(), AllocError>
+    ensures { All IsError reports.old.items → IsError report → OnOk result (All IsError reports.new.items) }
+{
+    reports.push(report)?;
+    Ok(())
+}
+
+/// Appends a report, unless there is one that says the same of the same place.
+fn push_new(reports: &mut Vec<Report>, report: Report) -> Result<(), AllocError>
+    ensures { All IsError reports.old.items → IsError report → OnOk result (All IsError reports.new.items) }
+{
+    if reports.iter().any(|other| is_same(other, &report)) {
+        return Ok(());
+    }
+    push_error(reports, report)
+}
+
+/// Returns the reports in the order of the places that they mark.
+#[tactic(auto, using(crate::proofs::Violated::errors_sorted))]
+fn in_order(mut reports: Vec<Report>) -> Result<Vec<Report>, AllocError>
+    ensures { All IsError reports.items → IfOk result (λ made. All IsError made.items) }
+{
+    reports.sort_by_key(|report| start_of(report))?;
+    Ok(reports)
+}
+
+/// Adds a label for the first of two equal elements, if there are any.
+fn with_equal(report: Report, equal: Option<(Span, Span)>) -> Result<Report, AllocError>
+    ensures { IfOk result (λ made. made.severity ≡ report.severity) }
+{
+    match equal {
+        Some(pair) => report.secondary(pair.0, "equal to this element"),
+        None => Ok(report),
+    }
+}
+
+/// Adds the question whether `meant`, if there is such a name, was meant, and a replacement of `span` if the name needs
+/// no quotes.
+fn with_meant(
+    alloc: Global,
+    report: Report,
+    meant: Option<&str>,
+    span: Span,
+) -> Result<Report, AllocError>
+    ensures { IfOk result (λ made. made.severity ≡ report.severity) }
+{
+    let Some(meant) = meant else {
+        return Ok(report);
+    };
+    let help = format!(in alloc; "did you mean `{meant}`?")?;
+    let report = report.help(help.as_str())?;
+    if is_plain(meant) {
+        report.suggest(span, meant)
+    } else {
+        Ok(report)
+    }
+}
+
+/// Adds a line of help, unless it is empty.
+fn with_help(report: Report, help: &str) -> Result<Report, AllocError>
+    ensures { IfOk result (λ made. made.severity ≡ report.severity) }
+{
+    if help.is_empty() {
+        Ok(report)
+    } else {
+        report.help(help)
     }
 }
 
@@ -296,6 +415,17 @@ fn equal_elements(alloc: Global, value: &Value<'_>) -> Result<Option<(Span, Span
     Ok(None)
 }
 
+/// Returns the spans of two equal elements if the violation is of `uniqueItems`. Fails like `canonical`.
+fn equal_elements_of(
+    alloc: Global,
+    violation: &Violation<'_, '_, '_>,
+) -> Result<Option<(Span, Span)>, CheckError> {
+    match &violation.placed.keyword {
+        Keyword::UniqueItems => equal_elements(alloc, violation.part.value()),
+        _ => Ok(None),
+    }
+}
+
 /// Returns the word in `known` that is the same as `word` in other letter case, or else the nearest, if one is near
 /// enough.
 fn same_or_nearest<'s>(
@@ -303,6 +433,9 @@ fn same_or_nearest<'s>(
     word: &str,
     known: &[&'s str],
 ) -> Result<Option<&'s str>, AllocError> {
+    if known.iter().any(|name| *name == word) {
+        return Ok(None);
+    }
     for name in known {
         if name.eq_ignore_ascii_case(word) {
             return Ok(Some(*name));

@@ -478,7 +478,19 @@ impl<'v, 'a> Sources<'v, 'a> {
         } else if !is_keyword(name) {
             self.warn_unknown(alloc, visit, name, ("keyword", name), ASSERTING)?;
         }
-        Ok(want_of(name, self.draft_in(visit.resource)))
+        let draft = self.draft_in(visit.resource);
+        let want = want_of(name, draft);
+        let is_old = name == "dependencies" && draft >= Draft::Of2019;
+        let is_unused = (want.is_none() || is_old) && is_keyword(name);
+        let is_asserting = ASSERTING.split(' ').any(|other| other == name);
+        if is_unused && is_asserting && self.unknown.insert(String::from_str(alloc, name)?)? {
+            let place = with_step(alloc, visit.pointer.as_str(), name)?;
+            let message = format!(in alloc; "not checked: this draft has no keyword `{name}`")?;
+            let source = self.source_of(visit.resource);
+            let flaw = self.flaw(alloc, source, place.as_str(), message.as_str())?;
+            push_flaw(&mut self.warnings, flaw)?;
+        }
+        Ok(want)
     }
 
     /// Adds a warning if the word `word.1`, which is a `word.0`, is not among the words `known`, but near to one of

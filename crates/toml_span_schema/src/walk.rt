@@ -47,7 +47,10 @@ pub(crate) struct Violation<'s, 'v, 'de> {
     pub(crate) part: Part<'v, 'de>,
     /// How many keys and positions lead to the value.
     pub(crate) level: usize,
-    /// For `Cause::Missing`, the path of the table as a dotted key with positions, such as `a[0].b`.
+    /// The constants that other alternatives of `anyOf` or `oneOf` list for the value, as messages show them.
+    pub(crate) others: Vec<&'s str>,
+    /// For `Cause::Missing` and values with a header, the path of the value as a dotted key with positions, such as
+    /// `a[0].b`.
     pub(crate) table: String,
 }
 
@@ -76,6 +79,7 @@ impl<'s, 'v, 'de> Walk<'s, 'v, 'de> {
         let level = self.path.len();
         let table = match cause {
             Cause::Missing(_) => self.dotted_path()?,
+            _ if part.is_header() => self.dotted_path()?,
             _ => String::new(self.alloc),
         };
         if let Keyword::Enum(_, _) = &placed.keyword {
@@ -91,6 +95,7 @@ impl<'s, 'v, 'de> Walk<'s, 'v, 'de> {
             cause,
             part,
             level,
+            others: Vec::new(self.alloc),
             table,
         })?;
         Ok(())
