@@ -20,11 +20,11 @@ use std::io::IsTerminal;
 use std::mem;
 use toml_span::Stop;
 use toml_span_check::answer::Task;
-use toml_span_check::fixing::{FixLevel, Fixed, with_fixes};
+use toml_span_check::fixing::{FixLevel, Fixed};
 use toml_span_check::folder::is_special;
 use toml_span_check::formats::Format;
 use toml_span_check::input::{Host, Inputs};
-use toml_span_check::newer::{Version, with_older_forms};
+use toml_span_check::newer::{Version, with_all_fixes};
 use toml_span_check::request::Request;
 use toml_span_check::words::shown_word;
 use toml_span_config::layers::{Layer, given};
@@ -55,23 +55,6 @@ struct Fixes {
     /// change.
     status: u8,
     ghost small: { status ≤ 3 },
-}
-
-/// Fixes errors of `text` as `with_fixes` does, and then replaces syntax that this version of TOML lacks. Returns the new
-/// text with the number of fixes and replacements. `name` is the name of the file.
-fn fixed(
-    alloc: Global,
-    text: &str,
-    version: Version,
-    level: FixLevel,
-    name: &str,
-) -> Result<Fixed, AllocError> {
-    let made = with_fixes(alloc, text, level)?;
-    let older = with_older_forms(alloc, made.text.as_str(), version, name)?;
-    Ok(Fixed {
-        text: older.text,
-        count: made.count.saturating_add(older.count),
-    })
 }
 
 impl Fixes {
@@ -145,7 +128,7 @@ impl Fixes {
             return Ok(());
         };
         let version = file.found.settings.toml.value;
-        let made = fixed(alloc, text, version, self.level, shown)?;
+        let made = with_all_fixes(alloc, text, version, shown, self.level)?;
         if made.count == 0 {
             return Ok(());
         }

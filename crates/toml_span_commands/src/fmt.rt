@@ -1,6 +1,7 @@
 //! The command `fmt`.
 ghost use Rattle.std.specs.Prelude.{◌≡◌, ◌≤◌, IfOk, false};
 ghost use Rattle.std.specs.Str.{IsValidUpTo};
+ghost use Rattle.toml_span_commands.specs.Fmt.{FormatsAs};
 
 use crate::answers::{Answer, failed, give, helped, misuse, printed, stopped};
 use crate::arguments::seconds;
@@ -22,7 +23,7 @@ use toml_span_check::words::shown_word;
 use toml_span_config::layers::{Crlf, ExpandArrays, Layer, Settings, given};
 use toml_span_config::sources::Sources;
 use toml_span_files::unified;
-use toml_span_format::{FormatError, Options, format, format_sorted};
+use toml_span_format::{FormatError, format, format_sorted};
 use toml_span_lines::run::BOUND;
 use toml_span_lines::sink::Sink;
 use toml_span_mistakes::error_report;
@@ -425,20 +426,10 @@ fn formatted<'t>(
     alloc: Global,
     text: &'t str,
     settings: &Settings,
-) -> Result<String, Stop<FormatError<'t>>> {
-    let options = Options {
-        width: usize::from(settings.width.value),
-        indent: usize::from(settings.indent.value),
-        has_trailing_comma: settings.trailing_comma.value,
-        keeps_lines: settings.expand_arrays.value == ExpandArrays::Keep,
-        aligns_comments: settings.align_comments.value,
-        blank_lines: usize::from(settings.blank_lines.value),
-        has_crlf: match settings.crlf.value {
-            Crlf::Auto => None,
-            Crlf::Always => Some(true),
-            Crlf::Never => Some(false),
-        },
-    };
+) -> Result<String, Stop<FormatError<'t>>>
+    ensures { FormatsAs settings.now.sort_keys.value text.now result }
+{
+    let options = settings.format_options();
     if settings.sort_keys.value {
         format_sorted(alloc, text, options)
     } else {

@@ -126,7 +126,10 @@ fn check_schemas(
 
 /// Appends the lines of a shell script that write a catalog for schemas to a file.
 fn push_catalog(out: &mut String, catalog: &str, names: &[&str]) -> Result<(), AllocError> {
-    out.push_str("cat >")?;
+    let folder = catalog.rsplit_once("/").map_or("", |parts| parts.0);
+    out.push_str("mkdir -p ")?;
+    push_shell_word(out, folder)?;
+    out.push_str(" && cat >")?;
     push_shell_word(out, catalog)?;
     out.push_str(" <<'END'\n{\n  \"version\": 1,\n  \"schemas\": [\n")?;
     for (i, name) in names.iter().enumerate() {
@@ -138,10 +141,18 @@ fn push_catalog(out: &mut String, catalog: &str, names: &[&str]) -> Result<(), A
             ""
         };
         let name = *name;
-        write!(
-            out,
-            "    {{\"fileMatch\": [\"{stem}.toml\"], \"url\": \"{name}\"}}{comma}\n"
-        )?;
+        write!(out, "    {{\"fileMatch\": [\"{stem}.toml\"], \"url\": \"")?;
+        if !name.contains("://") && !name.starts_with('/') && !folder.starts_with('/') {
+            // (a path in the catalog is relative to the catalog)
+            for step in folder.split('/') {
+                out.push_str(if step.is_empty() || step == "." {
+                    ""
+                } else {
+                    "../"
+                })?;
+            }
+        }
+        write!(out, "{name}\"}}{comma}\n")?;
     }
     out.push_str("  ]\n}\nEND\n")
 }

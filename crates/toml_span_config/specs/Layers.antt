@@ -3,8 +3,11 @@ use Rattle.std.specs.Prelude.{ℕ, Bool, true, false, Option, Some, None}
 use Rattle.toml_span_check.specs.declared.newer.Version.{Version}
 use Rattle.toml_span_check.specs.declared.newer.Version.TheVariants.{Auto}
 use Rattle.toml_span_lex.specs.declared.spanned.Spanned.{Spanned}
+use Rattle.toml_span_format.specs.declared.options.Options.{Options}
 use Rattle.toml_span_config.specs.declared.layers.Chosen.{Chosen}
+use Rattle.toml_span_config.specs.declared.layers.Crlf.{Crlf}
 use Rattle.toml_span_config.specs.declared.layers.Crlf.TheVariants as crlfs
+use Rattle.toml_span_config.specs.declared.layers.ExpandArrays.{ExpandArrays}
 use Rattle.toml_span_config.specs.declared.layers.ExpandArrays.TheVariants as expansions
 use Rattle.toml_span_config.specs.declared.layers.Layer.{Layer}
 use Rattle.toml_span_config.specs.declared.layers.Origin.TheVariants as origins
@@ -71,4 +74,27 @@ settled layer = record {
   blank_lines = or_default layer.blank_lines 1;
   crlf = or_default layer.crlf crlfs.Auto;
   schema = layer.schema;
+}
+
+-- ---- the options of the formatter
+
+abbrev pub keeps_lines : ExpandArrays → Bool
+keeps_lines expansions.Auto = false
+keeps_lines expansions.Keep = true
+
+-- whether lines end with CRLF; `None` if they end as the first one does
+abbrev pub has_crlf : Crlf → Option Bool
+has_crlf crlfs.Auto = None
+has_crlf crlfs.Always = Some true
+has_crlf crlfs.Never = Some false
+
+abbrev pub format_options : Settings → Options
+format_options s = record {
+  width = s.width.value;
+  indent = s.indent.value;
+  has_trailing_comma = s.trailing_comma.value;
+  keeps_lines = keeps_lines s.expand_arrays.value;
+  aligns_comments = s.align_comments.value;
+  blank_lines = s.blank_lines.value;
+  has_crlf = has_crlf s.crlf.value;
 }

@@ -2,6 +2,7 @@
 ghost use Rattle.std.specs.Prelude.{◌≡◌, IfOk, map, Some, true};
 ghost use Rattle.toml_span_check.specs.Patterns.{pattern, parts};
 ghost use Rattle.toml_span_config.specs.Config as spec;
+ghost use Rattle.toml_span_config.specs.Tables as tables;
 
 use crate::document::{CheckTable, Document, FilesTable, FmtTable, Glob};
 use crate::layers::{Chosen, Layer, Origin, Settings, of_field};
@@ -52,7 +53,9 @@ fn patterns_of(alloc: Global, globs: Vec<Glob>) -> Result<Vec<Pattern>, AllocErr
 }
 
 /// Returns `lower` with the settings of a table `check`, which hold where both set one.
-fn with_check(lower: Layer, table: &Option<CheckTable>) -> Layer {
+fn with_check(lower: Layer, table: &Option<CheckTable>) -> Layer
+    ensures { result ≡ tables.with_check lower table.now }
+{
     let Some(table) = table else {
         return lower;
     };
@@ -71,7 +74,9 @@ fn with_check(lower: Layer, table: &Option<CheckTable>) -> Layer {
 }
 
 /// Returns `lower` with the settings of a table `fmt`, which hold where both set one.
-fn with_fmt(lower: Layer, table: &Option<FmtTable>) -> Layer {
+fn with_fmt(lower: Layer, table: &Option<FmtTable>) -> Layer
+    ensures { result ≡ tables.with_fmt lower table.now }
+{
     let Some(table) = table else {
         return lower;
     };
@@ -89,7 +94,9 @@ fn with_fmt(lower: Layer, table: &Option<FmtTable>) -> Layer {
 }
 
 /// Returns the layer that names the schema of the entry at the position `at`, or sets nothing if the entry names none.
-fn schema_layer(schema: &Option<Spanned<String>>, at: usize) -> Layer {
+fn schema_layer(schema: &Option<Spanned<String>>, at: usize) -> Layer
+    ensures { result ≡ tables.schema_layer schema.now at }
+{
     match schema {
         Some(path) => Layer {
             schema: Some(Chosen {
@@ -103,7 +110,9 @@ fn schema_layer(schema: &Option<Spanned<String>>, at: usize) -> Layer {
 }
 
 /// Returns the entry at the position `at`.
-fn entry_of(alloc: Global, table: FilesTable, at: usize) -> Result<Entry, AllocError> {
+fn entry_of(alloc: Global, table: FilesTable, at: usize) -> Result<Entry, AllocError>
+    ensures { IfOk result (λ entry. entry.layer ≡ tables.entry_layer table at) }
+{
     let FilesTable {
         globs,
         schema,
@@ -151,7 +160,9 @@ fn copies_of(
 }
 
 /// Returns the configuration of a file that has been read.
-fn config_of(alloc: Global, document: Document) -> Result<Config, AllocError> {
+fn config_of(alloc: Global, document: Document) -> Result<Config, AllocError>
+    ensures { IfOk result (λ config. config.general ≡ tables.general_layer document) }
+{
     let Document {
         exclude,
         check,

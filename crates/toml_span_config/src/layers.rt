@@ -4,6 +4,7 @@ ghost use Rattle.toml_span_config.specs.Layers as spec;
 
 use toml_span::{Span, Spanned};
 use toml_span_check::newer::Version;
+use toml_span_format::Options;
 
 /// Which arrays have several lines.
 #[derive(Clone, Copy, PartialEq, Eq)]
@@ -197,6 +198,44 @@ impl Layer {
             blank_lines: or_default(self.blank_lines, 1),
             crlf: or_default(self.crlf, Crlf::Auto),
             schema: self.schema,
+        }
+    }
+}
+
+/// Returns whether lines end with CRLF, or `None` if they end as the first one does.
+fn has_crlf(crlf: Crlf) -> Option<bool>
+    ensures { result ≡ spec.has_crlf crlf }
+{
+    match crlf {
+        Crlf::Auto => None,
+        Crlf::Always => Some(true),
+        Crlf::Never => Some(false),
+    }
+}
+
+/// Returns whether arrays that have several lines keep them.
+fn keeps_lines(arrays: ExpandArrays) -> bool
+    ensures { result ≡ spec.keeps_lines arrays }
+{
+    match arrays {
+        ExpandArrays::Auto => false,
+        ExpandArrays::Keep => true,
+    }
+}
+
+impl Settings {
+    /// Returns the options of the formatter.
+    pub fn format_options(&self) -> Options
+        ensures { result ≡ spec.format_options self.now }
+    {
+        Options {
+            width: usize::from(self.width.value),
+            indent: usize::from(self.indent.value),
+            has_trailing_comma: self.trailing_comma.value,
+            keeps_lines: keeps_lines(self.expand_arrays.value),
+            aligns_comments: self.align_comments.value,
+            blank_lines: usize::from(self.blank_lines.value),
+            has_crlf: has_crlf(self.crlf.value),
         }
     }
 }

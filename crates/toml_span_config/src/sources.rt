@@ -12,7 +12,7 @@ use toml_span_lines::run::BOUND;
 use toml_span_report::{Style, render_all};
 
 /// The names of configuration files. The first one that a directory has is used.
-const NAMES: [&str; 2] = ["toml-span.toml", ".toml-span.toml"];
+pub const NAMES: [&str; 2] = ["toml-span.toml", ".toml-span.toml"];
 
 /// Which configuration file to use.
 #[derive(Clone, Copy)]

@@ -11,8 +11,10 @@ use Rattle.toml_span_tree.specs.Value.{view}
 use Rattle.toml_span_tree.specs.declared.error.Error.{Error}
 use Rattle.toml_span_tree.specs.declared.value.Value.{Value}
 use Rattle.toml_span_check.specs.Every.{Checks}
-use Rattle.toml_span_check.specs.Newer.{Lacks}
+use Rattle.toml_span_check.specs.Fixing.{Made}
+use Rattle.toml_span_check.specs.Newer.{FixesAll, Lacks}
 use Rattle.toml_span_check.specs.Schemas.{Says}
+use Rattle.toml_span_check.specs.declared.fixing.FixLevel.TheVariants.{Safe}
 use Rattle.toml_span_check.specs.declared.newer.Version.{Version}
 use Rattle.toml_span_check.specs.declared.schemas.Chooser.{Chooser}
 use Rattle.toml_span_report.specs.Report.{ReportLabel, ReportContent}
@@ -21,6 +23,7 @@ use Rattle.toml_span_editor.specs.declared.diagnostics.Diagnostic.{Diagnostic}
 use Rattle.toml_span_editor.specs.declared.diagnostics.Related.{Related}
 use Rattle.toml_span_editor.specs.declared.positions.Encoding.{Encoding}
 use Rattle.toml_span_editor.specs.declared.positions.Range.{Range}
+use Rattle.toml_span_editor.specs.Edits.{ChangesInto}
 use Rattle.toml_span_editor.specs.Labels.{main_span}
 use Rattle.toml_span_editor.specs.Partial.{ArePartialReports}
 use Rattle.toml_span_editor.specs.Positions.{range_of}
@@ -112,3 +115,7 @@ abbrev pub Diagnoses : Says → Version → Chooser → List ℕ → Encoding �
 Diagnoses says version chooser name encoding text diagnostics complaint =
     (reports : List ReportContent) × AreReports says version chooser name text reports complaint
     × (diagnostics ≡ map (diagnostic_of encoding text) reports)
+
+-- The edits make of the text what `check --fix` writes.
+abbrev pub RepairsAll : Version → List ℕ → List ℕ → List (Span × List ℕ) → Type 0
+RepairsAll version name text edits = (made : Made) × FixesAll version name Safe text made × ChangesInto text edits made.0

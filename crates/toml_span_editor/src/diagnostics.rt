@@ -4,6 +4,7 @@ ghost use Rattle.toml_span_tree.specs.Diagnostic.{label_content};
 ghost use Rattle.toml_span_report.specs.Report.{report_content};
 ghost use Rattle.toml_span_tree.specs.Value.{view};
 ghost use Rattle.toml_span_editor.specs.Diagnostics as spec;
+ghost use Rattle.toml_span_editor.specs.Edits.{edit_content};
 
 use crate::document::Document;
 use crate::duplicates::without_duplicate;
@@ -16,8 +17,8 @@ use std::alloc::{AllocError, Global};
 use toml_span::de::parse;
 use toml_span::{Stop, Value};
 use toml_span_check::every::check;
-use toml_span_check::fixing::{FixLevel, with_fixes};
-use toml_span_check::newer::{Version, version_reports, with_older_forms};
+use toml_span_check::fixing::FixLevel;
+use toml_span_check::newer::{Version, version_reports, with_all_fixes};
 use toml_span_check::schemas::{Chooser, SchemaReports, Schemas};
 use toml_span_lex::span::Span;
 use toml_span_report::{Report, Severity};
@@ -375,23 +376,16 @@ pub fn missing_key(
     Ok(None)
 }
 
-/// Returns edits that repair a text as `toml-span check --fix` does: they fix errors (see `with_fixes`), and then
-/// replace syntax that `version` lacks (see `with_older_forms`). `document` is as for `repairs`, and `name` is the name
-/// of the file. The list is empty if there is nothing to change. Fails if an allocation fails.
+/// Returns edits that make of a text what `toml-span check --fix` writes (see `with_all_fixes`). `name` is the name of
+/// the file. The list is empty if there is nothing to change. Fails if an allocation fails.
 pub fn all_repairs(
     alloc: Global,
     text: &str,
-    document: Option<&Document<'_>>,
     version: Version,
     name: &str,
-) -> Result<Vec<Edit>, AllocError> {
-    let fixed = match document {
-        None => with_fixes(alloc, text, FixLevel::Safe)?.text,
-        Some(_) => String::from_str(alloc, text)?,
-    };
-    let made = with_older_forms(alloc, fixed.as_str(), version, name)?;
-    if made.text.as_str() == text {
-        return Ok(Vec::new(alloc));
-    }
+) -> Result<Vec<Edit>, AllocError>
+    ensures { IfOk result (λ edits. spec.RepairsAll version name.now text.now (map edit_content edits.items)) }
+{
+    let made = with_all_fixes(alloc, text, version, name, FixLevel::Safe)?;
     differences(alloc, text, made.text.as_str())
 }

@@ -1,12 +1,12 @@
 //! Formats a document, or some of its lines.
 ghost use Rattle.std.specs.Prelude.{IfOk, IfSome};
-ghost use Rattle.toml_span_editor.specs.Formatting.{FormatsBy};
+ghost use Rattle.toml_span_editor.specs.Formatting.{FormatsBy, SortsBy};
 
 use crate::aligned::{is_within, line_edits, touched_lines};
 use crate::edits::{Edit, Rewritten, differences, edited};
 use std::alloc::{AllocError, Global};
 use toml_span::Stop;
-use toml_span_format::{Options, format, same_document};
+use toml_span_format::{Options, format, format_sorted, same_document};
 use toml_span_lex::span::Span;
 
 /// Returns the edits that format a document, with the new text. Returns `None` if the text is not valid TOML or can't
@@ -19,6 +19,25 @@ pub fn formatting(
     ensures { IfOk result (λ made. IfSome made (FormatsBy text.now)) }
 {
     match format(alloc, text, options) {
+        Ok(new) => {
+            let edits = differences(alloc, text, new.as_str())?;
+            Ok(Some(Rewritten { edits, text: new }))
+        }
+        Err(Stop::Memory(error)) => Err(error),
+        Err(Stop::Fault(_)) => Ok(None),
+    }
+}
+
+/// Returns the edits that format a document and sort its keys, with the new text. Returns `None` if the text is not
+/// valid TOML or can't be formatted. Fails if an allocation fails.
+pub fn sorted_formatting(
+    alloc: Global,
+    text: &str,
+    options: Options,
+) -> Result<Option<Rewritten>, AllocError>
+    ensures { IfOk result (λ made. IfSome made (SortsBy text.now)) }
+{
+    match format_sorted(alloc, text, options) {
         Ok(new) => {
             let edits = differences(alloc, text, new.as_str())?;
             Ok(Some(Rewritten { edits, text: new }))

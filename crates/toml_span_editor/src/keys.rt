@@ -77,19 +77,6 @@ pub fn definition(
     Ok(mentions.first().map(|mention| mention.span))
 }
 
-/// Returns whether a value is written as a literal, rather than defined by headers or dotted keys. Also returns `true`
-/// for a table that only dotted keys define, if the first value that they assign is an inline table or a string whose
-/// content begins with `{`.
-pub(crate) fn has_literal(text: &str, value: &Value<'_>) -> bool {
-    if value.as_table().is_some() {
-        return text.as_bytes().get(value.span.start) == Some(&b'{');
-    }
-    match value.as_array().and_then(|array| array.first()) {
-        Some(first) => value.span.start < first.span.start,
-        None => true,
-    }
-}
-
 /// Returns whether `value` is a table with the key `name`. Returns `false` for `None`.
 pub(crate) fn has_key(value: Option<&Value<'_>>, name: &str) -> bool {
     let Some(table) = value.and_then(|value| value.as_table()) else {

@@ -159,16 +159,14 @@ fn write_quick_fixes(
     Ok(())
 }
 
-/// Writes an action that makes the edits of `all_repairs`, if there are any. `document` is `None` if the text has
-/// errors, and `name` is the path of the document.
+/// Writes an action that makes the edits of `all_repairs`, if there are any. `name` is the path of the document.
 fn write_fix_all(
     request: &Request<'_, '_, '_>,
-    document: Option<&Document<'_>>,
     name: &str,
     out: &mut Json,
 ) -> Result<(), AllocError> {
     let (text, version) = (request.table.text, request.settings.version);
-    let edits = all_repairs(request.alloc, text, document, version, name)?;
+    let edits = all_repairs(request.alloc, text, version, name)?;
     if !edits.is_empty() {
         let title = "Apply all safe fixes";
         write_action(request, title, FIX_ALL, None, false, edits.as_slice(), out);
@@ -201,7 +199,7 @@ fn write_fixes(
         write_quick_fixes(request, document, guide, reports, span, out)?;
     }
     if is_wanted(request.params, FIX_ALL) && reports.iter().any(|report| !is_of_schema(report)) {
-        write_fix_all(request, document, open.name.as_str(), out)?;
+        write_fix_all(request, open.name.as_str(), out)?;
     }
     Ok(())
 }
@@ -221,7 +219,8 @@ pub(crate) fn write_actions(
     if request.client.has_literals {
         check_once(request.alloc, state, request.uri)?;
         if let Some(open) = state.documents.get(request.uri) {
-            let lookup = &state.folders.folder_of(open.name.as_str()).lookup;
+            let (name, key) = (open.name.as_str(), open.schemas.as_str());
+            let lookup = &state.folders.folder_of(name, key).lookup;
             write_fixes(request, document, open, lookup, span, out)?;
         }
         if let Some(document) = document {

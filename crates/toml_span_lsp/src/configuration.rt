@@ -44,8 +44,15 @@ fn end_registration(out: &mut Json) {
     out.end_object();
 }
 
-/// Returns the request that asks the client to report changes of the settings and of files that may be schemas, as far
-/// as the client supports that.
+/// Writes a pattern of files in a list of watched files.
+fn write_watcher(out: &mut Json, pattern: &str) {
+    out.begin_object();
+    out.text("globPattern", pattern);
+    out.end_object();
+}
+
+/// Returns the request that asks the client to report changes of the settings, of files that may be schemas, and of
+/// configuration files, as far as the client supports that.
 fn registration(alloc: Global, client: Client) -> ServerCall {
     let mut out = Json::new(alloc);
     out.begin_object();
@@ -58,9 +65,8 @@ fn registration(alloc: Global, client: Client) -> ServerCall {
     if client.registers_files {
         begin_registration(&mut out, "files", "workspace/didChangeWatchedFiles");
         out.array("watchers");
-        out.begin_object();
-        out.text("globPattern", "**/*.json");
-        out.end_object();
+        write_watcher(&mut out, "**/*.json");
+        write_watcher(&mut out, "**/{toml-span,.toml-span}.toml");
         out.end_array();
         end_registration(&mut out);
     }

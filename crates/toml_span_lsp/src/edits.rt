@@ -4,10 +4,12 @@ use crate::incoming::text_in;
 use crate::methods::Request;
 use crate::outgoing::{Json, write_edits, write_workspace_edit};
 use crate::refusal::{INVALID_PARAMS, REQUEST_FAILED, Refusal, refused};
+use crate::settings::Settings;
 use json::Value;
 use std::alloc::AllocError;
+use toml_span_config::layers::Origin;
 use toml_span_editor::document::Document;
-use toml_span_editor::formatting::{formatting, formatting_of};
+use toml_span_editor::formatting::{formatting, formatting_of, sorted_formatting};
 use toml_span_editor::renaming::{renamable_at, rename};
 use toml_span_format::Options;
 use toml_span_lex::stop::Stop;
@@ -66,12 +68,22 @@ pub(crate) fn write_renamable(
     Ok(())
 }
 
-/// Returns the options of the formatter: `width`, and the `tabSize` of the request as the indentation. If `width` is
-/// missing, or if `tabSize` is missing, not valid or above 64, that option has its default.
-fn options_of(width: Option<usize>, params: &Value<'_>) -> Options {
-    let mut options = Options::new();
-    if let Some(width) = width {
+/// Returns the options of the formatter: those that the settings set, and the `tabSize` of the request as the
+/// indentation, unless the configuration file sets one. If `tabSize` is missing, not valid or above 64, or if nothing
+/// sets an option, that option has its default.
+fn options_of(settings: Settings, params: &Value<'_>) -> Options {
+    let mut options = match settings.project {
+        Some(project) => project.format_options(),
+        None => Options::new(),
+    };
+    if let Some(width) = settings.width {
         options = options.with_width(width);
+    }
+    if settings
+        .project
+        .is_some_and(|project| project.indent.origin != Origin::Default)
+    {
+        return options;
     }
     let asked = params.get("options").and_then(|asked| asked.get("tabSize"));
     match asked.and_then(|size| size.as_u64()) {
@@ -80,15 +92,25 @@ fn options_of(width: Option<usize>, params: &Value<'_>) -> Options {
     }
 }
 
-/// Writes the edits that format a document or, if the request has a valid range, the lines of the range. Writes null if
-/// the document, or the range alone, can't be formatted.
+/// Writes the edits that format a document or, if the request has a valid range, the lines of the range, whose keys are
+/// not sorted. Writes null if the document, or the range alone, can't be formatted, or if the configuration file
+/// excludes the document or is wrong.
 pub(crate) fn write_formatting(
     request: &Request<'_, '_, '_>,
     out: &mut Json,
 ) -> Result<(), AllocError> {
-    let options = options_of(request.settings.width, request.params);
+    let settings = request.settings;
+    if !settings.can_format {
+        out.null();
+        return Ok(());
+    }
+    let options = options_of(settings, request.params);
     let text = request.table.text;
+    let is_sorted = settings
+        .project
+        .is_some_and(|project| project.sort_keys.value);
     let made = match span_of(request) {
+        None if is_sorted => sorted_formatting(request.alloc, text, options)?,
         None => formatting(request.alloc, text, options)?,
         Some(span) => formatting_of(request.alloc, text, options, span)?,
     };

@@ -1,5 +1,6 @@
 //! The folders that are open in the editor, with the schemas of the documents in each.
 use crate::incoming::text_in;
+use crate::projects::Project;
 use crate::settings::rooted_options;
 use crate::uris::path_of_uri;
 use json::Value;
@@ -34,6 +35,8 @@ impl Folder {
 pub(crate) struct Folders {
     first: Folder,
     others: Vec<Folder>,
+    /// The schemas that configuration files name, by the keys that `configure` returns.
+    configured: BTreeMap<String, Folder>,
 }
 
 impl Folders {
@@ -46,6 +49,7 @@ impl Folders {
                 faults: BTreeMap::new(alloc),
             },
             others: Vec::new(alloc),
+            configured: BTreeMap::new(alloc),
         }
     }
 
@@ -67,6 +71,7 @@ impl Folders {
         Ok(Folders {
             first: Folder::new(alloc, first, options)?,
             others,
+            configured: BTreeMap::new(alloc),
         })
     }
 
@@ -88,8 +93,42 @@ impl Folders {
         best
     }
 
-    /// Returns the folder that contains the file `name`, or the first one if none does.
-    pub(crate) fn folder_of(&self, name: &str) -> &Folder {
+    /// Returns the key of the schemas for files in the folder of the file `name` for which the configuration file of
+    /// `project` names `schema`, a path or URL, or an empty text. Adds them if they are not there. `options` are those
+    /// of the client. Returns an empty text if neither a schema nor a local copy is named.
+    pub(crate) fn configure(
+        &mut self,
+        alloc: Global,
+        name: &str,
+        options: &Options,
+        project: &Project,
+        schema: &str,
+    ) -> Result<String, AllocError> {
+        if schema.is_empty() && project.config.copies.is_empty() {
+            return Ok(String::new(alloc));
+        }
+        let path = String::from_str(alloc, self.folder_of(name, "").path.as_str())?;
+        let (number, root) = (project.number, path.as_str());
+        let key = format!(in alloc; "{number} {schema} {root}")?;
+        if self.configured.get(key.as_str()).is_none() {
+            let mut options = rooted_options(alloc, root, options)?;
+            project.add_options(alloc, schema, &mut options)?;
+            let folder = Folder {
+                path,
+                lookup: Lookup::new(alloc, options),
+                faults: BTreeMap::new(alloc),
+            };
+            self.configured.insert(key.clone()?, folder)?;
+        }
+        Ok(key)
+    }
+
+    /// Returns the schemas with the key `key` or, without them, the folder that contains the file `name`, or the first
+    /// one if none does.
+    pub(crate) fn folder_of(&self, name: &str, key: &str) -> &Folder {
+        if let Some(folder) = self.configured.get(key) {
+            return folder;
+        }
         let Some(at) = self.position_of(name) else {
             return &self.first;
         };
@@ -99,8 +138,13 @@ impl Folders {
         }
     }
 
-    /// Returns the folder that contains the file `name`, or the first one if none does, to be changed.
-    pub(crate) fn folder_of_mut(&mut self, name: &str) -> &mut Folder {
+    /// Returns what `folder_of` returns, to be changed.
+    pub(crate) fn folder_of_mut(&mut self, name: &str, key: &str) -> &mut Folder {
+        if self.configured.get(key).is_some() {
+            if let Some(folder) = self.configured.get_mut(key) {
+                return folder;
+            }
+        }
         let Some(at) = self.position_of(name) else {
             return &mut self.first;
         };

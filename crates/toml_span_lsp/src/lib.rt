@@ -14,6 +14,7 @@ mod links;
 mod lists;
 mod methods;
 mod outgoing;
+mod projects;
 mod publish;
 mod reading;
 mod refusal;

@@ -179,9 +179,18 @@ fn push_schema_fault(
     Ok(())
 }
 
-/// Checks the open document `uri`, and keeps the reports. Returns its diagnostics, or `None` if the document is not
-/// open. If it can't be checked against its schema, adds error lines to `state.notices`, as `show_complaint` does.
-/// Reads no files.
+/// Turns warnings into errors.
+fn deny_warnings(diagnostics: &mut Vec<Diagnostic>) {
+    for diagnostic in diagnostics.as_mut_slice() {
+        if diagnostic.severity == Severity::Warning {
+            diagnostic.severity = Severity::Error;
+        }
+    }
+}
+
+/// Checks the open document `uri`, and keeps the reports. Returns its diagnostics, none if its configuration file
+/// excludes it, or `None` if the document is not open. If it can't be checked against its schema, adds error lines to
+/// `state.notices`, as `show_complaint` does. Reads no files.
 fn checked(
     alloc: Global,
     state: &mut State,
@@ -193,12 +202,24 @@ fn checked(
     if is_too_long(open) {
         return Ok(Some(too_long(alloc)?));
     }
-    let (encoding, settings) = (state.encoding, state.settings);
-    let folder = state.folders.folder_of_mut(open.name.as_str());
+    let (encoding, settings) = (state.encoding, open.settings);
+    if settings.is_excluded {
+        open.reports = Some(Vec::new(alloc));
+        return Ok(Some(Vec::new(alloc)));
+    }
+    let folder = state
+        .folders
+        .folder_of_mut(open.name.as_str(), open.schemas.as_str());
     let found = diagnosed(alloc, encoding, settings, open, &mut folder.lookup)?;
     let mut diagnostics = found.diagnostics;
     show_complaint(open, &mut state.notices, found.complaint)?;
     push_schema_fault(alloc, encoding, open, &mut diagnostics)?;
+    if settings
+        .project
+        .is_some_and(|project| project.deny_warnings.value)
+    {
+        deny_warnings(&mut diagnostics);
+    }
     open.reports = Some(found.reports);
     Ok(Some(diagnostics))
 }

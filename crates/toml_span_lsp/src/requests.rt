@@ -12,6 +12,7 @@ use crate::outgoing::Json;
 use crate::publish::write_report;
 use crate::reading::{Reading, TextName, is_too_long, kept_of, reading_of, text_of};
 use crate::refusal::{INVALID_PARAMS, REQUEST_FAILED, Refusal, refused};
+use crate::settings::Settings;
 use crate::state::State;
 use crate::tokens::{write_tokens, write_tokens_in};
 use json::Value;
@@ -184,6 +185,14 @@ fn version_of(state: &State, uri: &str) -> Option<i64> {
     state.documents.get(uri)?.version
 }
 
+/// Returns the settings for the open document `uri`, or those of the client if it is not open.
+fn settings_of(state: &State, uri: &str) -> Settings {
+    match state.documents.get(uri) {
+        Some(open) => open.settings,
+        None => state.settings,
+    }
+}
+
 /// Writes the answer to a request about the open document `uri` that depends on its name or its schema. Reads no files.
 /// Fails with a `Refusal` if the request is refused, or if the document is not open.
 fn write_named(
@@ -197,7 +206,7 @@ fn write_named(
         return Err(refused(alloc, REQUEST_FAILED, "the document is not open"));
     };
     let (name, text) = (open.name.as_str(), open.text.as_str());
-    let lookup = &state.folders.folder_of(name).lookup;
+    let lookup = &state.folders.folder_of(name, open.schemas.as_str()).lookup;
     if request.method == Method::Links {
         return Ok(write_links(request, name, lookup, out)?);
     }
@@ -222,7 +231,7 @@ fn write_known(
         uri,
         table: &reading.table,
         params,
-        settings: state.settings,
+        settings: settings_of(state, uri),
         client: state.client,
         version: version_of(state, uri),
     };

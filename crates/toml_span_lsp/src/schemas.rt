@@ -66,20 +66,62 @@ fn named_path(
     lookup.path_for(alloc, open.name.as_str(), address)
 }
 
-/// Reads and compiles the schema of the open document `uri`, unless it has been read and has not changed since. If the
-/// document names the schema, and it can't be used, stores the reason for a diagnostic. Otherwise, appends errors to
-/// `state.notices`. The document's reports are gone.
+/// Stores the settings for an open document, and the key of its schemas, as its configuration file and the settings of
+/// the client say. Reads the configuration file, unless it has been read and has not changed since.
+fn configure<D: Disk>(
+    alloc: Global,
+    state: &mut State,
+    disk: &mut D,
+    uri: &str,
+) -> Result<(), AllocError> {
+    let Some(open) = state.documents.get_mut(uri) else {
+        return Ok(());
+    };
+    open.settings = state.settings;
+    open.schemas = String::new(alloc);
+    let name = open.name.as_str();
+    let Some(project) = state
+        .projects
+        .project_of(alloc, disk, name, &mut state.notices)?
+    else {
+        return Ok(());
+    };
+    let found = project.settings_for(alloc, name)?;
+    open.settings = state
+        .settings
+        .in_project(found, project.excludes(alloc, name)?);
+    if project.is_wrong {
+        open.settings.can_format = false;
+    }
+    let is_named = state.settings.has_schema || directive_of(open.text.as_str()).is_some();
+    let schema = if is_named {
+        ""
+    } else {
+        project.schema_of(&found)
+    };
+    open.schemas = state
+        .folders
+        .configure(alloc, name, &state.options, project, schema)?;
+    Ok(())
+}
+
+/// Reads the configuration file of the open document `uri`, and reads and compiles its schema, unless they have been
+/// read and have not changed since. If the document names the schema, and it can't be used, stores the reason for a
+/// diagnostic. Otherwise, appends errors to `state.notices`. The document's reports are gone.
 pub(crate) fn read_schema<D: Disk>(
     alloc: Global,
     state: &mut State,
     disk: &mut D,
     uri: &str,
 ) -> Result<(), AllocError> {
+    configure(alloc, state, disk, uri)?;
     let has_schema = state.settings.has_schema;
     let Some(open) = state.documents.get_mut(uri) else {
         return Ok(());
     };
-    let folder = state.folders.folder_of_mut(open.name.as_str());
+    let folder = state
+        .folders
+        .folder_of_mut(open.name.as_str(), open.schemas.as_str());
     let lookup = &mut folder.lookup;
     lookup.refresh(alloc, disk, open.name.as_str(), open.text.as_str())?;
     let complaint = lookup.take_complaint(alloc);

@@ -3,9 +3,10 @@ use crate::uris::rooted;
 use json::Value;
 use std::alloc::{AllocError, Global};
 use toml_span_check::newer::Version;
+use toml_span_config::layers::{Origin, Settings as ProjectSettings};
 use toml_span_lookup::options::{LocalCopy, Options, Place};
 
-/// The settings of a client, except for those about schemas.
+/// The settings of a client, or those for a document, except for those about schemas.
 #[derive(Clone, Copy)]
 pub(crate) struct Settings {
     /// The width of a line for the formatter, in characters, or `None` if the client has not set one.
@@ -14,6 +15,12 @@ pub(crate) struct Settings {
     pub version: Version,
     /// Whether there is a setting `schema`, so that the schemas that documents name are not used.
     pub has_schema: bool,
+    /// The settings of the configuration file of a document, or `None` without one.
+    pub project: Option<ProjectSettings>,
+    /// Whether the configuration file excludes the document.
+    pub is_excluded: bool,
+    /// Whether the document may be formatted: it is not excluded, and its configuration file is not wrong.
+    pub can_format: bool,
 }
 
 impl Settings {
@@ -22,7 +29,24 @@ impl Settings {
         width: None,
         version: Version::Auto,
         has_schema: false,
+        project: None,
+        is_excluded: false,
+        can_format: true,
     };
+
+    /// Returns these settings with those of a configuration file, which come first.
+    pub(crate) fn in_project(mut self, project: ProjectSettings, is_excluded: bool) -> Settings {
+        if project.toml.origin != Origin::Default {
+            self.version = project.toml.value;
+        }
+        if project.width.origin != Origin::Default {
+            self.width = Some(usize::from(project.width.value));
+        }
+        self.project = Some(project);
+        self.is_excluded = is_excluded;
+        self.can_format = !is_excluded;
+        self
+    }
 }
 
 /// All settings of a client.
@@ -128,7 +152,11 @@ fn read_formats(value: &Value<'_>, read: &mut ReadSettings) -> Result<(), AllocE
 }
 
 /// Returns `address` unchanged if it is empty or a URL. Otherwise, it is a path, and the result is that of `rooted`.
-fn rooted_address(alloc: Global, root: &str, address: &str) -> Result<String, AllocError> {
+pub(crate) fn rooted_address(
+    alloc: Global,
+    root: &str,
+    address: &str,
+) -> Result<String, AllocError> {
     if address.is_empty() || address.contains("://") {
         String::from_str(alloc, address)
     } else {

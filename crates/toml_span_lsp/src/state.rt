@@ -2,6 +2,7 @@
 ghost use Rattle.std.specs.Prelude.{◌≤◌, IfSome};
 
 use crate::folders::Folders;
+use crate::projects::Projects;
 use crate::settings::{AllSettings, Settings};
 use std::alloc::Global;
 use std::collections::BTreeMap;
@@ -85,6 +86,10 @@ pub(crate) struct SentTokens {
 pub(crate) struct Open {
     pub text: String,
     pub version: Option<i64>,
+    /// The settings for the document.
+    pub settings: Settings,
+    /// The key in `Folders` of the schemas that the configuration file of the document names, or an empty text.
+    pub schemas: String,
     /// A number that no other text of a document has had.
     pub revision: u64,
     /// The path of the file, as `name_of` returns it.
@@ -116,6 +121,8 @@ pub struct State {
     pub(crate) options: Options,
     /// The folders at `roots`, with the schemas that have been read.
     pub(crate) folders: Folders,
+    /// The configuration files that have been read.
+    pub(crate) projects: Projects,
     /// The settings of `initializationOptions`.
     pub(crate) initial: AllSettings,
     /// Whether the current settings are not those of `initializationOptions`, but came later.
@@ -141,6 +148,7 @@ impl State {
             settings: Settings::USUAL,
             options: AllSettings::usual(alloc).options,
             folders: Folders::none(alloc, AllSettings::usual(alloc).options),
+            projects: Projects::new(alloc),
             initial: AllSettings::usual(alloc),
             has_later_settings: false,
             notices: String::new(alloc),

@@ -1,6 +1,8 @@
 //! Keeps the open documents as they are in the editor.
+use crate::configuration::check_all;
 use crate::incoming::{member, range_of, text_in};
 use crate::outgoing::{Outbox, log_message};
+use crate::projects::is_configuration;
 use crate::publish::{publish, published};
 use crate::schemas::read_schema;
 use crate::state::{Open, State};
@@ -30,6 +32,8 @@ fn store(
     let open = Open {
         text,
         version,
+        settings: state.settings,
+        schemas: String::new(alloc),
         revision,
         name,
         complaint: String::new(alloc),
@@ -162,7 +166,8 @@ pub(crate) fn change(
 }
 
 /// Carries out the notification that a document was saved: reads its schema again if the schema has changed, and
-/// appends the notification with the document's diagnostics, as `publish` does.
+/// appends the notification with the document's diagnostics, as `publish` does. If the document is a configuration file,
+/// does so for all documents.
 pub(crate) fn save<D: Disk>(
     alloc: Global,
     state: &mut State,
@@ -171,6 +176,7 @@ pub(crate) fn save<D: Disk>(
     out: &mut Outbox,
 ) -> Result<(), AllocError> {
     match text_in(params, &["textDocument", "uri"]) {
+        Some(uri) if is_configuration(uri) => check_all(alloc, state, disk, out),
         Some(uri) => check_and_publish(alloc, state, disk, uri, out),
         None => Ok(()),
     }
