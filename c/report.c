@@ -150,12 +150,11 @@ static int is_utf8(const char *bytes, size_t length) {
 
 uint32_t toml_span_report(const char *text, size_t length, const char *name, size_t name_length, char *out, size_t room,
                           size_t *needed) {
+    if (!is_utf8(name, name_length)) name = "?", name_length = 1;
     uint32_t status = toml_span_report_proved(text, length, name, name_length, out, room, needed);
     if (status == TOML_SPAN_UNREAD) {
         output report = {out, room, 0};
-        int is_named = is_utf8(name, name_length);
-        if (length <= TOML_SPAN_LONGEST && is_utf8(text, length)) return status;
-        put_unread(&report, text, length, is_named ? name : "?", is_named ? name_length : 1);
+        put_unread(&report, text, length, name, name_length);
         *needed = report.length;
     }
     return status;

@@ -12,7 +12,7 @@
  *   overlap.
  * - The text needs no zero byte at its end.
  * - Offsets are bytes of the text, counted from 0; an end is exclusive. Lines and columns are counted from 0, columns
- *   in bytes.
+ *   in bytes. A byte order mark takes 3 columns of its line, but none in a report.
  * - A call takes less than TOML_SPAN_STACK bytes of stack. Do not call it from a signal handler.
  * - The library is for 64-bit Linux on x86-64 processors of level x86-64-v2 or above (any since about 2009).
  *
@@ -44,8 +44,8 @@ enum {
 /* The maximum length of a document in bytes: 16 MiB. */
 #define TOML_SPAN_LONGEST 16777216
 
-/* Stack that is enough for any document, in bytes. At most 628 KiB were
-   measured, in the build without run-time checks. */
+/* Stack that is enough for any document, in bytes. At most 587 KiB were measured, in the build without run-time checks:
+ * for a move in a document of 128 nested arrays of tables, with a dotted key of 128 parts in the innermost. */
 #define TOML_SPAN_STACK 720896
 
 /* The kinds of values. A datetime is a date, a time or both, with or without an offset. */
@@ -138,8 +138,7 @@ uint32_t toml_span_message(const char *text, size_t length, char *out, size_t ro
 
 /* Writes the report of a text's fault, as toml_span_code writes a name: the name of the file, and the source lines with
  * marks, as `toml-span check` prints them. If the status is UNREAD, the report says why: a line of other characters
- * than those of ASCII is then left out. The status is UNREAD also if the name is not UTF-8: then nothing is written if
- * the text is, and otherwise the file is called `?`. */
+ * than those of ASCII is then left out. If the name is not UTF-8, the file is called `?`. */
 uint32_t toml_span_report(const char *text, size_t length, const char *name, size_t name_length, char *out, size_t room,
                           size_t *needed);
 
@@ -161,8 +160,8 @@ enum {
     TOML_SPAN_MOVE = 10       /* moves the value to the path `value`: where no value is, or into an array */
 };
 
-/* A change. Both strings end with a zero byte. The path is written as for toml_span_find; `[0]` is the same as `.0`.
- * The value may be null for REMOVE and ADD_TABLE. */
+/* A change. Both strings end with a zero byte; null is the same as an empty string. The path is written as for
+ * toml_span_find; `[0]` is the same as `.0`. REMOVE and ADD_TABLE ignore the value. */
 typedef struct {
     uint32_t change;
     const char *path, *value;

@@ -68,16 +68,21 @@ std::optional<std::string> made(std::string_view text, std::string *why, Write w
 } // namespace detail
 
 /* Makes changes, one after the other, and leaves all other bytes as they are. Returns the new text. If there is none,
- * for example because a change is refused, returns nothing, and sets `why` to the reason, unless `why` is null. */
+ * for example because a change is refused, returns nothing, and sets `why` to the reason, unless `why` is null. The
+ * reason for refusing one of several changes begins with its number, counted from 1: `edit 2: `. */
 inline std::optional<std::string> edit(std::string_view text, const std::vector<toml_span_change> &changes,
                                        std::string *why = nullptr) {
     toml_span_change none = {0, nullptr, nullptr};
-    return detail::made(text, why, [&](const char *from, char *out, size_t room, size_t *needed) {
-        size_t refused;
+    uint32_t status = TOML_SPAN_READ;
+    size_t refused = 0;
+    auto edited = detail::made(text, why, [&](const char *from, char *out, size_t room, size_t *needed) {
         toml_span_fault fault;
-        return toml_span_edit(from, text.size(), changes.empty() ? &none : changes.data(), changes.size(), out, room,
-                              needed, &refused, &fault);
+        return status = toml_span_edit(from, text.size(), changes.empty() ? &none : changes.data(), changes.size(), out,
+                                       room, needed, &refused, &fault);
     });
+    if (why && status == TOML_SPAN_UNMADE && changes.size() > 1)
+        *why = "edit " + std::to_string(refused + 1) + ": " + *why;
+    return edited;
 }
 
 /* Formats a text, as toml_span_format does. Returns the new text. If there is none, for example because the text is not

@@ -237,7 +237,7 @@ class Errors(unittest.TestCase):
         self.assertEqual((error.lineno, error.colno), (1, 9))
 
     def test_a_name_in_the_report(self):
-        for name in ("settings.toml", pathlib.Path("settings.toml")):
+        for name in ("settings.toml", pathlib.Path("settings.toml"), b"settings.toml"):
             with self.assertRaises(toml_span.TOMLDecodeError) as caught:
                 toml_span.parse("=", name)
             self.assertIn("--> settings.toml:1:1", caught.exception.report)
@@ -337,7 +337,7 @@ class Nodes(unittest.TestCase):
         for wrong, error in ((3, IndexError), (-4, IndexError), (1.5, TypeError)):
             with self.assertRaises(error):
                 items[wrong]
-        with self.assertRaisesRegex(TypeError, "the array at line 1 has positions, but no names such as 'x'"):
+        with self.assertRaisesRegex(TypeError, "^indices of the array at line 1 must be integers, not 'x'$"):
             items["x"]
 
     def test_copies_and_pickles(self):
@@ -394,7 +394,15 @@ class Nodes(unittest.TestCase):
         for path in ("b", "a.x", "a[0]", "a.'x/y~'[2]", "a.'x/y~'[01]", "a.'x/y~'.1", ".a", "a.", "a.'x/y~", "[0]",
                      "a\0", "\u00e9", "\ud800"):
             self.assertIsNone(root.find(path))
-        self.assertEqual(root["a"]["x/y~"].find("[0]").value, 1)
+        pair = root["a"]["x/y~"]
+        self.assertEqual(pair.find("[0]").value, 1)
+        for node in (root, pair, pair[1], root["a"]["0"]["\u00e9"]):
+            self.assertEqual(root.find(node.path).path, node.path)
+        self.assertEqual(pair.find([1, "b"]).path, ("a", "x/y~", 1, "b"))
+        self.assertIsNone(pair.find((2,)))
+        for path in (1, b"a", (1.5,)):
+            with self.assertRaisesRegex(TypeError, "path must be a str or"):
+                root.find(path)
 
     def test_characters(self):
         text = "# \u00e9\U0001f600\r\n'\u00e9' = '\u00e9x' # \n[t]\nb = '\u00e9\u00e9'"
@@ -448,6 +456,9 @@ class Dumps(unittest.TestCase):
         ):
             self.assertEqual(toml_span.dumps(value), text)
         self.assertEqual(toml_span.dumps({"a": math.nan}), "a = nan\n")
+        root = toml_span.parse("[t]\na=[1]")
+        self.assertEqual(toml_span.dumps(root), "[t]\na = [1]\n")
+        self.assertEqual(toml_span.dumps({"b": root["t"], "c": [root["t"]["a"][0]]}), "c = [1]\n\n[b]\na = [1]\n")
 
     def test_what_toml_does_not_have(self):
         loop = {}
@@ -538,7 +549,7 @@ class Edits(unittest.TestCase):
         error = caught.exception
         self.assertIsInstance(error, ValueError)
         self.assertEqual((error.msg, error.index, error.path), ("there is nothing at this path", 1, "server.no"))
-        self.assertEqual(str(error), "there is nothing at this path (edit 1, at 'server.no')")
+        self.assertEqual(str(error), "edit 2, at 'server.no': there is nothing at this path")
         self.assertEqual(str(pickle.loads(pickle.dumps(error))), str(error))
         for call in (
             lambda edits: edits.set("server", 1), lambda edits: edits.set("server..port", 1),
@@ -564,13 +575,19 @@ class Edits(unittest.TestCase):
             (lambda: toml_span.edit(None), TypeError), (lambda: toml_span.format(1), TypeError),
             (lambda: edits.set("a", None), TypeError), (lambda: edits.set("a", 2**63), ValueError),
             (lambda: edits.set(1, 1), TypeError), (lambda: edits.set((1.5,), 1), TypeError),
+            (lambda: edits.set(b"a", 1), TypeError),
+            (lambda: toml_span.dumps(toml_span.parse("a = 1")["a"]), TypeError),
             (lambda: edits.rename("a", 1), TypeError), (lambda: edits.rename("a", "\0"), ValueError),
             (lambda: edits.set("a\0", 1), ValueError), (lambda: edits.rename("a", "\ud800"), ValueError),
             (lambda: toml_span.format("", indent=65), ValueError), (lambda: toml_span.format("", width=-1), ValueError),
         ):
             with self.assertRaises(error):
                 call()
+        with self.assertRaisesRegex(ValueError, "^a path or a name must not contain a null character or a surrogate$"):
+            edits.rename("'\ud800'", "b")
         self.assertEqual(edits.finish(), "a = 1")
+        value = toml_span.parse("b = [1, 2.50]")["b"]
+        self.assertEqual(edits.set("a", value).append("c", value[1]).finish(), "a = [1, 2.5]\nc = [2.5]\n")
 
     def test_formats(self):
         self.assertEqual(toml_span.format("a=[1,2]"), "a = [1, 2]\n")

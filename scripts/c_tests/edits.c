@@ -71,7 +71,7 @@ static const struct {
     {"a = 1", {TOML_SPAN_ADD, "a", "1"}, "!this path already has a value (line 1, column 1)"},
     {"a = 1\n", {TOML_SPAN_ADD_TABLE, "b.c", NULL}, "a = 1\n\n[b.c]\n"},
     {"a = [1]", {TOML_SPAN_APPEND, "a", "2"}, "a = [1, 2]"},
-    {"a = 1", {TOML_SPAN_APPEND, "a", "2"}, "!the path does not name an array, or a position in one"},
+    {"a = 1", {TOML_SPAN_APPEND, "a", "2"}, "!the path does not name an array, or does not end with a position such as `[0]`"},
     {"a = [1]", {TOML_SPAN_INSERT, "a[0]", "2"}, "a = [2, 1]"},
     {"a = [1]", {TOML_SPAN_INSERT, "a.1", "2"}, "a = [1, 2]"},
     {"a = 1\n[b]\n", {TOML_SPAN_MOVE, "a", "b.c"}, "[b]\nc = 1\n"},

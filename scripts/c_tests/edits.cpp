@@ -18,6 +18,8 @@ int main() {
     tell(set(text, "server.port", "8080"), why, "[server]\nport = 8080 # open\n");
     tell(set(text, "server.port", value.c_str()), why, "[server]\nport = " + value + " # open\n");
     tell(set(text, "server.host", "8080"), why, "!there is nothing at this path");
+    tell(toml_span::edit(text, {{TOML_SPAN_SET, "server.port", "1"}, {TOML_SPAN_SET, "server.host", "1"}}, &why), why,
+         "!edit 2: there is nothing at this path");
     tell(set("a = 1\na = 2", "a", "1"), why, "!duplicate key: `a`");
     tell(set("\xff", "a", "1"), why, "!the file is not valid UTF-8: byte 0xFF at offset 0");
     tell(set(std::string(TOML_SPAN_LONGEST + 1, '#'), "a", "1"), why, "!the file is larger than 16 MiB");

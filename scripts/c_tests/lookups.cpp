@@ -31,11 +31,14 @@ static void look(const char *name, std::string_view text) {
     }
 }
 
-/* Whether the report and the message of a text that is not valid are these. */
-static void tell_report(std::string_view text, std::string_view message, std::string_view report) {
+/* Whether the report and the message of a text that is not valid are these. If the name of the file is not UTF-8, it is
+ * `?` in the report. */
+static void tell_report(std::string_view text, std::string_view message, std::string report) {
     toml_span::document document(text);
     tell(!document && document.message() == message, message, document.message());
     tell(document.report("a.toml") == report, report, document.report("a.toml"));
+    report.replace(report.find("a.toml"), 6, "?");
+    tell(document.report("caf\xe9.toml") == report, report, document.report("caf\xe9.toml"));
     tell(document.place(3).column == toml_span_line_column(text.data(), text.size(), 3).column, "place");
 }
 

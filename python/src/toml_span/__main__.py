@@ -22,10 +22,10 @@ def main(names: List[str]) -> int:
             with open(name, "rb") as file:
                 parse(file.read(), name)
         except TOMLDecodeError as error:
-            sys.stderr.write(error.report or f"error: {error}\n --> {name}\n")
+            print(error.report or f"error: {error}\n --> {name}\n", file=sys.stderr)
             status = max(status, 1)
         except OSError as error:
-            print(f"error: {name!r}: {error.strerror}", file=sys.stderr)
+            print(f"error: cannot read `{name}`: {error.strerror}", file=sys.stderr)
             status = 2
     return status
 

@@ -3,25 +3,27 @@
 from __future__ import annotations
 
 import ctypes
+import re
 from typing import Any, AnyStr, Callable, Generic, Iterable, List, Optional, Tuple, Union
 
 from . import _native as native
-from ._encode import path_text, value_text
+from ._encode import value_text
 from ._node import Node, parse
+from ._path import path_text
 
 Path = Union[str, Node, Iterable[Union[str, int]]]
 
 
 def _path(path: Path) -> str:
     """Returns a path as it is written."""
-    return path if isinstance(path, str) else path_text(path.path if isinstance(path, Node) else path)
+    return path_text(path.path if isinstance(path, Node) else path)
 
 
 class EditError(ValueError):
     """An edit was refused. msg: the reason. index: the index of the edit, from 0. path: its path."""
 
     def __init__(self, msg: str, index: int, path: str) -> None:
-        super().__init__(f"{msg} (edit {index}, at {path!r})")
+        super().__init__(f"edit {index + 1}, at {path!r}: {msg}")
         self.msg, self.index, self.path = msg, index, path
 
     def __reduce__(self) -> Any:
@@ -34,13 +36,17 @@ def _checked(text: AnyStr) -> AnyStr:
     return text
 
 
+def _data(text: Union[str, bytes]) -> bytes:
+    return text.encode("utf-8", "surrogatepass") if isinstance(text, str) else text
+
+
 def _made(text: AnyStr, room: int, call: Callable[..., int], refused: Callable[[str], Exception]) -> AnyStr:
     """Returns the new text that a call of the library makes from a text.
 
     Raises TOMLDecodeError if the text is not valid. If the library refuses to make a new text, raises the exception
     that ``refused`` makes from the reason.
     """
-    data = text.encode("utf-8", "surrogatepass") if isinstance(text, str) else text
+    data = _data(text)
     needed = ctypes.c_size_t()
     fault = ctypes.create_string_buffer(native.FAULT.size)
     while True:
@@ -70,15 +76,15 @@ class Edits(Generic[AnyStr]):
     """
 
     def __init__(self, text: AnyStr) -> None:
-        self._text = _checked(text)
+        self._text: AnyStr = _checked(text)
         self._changes: List[Tuple[int, bytes, bytes]] = []
 
     def _add(self, change: int, path: Path, value: Optional[str]) -> Edits[AnyStr]:
         texts = [_path(path), "" if value is None else value]
         if not isinstance(texts[1], str):
             raise TypeError(f"a name must be a str, not '{type(value).__qualname__}'")
-        if any("\0" in text for text in texts):
-            raise ValueError("a path or a name must not have a null character")
+        if any(re.search("[\0\ud800-\udfff]", text) for text in texts):
+            raise ValueError("a path or a name must not contain a null character or a surrogate")
         self._changes.append((change, texts[0].encode(), texts[1].encode()))
         return self
 
@@ -128,7 +134,7 @@ class Edits(Generic[AnyStr]):
         Raises TOMLDecodeError if the text is not valid TOML, and EditError for the first edit that was refused.
         """
         count, index = len(self._changes), ctypes.c_size_t()
-        changes = (native.Change * count)(*self._changes)
+        changes = (native.Change * count)(*(native.Change(*change) for change in self._changes))
 
         def call(data: bytes, size: int, out: Any, room: int, needed: Any, fault: Any) -> int:
             status: int = native.lib.toml_span_edit(

@@ -2,32 +2,22 @@
 
 from __future__ import annotations
 
-import re
-from datetime import date, datetime, time, timedelta
-from typing import Any, Dict, Iterable, Iterator, List, Mapping, Tuple, Union
+from datetime import date, datetime, time
+from typing import Any, Dict, Iterator, List, Mapping, Tuple, Union
 
 from ._decode import TOMLDecodeError, loads
+from ._node import Node
+from ._path import key_text, string_text
 
-_BARE = re.compile(r"[A-Za-z0-9_-]+")
-_ESCAPED = re.compile(r'[\x00-\x08\x0a-\x1f"\\\x7f]')
-_SHORT = {"\n": "\\n", "\r": "\\r", "\f": "\\f", "\b": "\\b", '"': '\\"', "\\": "\\\\"}
 # the maximum nesting depth of a text
 _DEEPEST = 128
-
-
-def _string(text: str) -> str:
-    return '"' + _ESCAPED.sub(lambda found: _SHORT.get(found[0]) or f"\\u{ord(found[0]):04x}", text) + '"'
-
-
-def _key(name: str) -> str:
-    return name if _BARE.fullmatch(name) else _string(name)
 
 
 def _scalar(value: Any) -> str:
     if isinstance(value, bool):
         return "true" if value else "false"
     if isinstance(value, str):
-        return _string(value)
+        return string_text(value)
     if isinstance(value, int):
         return int.__repr__(value)
     if isinstance(value, float):
@@ -41,7 +31,7 @@ def _inline(value: Any, depth: int) -> str:
     if depth > _DEEPEST:
         raise ValueError(f"nested deeper than {_DEEPEST} levels")
     if isinstance(value, dict):
-        entries = [f"{_key(name)} = {_inline(held, depth + 1)}" for name, held in value.items()]
+        entries = [f"{key_text(name)} = {_inline(held, depth + 1)}" for name, held in value.items()]
         return "{ " + ", ".join(entries) + " }" if entries else "{}"
     if isinstance(value, list):
         return "[" + ", ".join(_inline(held, depth + 1) for held in value) + "]"
@@ -62,16 +52,18 @@ def _lines(table: Dict[str, Any], path: Tuple[str, ...]) -> Iterator[str]:
         if isinstance(value, dict) or _is_tables(value):
             below.append((name, value))
         else:
-            yield f"{_key(name)} = {_inline(value, len(path) + 1)}\n"
+            yield f"{key_text(name)} = {_inline(value, len(path) + 1)}\n"
     for name, value in below:
-        inner = (*path, _key(name))
+        inner = (*path, key_text(name))
         for held in value if isinstance(value, list) else [value]:
             yield "\n[[" + ".".join(inner) + "]]\n" if isinstance(value, list) else "\n[" + ".".join(inner) + "]\n"
             yield from _lines(held, inner)
 
 
 def _plain(value: Any, depth: int = 0) -> Any:
-    """Converts mappings to dicts and tuples to lists, as ``loads`` returns them."""
+    """Converts mappings to dicts, tuples to lists and nodes to values, as ``loads`` returns them."""
+    if isinstance(value, Node):
+        return value.value
     if depth > 2 * _DEEPEST:
         raise ValueError(f"nested deeper than {_DEEPEST} levels")
     if isinstance(value, Mapping):
@@ -97,15 +89,15 @@ def _is_same(one: Any, other: Any) -> bool:
     return isinstance(one, type(other)) and bool(one == other)
 
 
-def dumps(mapping: Mapping[str, Any], /) -> str:
-    """Writes a mapping as TOML, with a header for each table, and a tuple as an array.
+def dumps(mapping: Union[Mapping[str, Any], Node], /) -> str:
+    """Writes a mapping as TOML, with a header for each table, a tuple as an array, and a Node as its value.
 
     Raises TypeError for a type that TOML does not have, and ValueError for a value that TOML can't represent, such as
     an integer of more than 64 bits. The text is parsed again, and is returned only if ``loads`` reads the same values.
     """
-    if not isinstance(mapping, Mapping):
-        raise TypeError(f"Expected a mapping, not '{type(mapping).__qualname__}'")
     plain = _plain(mapping)
+    if not isinstance(plain, dict):
+        raise TypeError(f"Expected a mapping, not '{type(mapping).__qualname__}'")
     return _checked("".join(_lines(plain, ())).lstrip("\n"), plain)
 
 
@@ -125,18 +117,3 @@ def value_text(value: Any) -> str:
     """Returns a value on one line, as ``dumps`` writes it."""
     plain = _plain(value)
     return _checked(f"v = {_inline(plain, 0)}", {"v": plain})[4:]
-
-
-def path_text(path: Iterable[Union[str, int]]) -> str:
-    """Returns a path of names and positions as a dotted key, such as ``server.ports[0]``."""
-    if not isinstance(path, Iterable):
-        raise TypeError(f"a path must be a str or its steps, not '{type(path).__qualname__}'")
-    text = ""
-    for step in path:
-        if isinstance(step, str):
-            text += f".{_key(step)}" if text else _key(step)
-        elif isinstance(step, int):
-            text += f"[{int(step)}]"
-        else:
-            raise TypeError(f"a step of a path must be a str or an int, not '{type(step).__qualname__}'")
-    return text

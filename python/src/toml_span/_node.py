@@ -4,13 +4,15 @@ from __future__ import annotations
 
 import os
 from bisect import bisect_right
-from typing import Any, Dict, Iterator, List, Optional, Tuple, Union, overload
+from typing import Any, Dict, Iterable, Iterator, List, Optional, Tuple, TypeVar, Union, overload
 
 from ._decode import Document, Span, encoded, error_at
 from ._native import ARRAY, NONE, TABLE, lib
+from ._path import path_text
 
 _KINDS = ("string", "integer", "float", "boolean", "datetime", "array", "table")
 Key = Union[str, int]
+Default = TypeVar("Default")
 
 
 class _Source(Document):
@@ -148,10 +150,11 @@ class Node:
         """The column at which the value starts, in characters, counted from 1."""
         return self._source.place(self._record[2])[1]
 
-    def find(self, path: str) -> Optional[Node]:
-        """Returns the value at a dotted key with positions, such as ``server.ports[0]`` or ``dependencies."a/b"``, or
-        at a JSON Pointer, such as ``/server/ports/0``. Returns None if there is no such value."""
-        source, name = self._source, path.encode("utf-8", "surrogatepass")
+    def find(self, path: Union[str, Iterable[Key]]) -> Optional[Node]:
+        """Returns the value at a dotted key with positions, such as ``server.ports[0]`` or ``dependencies."a/b"``; at a
+        JSON Pointer, such as ``/server/ports/0``; or at names and positions, such as ``("server", "ports", 0)``.
+        Returns None if there is no such value."""
+        source, name = self._source, path_text(path).encode("utf-8", "surrogatepass")
         if b"\0" in name:
             return None
         index: int = lib.toml_span_find(source.address, source.count, source.sources, self._index, name)
@@ -212,13 +215,17 @@ class Node:
             return Node(self._source, held[item])  # type: ignore[index]
         if isinstance(item, slice):
             return [Node(self._source, held[at]) for at in range(len(held))[item]]
-        if isinstance(item, str):
-            raise TypeError(f"the array at line {self.line} has positions, but no names such as {item!r}")
         try:
-            return Node(self._source, held[range(len(held))[item]])
+            return Node(self._source, held[range(len(held))[item]])  # type: ignore[index]
+        except TypeError:
+            raise TypeError(f"indices of the array at line {self.line} must be integers, not {item!r}") from None
         except IndexError:
             raise IndexError(f"the array at line {self.line} has {len(held)} elements, none at {item}") from None
 
+    @overload
+    def get(self, name: str) -> Optional[Node]: ...
+    @overload
+    def get(self, name: str, default: Default) -> Union[Node, Default]: ...
     def get(self, name: str, default: Any = None) -> Any:
         """The value of a table's entry with this name, or the default if there is none."""
         index = self._children(TABLE).get(name)
@@ -241,13 +248,15 @@ class Node:
         return f"<{self.kind} {'/'.join(map(str, self.path)) or 'root'} {start}..{end}>"
 
 
-def parse(source: Union[str, bytes], name: Union[str, "os.PathLike[str]"] = "<string>") -> Node:
+def parse(
+    source: Union[str, bytes], name: Union[str, bytes, "os.PathLike[str]", "os.PathLike[bytes]"] = "<string>"
+) -> Node:
     """Parses a text, or its bytes, and returns its root, which is a table. Raises TOMLDecodeError if it is not
     valid TOML.
 
     ``name`` is the name of the file, for the report of an error.
     """
-    name = os.fspath(name)
+    name = os.fsdecode(name)
     if isinstance(source, str):
         return Node(_Source(source, encoded(source), name), 0)
     if not isinstance(source, bytes):
