@@ -223,8 +223,9 @@ pipes() {
     ends 2 check --fix pipe
     holds grep -qx 'error: cannot read `pipe`: it is not a regular file' "$work/stderr"
     writes 3 'error: cannot write `pipe`: it is not a regular file' set pipe /a 2
-    writes 0 '1 file unchanged' fmt piped
-    ends 0 check --quiet piped
+    writes 2 $'error: cannot read `piped/.gitignore`: it is not a regular file\n1 file unchanged' fmt piped
+    ends 2 check piped
+    holds grep -qx 'error: cannot read `piped/.gitignore`: it is not a regular file' "$work/stderr"
     ends 2 check --schema piped/schema.json one.toml
     holds grep -qx 'error: cannot read the schema `piped/schema.json`: it is not a regular file' "$work/stderr"
     ends 2 check --catalog pipe one.toml
