@@ -116,8 +116,12 @@ impl Project {
         self.config.excludes(alloc, self.inside(name))
     }
 
-    /// Returns the path or URL of the schema for a file with these settings, as it is written, or an empty text.
-    pub(crate) fn schema_of(&self, settings: &Settings) -> &str {
+    /// Returns the path or URL of the schema for a file with these settings, as it is written, or an empty text. Returns
+    /// an empty text if another schema is named already.
+    pub(crate) fn schema_of(&self, settings: &Settings, is_named: bool) -> &str {
+        if is_named {
+            return "";
+        }
         let entry = match settings.schema {
             Some(schema) => self.config.files.get(schema.value),
             None => None,

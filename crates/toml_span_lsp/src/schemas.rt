@@ -94,11 +94,7 @@ fn configure<D: Disk>(
         open.settings.can_format = false;
     }
     let is_named = state.settings.has_schema || directive_of(open.text.as_str()).is_some();
-    let schema = if is_named {
-        ""
-    } else {
-        project.schema_of(&found)
-    };
+    let schema = project.schema_of(&found, is_named);
     open.schemas = state
         .folders
         .configure(alloc, name, &state.options, project, schema)?;
