@@ -20,8 +20,6 @@ The status is 1 if an edit is not refused, or can't be tried.
 """
 import glob
 import hashlib
-import importlib.machinery
-import importlib.util
 import os
 import re
 import shutil
@@ -32,7 +30,8 @@ import tempfile
 import time
 from concurrent.futures import ThreadPoolExecutor
 
-sys.dont_write_bytecode = True
+from check_types import toolchain
+
 TOP = os.path.dirname(os.path.dirname(os.path.abspath(__file__)))
 HEAD = re.compile(r"( *)(?:pub(?:\([^)]*\))? )?(?:const )?(?:unsafe )?(?:extern \"C\" )?fn (\w+)")
 BLOCK = re.compile(r"(?:pub(?:\([^)]*\))? )?(?:impl|trait)\b")
@@ -44,16 +43,6 @@ NAMES = re.compile(r"has no field|is not in scope|has no `|was not admitted|were
 def text_of(path):
     with open(path, encoding="utf-8") as file:
         return file.read()
-
-
-def toolchain():
-    """Returns the module of the toolchain's command rt, which knows how a crate is checked."""
-    command = shutil.which("rt") or sys.exit("mistakes.py: rt is not on PATH")
-    loader = importlib.machinery.SourceFileLoader("rtlib", f"{os.path.dirname(os.path.realpath(command))}/rtlib.py")
-    made = importlib.util.module_from_spec(importlib.util.spec_from_loader("rtlib", loader))
-    loader.exec_module(made)
-    made.guarded()
-    return made
 
 
 # ---- functions
@@ -347,6 +336,7 @@ def edit_of(name):
 
 def main(words):
     rtlib, folder, until = toolchain(), TOP, float("inf")
+    rtlib.guarded()
     if "--minutes" in words:
         at = words.index("--minutes")
         until = time.monotonic() + 60 * float(words[at + 1])
@@ -386,7 +376,7 @@ def main(words):
     new -= len(left)
     print(f"mistakes: {right} of {count} refused" + (f", {new} tried: commit crates/*/mistakes/tried" if new else ""))
     if left:
-        print(f"mistakes: NOT TRIED, since the time was over: {len(left)}: {' '.join(left)}")
+        print(f"SKIPPED: {len(left)} must-fail edits were not tried, since the time was over: {' '.join(left)}")
     return 0 if count and right == count - len(left) else 1
 
 

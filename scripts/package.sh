@@ -48,7 +48,7 @@ mv -- "$root/usr/share/zsh/site-functions" "$root/usr/share/zsh/vendor-completio
 {
     echo "$licensed On Debian systems the last two are in /usr/share/common-licenses/Apache-2.0 and"
     echo "/usr/share/common-licenses/LGPL-2.1. The first follows."
-    cat -- "$top/LICENSE-MIT"
+    sed "s/^Copyright (c)/& $(date -u -d "@$SOURCE_DATE_EPOCH" +%Y)/" -- "$top/LICENSE-MIT"
 } >"$pages/copyright"
 DEBFULLNAME=${DEBFULLNAME-$(git -C "$top" log -1 --format=%an 2>/dev/null)} || DEBFULLNAME=toml_span
 DEBEMAIL=${DEBEMAIL-$(git -C "$top" log -1 --format=%ae 2>/dev/null)} || DEBEMAIL=toml-span@localhost
@@ -79,6 +79,7 @@ Description: check, query and edit TOML files
  Reports the errors of TOML 1.1 files with the lines that they are in, prints
  single values, and changes them without touching any other byte of the file.
 END
+(cd -- "$root" && find usr -type f -print0 | LC_ALL=C sort -z | xargs -0 md5sum >DEBIAN/md5sums)
 find "$root" -exec touch -h -d "@$SOURCE_DATE_EPOCH" {} +
 dpkg-deb --root-owner-group -Zxz --build "$root" "$work/toml-span_${version}_amd64.deb" >/dev/null ||
     fail 5 "dpkg-deb made no package: see above"

@@ -1,6 +1,6 @@
 #!/usr/bin/env bash
-# Tests the scripts for users (toml-span.sh, native.sh, install.sh, package.sh, vsix.py, vendor.sh) and the extension of
-# VS Code: bash scripts/scripts_test.sh
+# Tests the scripts for users (toml-span.sh, native.sh, install.sh, package.sh, vsix.py, vendor.sh, check_types.py) and
+# the extension of VS Code: bash scripts/scripts_test.sh
 #
 # A row of the table is a case: its name, the expected status, what its output must match (an expression of grep; with
 # !, must not match), and a command, which may go on in lines that begin with four spaces. The commands run in order in
@@ -160,8 +160,7 @@ a commit is built without run-time checks|0|^building toml_span_cli of commit [0
 and the next run takes that build|0|!building|cli && tries 1
 a change is built with them|0|^building toml_span_cli without proofs, with run-time checks, once|
     echo >>"$crate/src/main.rt"; cli && tries 2
-which --checked takes of a commit too|0|!building|commit && native --checked toml_span_cli && tries 2
-but others do not|0|^building toml_span_cli of commit|cli && tries 3
+and once more without them when it is committed|0|^building toml_span_cli of commit|commit && cli && tries 3
 the optimizer gets what was merged|0|^-O0 -O3$|
     fresh; LEVELS=$work/levels native toml_span_cli && xargs <levels
 --debug does not optimize|0|^-O0$|rm levels; LEVELS=$work/levels native --debug toml_span_cli && xargs <levels
@@ -210,7 +209,7 @@ the repository is linked|0|](https://example.com/a/b/raw/HEAD/editors/vscode/ima
 a folder that can't be written|3|/file' can't be written: |: >file; python3 "$repository/scripts/vsix.py" "$PWD/file"
 the tarball runs|1|^\[x\]$|tar -xzf packages/*.tar.gz && toml-span-1.2.3-x86_64-linux/bin/toml-span x
 the Debian package installs, runs and goes|0|^toml-span 1.2.3$|debian root/usr/bin/toml-span --version
-lintian finds no error in it|0|!^E:|
+lintian finds neither errors nor warnings|0|!^[EW]:|
     ! command -v lintian || { DEBFULLNAME=n DEBEMAIL=n@debian.org SOURCE_DATE_EPOCH=1700000000 package linted &&
     lintian --allow-root linted/*.deb; }
 no package of a dynamic program|5|can't be packaged, since it is dynamically linked|
@@ -240,12 +239,24 @@ all that load, serde and places need|0||
 the hook of docs/CI.md passes files without errors|0||committed 'a = 1'
 and refuses others|1|^./a b/c.toml:2:1: duplicate-key|committed $'a = 1\na = 2'
 the command for CI|123|^a b/c.toml:2:1: duplicate-key|committed $'a = 1\na = 2'; page xargs | sh
-the main of docs/CALLING.md builds and runs|1|^duplicate name: `a`|
+the main of docs/CALLING.md has no type error|0||
     PATH=$real_path; bash "$top/scripts/vendor.sh" calls toml_span toml_span_load && cd calls &&
     echo 'app: toml_span toml_span_typed toml_span_load' >>crates.txt && mkdir -p crates/app/src &&
     cp "$top/examples/app/main.txt" crates/app/src/main.rt && cp "$top/crates/toml_span_example/stdin" settings.toml &&
-    cp "$top/crates/toml_span_example/src/settings.rt" crates/app/src &&
-    "$(bash scripts/toml_span/native.sh --debug app)" | sed -n 's/^error.duplicate-name.: //p'
+    cp "$top/crates/toml_span_example/src/settings.rt" crates/app/src && python3 scripts/toml_span/check_types.py app
+and builds and runs|1|^duplicate name: `a`|
+    PATH=$real_path; cd calls && "$(bash scripts/toml_span/native.sh --debug app)" |
+    sed -n 's/^error.duplicate-name.: //p'
+the main of docs/EDITING.md has no type error|0||
+    PATH=$real_path; bash "$top/scripts/vendor.sh" calls edit && cd calls && mkdir -p crates/bump/src &&
+    echo 'bump: toml_span_edit anyhow' >>crates.txt && cp "$top/examples/bump/main.txt" crates/bump/src/main.rt &&
+    python3 scripts/toml_span/check_types.py bump
+a type error is reported|1|^src/main.rt:[0-9:]* error.unsatisfied-bound|
+    PATH=$real_path; cd calls && sed -i 's/u8::from(!is_right)/is_right/' crates/app/src/main.rt &&
+    python3 scripts/toml_span/check_types.py app
+a range of a float is refused, with what to write|1|give it a type of your own|
+    PATH=$real_path; cd calls && sed -i 's/Option<u8>/Option<f64>/' crates/app/src/settings.rt &&
+    python3 scripts/toml_span/check_types.py app
 the toolchain that is here builds|7||
     fresh; PATH=$real_path; printf '#![tactic(auto)]\nuse std::process::ExitCode;\n\nfn main(rt: HostRuntime) ->
     ExitCode {\n    let _host = rt;\n    ExitCode::from(7)\n}\n' >"$crate/src/main.rt"; cli

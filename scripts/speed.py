@@ -3,7 +3,7 @@
 speed.py [--bytes N,..] [--instructions] [--peers] [KIND|FILE..]
 speed.py --limits [PROGRAM..]
 
-A document of each kind, of about N bytes (1,000,000), or a file, is parsed by toml_span_bench: the proved build if it
+A document of each kind, of about N bytes (1,000,000), or a file, is parsed by toml_span_rows: the proved build if it
 is no older than the sources, else a native build (scripts/native.sh). With --peers others are measured beside it, by
 small programs that cargo and c++ build: the Rust crate toml-span, `DeTable` and `Table` of the Rust crate toml, and
 toml++, from packages of Debian's sid, which apt fetches into a temporary folder, and the crate toml of the toolchain.
@@ -36,7 +36,7 @@ import toml_test
 
 TOP = os.path.dirname(os.path.dirname(os.path.abspath(__file__)))
 
-# programs that do what toml_span_bench does: over Rust's crates, and over toml++
+# programs that do what toml_span_rows does: over Rust's crates, and over toml++
 CARGO = """package = { name = "peers", version = "0.0.0", edition = "2021" }
 dependencies = { toml = "1", toml-span = "0.7" }
 """
@@ -126,6 +126,18 @@ def lockfile(rng, n):
     return "\n".join(lines) + "\n\n"
 
 
+def packages(rng, n):
+    lines = [
+        "[[package]]",
+        f'name = "{words(rng)}-{n}"',
+        f'version = "{rng.randrange(9)}.{rng.randrange(30)}.{rng.randrange(9)}"',
+        f'files = [{{file = "{words(rng)}-{n}.whl", hash = "sha256:{rng.getrandbits(256):064x}"}}]',
+    ]
+    if rng.randrange(2):
+        lines += ["[package.dependencies]", *(f'{words(rng)}-{k} = ">={k}.0"' for k in range(1, 2 + rng.randrange(4)))]
+    return "\n".join(lines) + "\n\n"
+
+
 def strings(rng, n):
     text = words(rng, 60)
     return f"text_{n} = '{text}'\n" if n % 4 else f'text_{n} = """\n{text}\n{text}"""\n'
@@ -134,6 +146,7 @@ def strings(rng, n):
 KINDS = {
     "flat": lambda rng, n: f"{words(rng)}_{n} = {scalar(rng)}\n",
     "lockfile": lockfile,
+    "packages": packages,
     "headers": lambda rng, n: f"[{words(rng, 2, '.')}.t{n}]\nvalue = {rng.randrange(1000)}\n",
     "arrays": lambda rng, n: f"points_{n} = [{', '.join('[%d, %d]' % pair(rng) for _ in range(6))}]\n"
     "at_%d = {x = %d, y = %d}\n" % (n, *pair(rng)),
@@ -356,7 +369,7 @@ def main():
     given = asked()
     if given.limits:
         return limits(given.documents)
-    programs = {"": toml_test.native("toml_span_bench")}
+    programs = {"": toml_test.native("toml_span_rows")}
     if "/unproved-" in programs[""]:
         print("speed: this is a build without the proofs, not the one that the gate makes", file=sys.stderr)
     measured, units = timed, ["ns/byte", "peak MB"]

@@ -26,6 +26,14 @@ start() {
     names+=("$1")
 }
 
+# alone COMMAND..: runs a command once no other one runs that was started by this function
+alone() {
+    {
+        flock 8
+        "$@"
+    } 8>"$work/alone"
+}
+
 # ended: waits for the checks that have started, counts each, and prints what it wrote
 ended() {
     local index
@@ -42,10 +50,10 @@ ended() {
     begun=()
 }
 
-# run_unproved CRATE: builds a program without proofs, with run-time checks, and tests its stored runs
+# run_unproved CRATE: builds a program without proofs and optimization, with run-time checks, and tests its stored runs
 run_unproved() {
     local program
-    program=$(bash scripts/native.sh --checked "$1" </dev/null) && bash scripts/runs.sh "$1" "$program"
+    program=$(bash scripts/native.sh --debug "$1" </dev/null) && python3 scripts/runs.py "$1" "$program"
 }
 
 # run_suite: runs the suite toml-test, if it can be fetched
@@ -82,8 +90,9 @@ run_schemas() {
 }
 
 mapfile -t unproved < <(sed -n 's/:.*# unproved$//p' crates.txt)
-# (they need no proof, so they are built while other crates wait for those that they use)
-for program in "${unproved[@]}"; do start "stored runs of $program" run_unproved "$program"; done
+# (these need no proof, so they run while crates wait for those that they use)
+for program in "${unproved[@]}"; do start "stored runs of $program" alone run_unproved "$program"; done
+start "the library for C, and the module for Python" alone bash scripts/c_test.sh
 
 echo "== rt ci"
 gate=$work/gate
@@ -94,12 +103,11 @@ git ls-files -z --cached --others --exclude-standard -- . "${unproved[@]/#/:!cra
     xargs -0 cp -P --parents -t "$gate" --
 sed -i '/# unproved$/d' "$gate/crates.txt"
 scripts=$PWD/scripts
-# The toolchain plans with more memory than these proofs take, and then leaves processors idle. Here, crates are proved
-# on all processors, or on all but one of more than two, as long as each has 5 GB.
+# The toolchain plans with more memory than these proofs take, and then leaves processors idle. Here, as many crates are
+# proved at a time as there are processors, as long as each has 5 GB.
 crates_at_once=$(awk -v all="$(nproc)" '/^MemAvailable/ {
-    most = all > 2 ? all - 1 : all
     fit = int($2 / 5e6)
-    print fit < 1 ? 1 : fit < most ? fit : most
+    print fit < 1 ? 1 : fit < all ? fit : all
 }' /proc/meminfo)
 (cd "$gate" && RT_JOBS=${RT_JOBS:-$crates_at_once} python3 "$scripts/timed.py" rt ci) 2>&1 | tee "$work/log"
 status=${PIPESTATUS[0]}
@@ -116,19 +124,19 @@ for folder in "$gate"/crates/*/out; do
 done
 
 start "no handles" grep -qx 'Handles allowed: none.' HANDLES
-start "must-fail edits" env RT_JOBS="${RT_JOBS:-2}" python3 scripts/mistakes.py --libraries "$gate"
+# (as long as the whole run takes less than 150 minutes; known edits take no time)
+minutes=$((SECONDS < 8940 ? 150 - SECONDS / 60 : 1))
+start "must-fail edits" env RT_JOBS="${RT_JOBS:-2}" python3 scripts/mistakes.py --minutes "$minutes" --libraries "$gate"
 for program in cli show example; do
-    start "stored runs of toml_span_$program" bash scripts/runs.sh "toml_span_$program"
+    start "stored runs of toml_span_$program" python3 scripts/runs.py "toml_span_$program"
 done
 start "fixes of random mistakes" python3 scripts/fixes.py --mistakes 1000 --values 200
 start "rows of characters" python3 scripts/characters.py
+start "random documents beside tomllib" python3 scripts/tomllib_test.py 1000
 start "toml-test" run_suite
 start "suites of JSON Schema" run_schemas
 start "scripts that people start" bash scripts/scripts_test.sh
 start "pages, edits and public items" python3 scripts/pages.py
-ended
-# (alone, since it compiles on all processors)
-start "the library for C, and the module for Python" bash scripts/c_test.sh
 ended
 
 times >"$work/log.times"

@@ -1,13 +1,14 @@
 #!/usr/bin/env python3
 """Runs a command, and then prints how long its proofs and tests took: timed.py COMMAND ARGUMENT..
 
-Once a second it looks at the prover's processes below the command: which crate each works on, whether it has --test,
-and its processor time. So up to a second of each process is missing, except in the total, which the system counts. The
-status is that of the command.
+Every five seconds it looks at the prover's processes below the command: which crate each works on, whether it has
+--test, and its processor time. So up to five seconds of each process are missing, except in the total, which the system
+counts. The status is that of the command.
 
 Processors differ in speed, and a shared one varies from hour to hour: the proof of toml_span_lex took from 129 to 283
 processor seconds. So each figure is also given as a multiple of that proof in the same run, if it was part of it.
 """
+import contextlib
 import os
 import resource
 import signal
@@ -81,7 +82,8 @@ def main(words):
         signal.signal(signal.SIGTERM, lambda *_: ran.terminate())
         while ran.poll() is None:
             look(ran.pid, seen)
-            time.sleep(1)
+            with contextlib.suppress(subprocess.TimeoutExpired):
+                ran.wait(5)
     used = resource.getrusage(resource.RUSAGE_CHILDREN)
     name = f"{' '.join(words)}, {time.monotonic() - began:.0f} s"
     report(seen, (name, used.ru_utime + used.ru_stime))

@@ -2,7 +2,7 @@
 # Runs the program toml-span from this repository: bash scripts/toml-span.sh ARGS..
 #
 # ARGS are those of the program: `check FILE` checks a file, `help` lists the commands, and `help COMMAND` describes
-# one. The first run builds the program, in about four minutes, and shows the progress on standard error
+# one. The first run builds the program, in four to seven minutes, and shows the progress on standard error
 # (scripts/native.sh says what is built, and where it is kept). The status is the program's, or 5 if it can't be built,
 # with a message that says what to do.
 set -uo pipefail

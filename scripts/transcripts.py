@@ -11,7 +11,7 @@ the lines that belong to them below, indented by four spaces:
     errors               what it writes to standard error; without this line, anything is accepted
     ? STATUS             the exit status, if it is not 0
     after PATH           a file of the folder after the run; the others are as before
-    refused STATUS REQUESTS GUESSES  the run again with each request for memory refused (scripts/runs.sh)
+    refused STATUS REQUESTS GUESSES  the run again with each request for memory refused (scripts/runs.py)
 
 After `file`, `input`, `$`, `errors` and `after`, each line ends with a line feed. Where a text does not, or has bytes
 that an editor would change, the word `escaped` ends the line above it: its lines follow each other with nothing between

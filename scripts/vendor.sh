@@ -7,8 +7,9 @@
 # added to DEST/crates.txt. The script prints what it copied, and then what to write in the caller's own line of
 # crates.txt.
 #
-# The scripts that build a program without proofs (native.sh, and what it needs) go to DEST/scripts/toml_span:
-# `bash scripts/toml_span/native.sh --debug APP` builds the program APP of DEST, and prints its path.
+# The scripts for programs without proofs go to DEST/scripts/toml_span: in DEST, `bash scripts/toml_span/native.sh
+# --debug APP` builds the program APP and prints its path, and `python3 scripts/toml_span/check_types.py APP` only
+# reports its type errors.
 #
 # If another version of a crate is there already, that is an error, and nothing is copied. With --replace it is replaced
 # (its out/ stays). `vendor.sh --list CRATE..` copies nothing: it prints the lines of crates.txt for these crates and
@@ -96,6 +97,7 @@ for name in "${copied[@]}"; do
     echo "$crates/$name"
 done
 mkdir -p -- "$destination/scripts/toml_span" &&
-    cp -- "${script%/*}"/{common,native,vendor}.sh "$destination/scripts/toml_span" || cannot "$destination/scripts"
+    cp -- "${script%/*}"/{{common,native,vendor}.sh,check_types.py} "$destination/scripts/toml_span" ||
+    cannot "$destination/scripts"
 cp -- "$work/crates.txt" "$destination/crates.txt" || cannot "$destination/crates.txt"
 echo "To use them, name them in the line of your crate in $destination/crates.txt, as in \`app: ${names[*]}\`."

@@ -1,4 +1,54 @@
-# Further checks of toml-span (scripts/runs.sh): files of every kind, colors, and output that can't be written
+#!/usr/bin/env bash
+# Further checks of toml-span: bash checks.sh PROGRAM FAULTS FOLDER (scripts/runs.py starts it)
+#
+# Files of every kind, colors, and output that can't be written. FAULTS is scripts/c_tests/faults.c as a library, and
+# FOLDER an empty folder. The last line has the counts.
+source "$(dirname -- "$(readlink -f -- "$0")")/../../scripts/common.sh"
+set +e
+cd -- "$(dirname -- "$script")" || exit
+program=$1 faults=$2 work=$3
+top=$(realpath ../..)
+count=0
+wrong=0
+with=()
+input=/dev/null
+out=$work/stdout
+err=$work/stderr
+
+# holds COMMAND..: runs a command as a check, and counts it
+holds() {
+    count=$((count + 1))
+    if ! "$@" >"$work/differs"; then
+        wrong=$((wrong + 1))
+        echo "checks: wrong: $(printf '%q ' "$@") (status $status)"
+        cat "$work/differs" "$work/stderr" | head -n 100
+    fi
+}
+
+# fresh: makes the folder in which the program runs, with the files of the stored runs
+fresh() {
+    rm -rf "$work/folder"
+    cp -r runs/data "$work/folder"
+    find "$work/folder" -type f -exec chmod 640 {} +
+}
+
+# go ARGUMENT..: runs the program there, with the file $input as its input, and with the words $with before its name
+go() {
+    status=0
+    (cd "$work/folder" && timeout 120 env "${with[@]}" "$program" "$@" <"$input" >"$out" 2>"$err") || status=$?
+}
+
+# ends STATUS ARGUMENT..: checks the status with which the program ends
+ends() {
+    go "${@:2}"
+    holds test "$status" -eq "$1"
+}
+
+# writes STATUS TEXT ARGUMENT..: checks the status and the output: standard output followed by standard error
+writes() {
+    ends "$1" "${@:3}"
+    holds diff - <(cat "$work/stdout" "$work/stderr") <<<"$2"
+}
 
 # cuts: no prefix of a document exhausts any format
 cuts() {
@@ -64,7 +114,7 @@ prefixes() {
     ends 0 get --items many.toml ''
     cp "$work/stdout" "$work/whole"
     for at in 1 2; do
-        with=("LD_PRELOAD=$work/faults.so" "FAILED=$at")
+        with=("LD_PRELOAD=$faults" "FAILED=$at")
         ends 3 get --items many.toml ''
         holds test "$(stat -c %s "$work/stdout")" -gt "$least"
         least=$(stat -c %s "$work/stdout")
@@ -267,6 +317,7 @@ if child.poll() is None: child.send_signal(int(sys.argv[1]))
 child.wait()'
 
 terminal='import os, pty, sys; sys.exit(os.waitstatus_to_exitcode(pty.spawn(sys.argv[1:])))'
+python3 "$top/scripts/transcripts.py" expand toml_span_cli "$work/runs"
 fresh
 for part in cuts names prefixes configurations edits fixes; do "$part"; done
 for part in locks signals pipes written; do
@@ -290,11 +341,11 @@ colored '' TERM=dumb python3 -c "$terminal"
 colored '' TERM=xterm NO_COLOR=1 python3 -c "$terminal"
 holds python3 formats.py "$program"
 holds python3 sessions.py "$program" sessions/*
-holds python3 sessions.py "$program" --refused "$work/faults.so" sessions/*
+holds python3 sessions.py "$program" --refused "$faults" sessions/*
 input=$PWD/runs/data/tree.toml
 go check --format sarif - settings.toml
 cp "$work/stdout" "$work/usual"
-with=("LD_PRELOAD=$work/faults.so" INTERRUPTED=1)
+with=("LD_PRELOAD=$faults" INTERRUPTED=1)
 go check --format sarif - settings.toml
 holds cmp "$work/usual" "$work/stdout"
 with=()
@@ -305,3 +356,4 @@ ln -s child.toml "$work/folder/link.toml"
 ends 0 rename link.toml /dependencies/a dependencies
 holds test -L "$work/folder/link.toml"
 holds grep '^\[dependencies.dependencies\]$' "$work/folder/child.toml"
+echo "checks: $((count - wrong)) of $count right"

@@ -9,8 +9,9 @@ the exit status, by default 0.
 writes a file in the folder in which the server runs, once all messages before it have come; `HERE` stands for the path
 of that folder. Lines that begin with `#` are comments. A line that begins with spaces goes on with the line before it.
 
-With `--refused FAULTS FILE..`, where FAULTS is scripts/c_tests/faults.c as a library, runs the sessions again with each
-request for memory refused in turn. The server must write whole frames, and either end with status 4 or go on. What it
+With `--refused FAULTS FILE..`, where FAULTS is scripts/c_tests/faults.c as a library, runs the sessions again with one
+request for memory refused, in turn each whose innermost CALLERS callers differ from those of the requests before it, in
+all sessions. The server must write whole frames, and either end with status 4 or go on. What it
 has written until then, or writes after that, must be as usual, except for one error or message.
 
 With `--fuzz COUNT [SEED]`, sends that many frames at random, most of them wrong, and checks after each hundred that a
@@ -19,12 +20,14 @@ until its diagnostics are there, how much memory it has after many of them, and 
 keystroke with all that an editor asks for then.
 """
 
+import concurrent.futures
 import difflib
 import json
 import os
 import random
 import re
 import shutil
+import struct
 import subprocess
 import sys
 import tempfile
@@ -197,30 +200,45 @@ def is_explained(usual, made):
     return True, at
 
 
-def refused(program, faults, name):
-    """Runs a session with each request for memory refused in turn."""
-    number, made, ended, usual = 0, 0, 0, []
-    with tempfile.TemporaryDirectory() as folder, tempfile.TemporaryFile() as count:
-        here = os.path.join(os.path.realpath(folder), "here")
-        parts, _, status = read_session(name, here)
-        os.dup2(count.fileno(), 9)
-        while number <= made:
-            shutil.rmtree(here, ignore_errors=True)
-            os.mkdir(here)
-            environment = {**os.environ, "LD_PRELOAD": os.path.abspath(faults), "REFUSED": str(number)}
-            count.truncate(0)
-            os.lseek(9, 0, os.SEEK_SET)
-            data, code = answers(os.path.abspath(program), parts, here, env=environment, pass_fds=[9])
-            frames = contents(data)
-            if number == 0:
-                count.seek(0)
-                made, usual = int(count.read()), frames
-            explained, at = is_explained(usual, frames)
-            if not explained or code != 4 and (code != status or at < len(usual)):
-                sys.exit(f"{name}: request {number} of {made} refused: status {code}, {frames}")
-            ended += code == 4
-            number += 1
-    print(f"{name}: each of {made} requests for memory refused in turn; {ended} ended the server")
+CALLERS = 6
+
+
+def refused(program, faults, names):
+    """Runs sessions with requests for memory refused. Prints how many of the requests, and how many ended the server."""
+    program, faults, seen, chosen, made = os.path.abspath(program), os.path.abspath(faults), set(), [], 0
+
+    def run(name, told, **environment):
+        with tempfile.TemporaryDirectory() as here:
+            here = os.path.realpath(here)
+            parts, _, status = read_session(name, here)
+            environment = {**os.environ, "LD_PRELOAD": faults, "TOLD": str(told.fileno()), **environment}
+            data, code = answers(program, parts, here, env=environment, pass_fds=[told.fileno()])
+            return contents(data.replace(here.encode(), b"H" * len(here))), code, status
+
+    def refuse(choice):
+        name, number, usual = choice
+        with open(os.devnull, "wb") as told:
+            frames, code, status = run(name, told, REFUSED=str(number))
+        explained, at = is_explained(usual, frames)
+        if not explained or code != 4 and (code != status or at < len(usual)):
+            return f"{name}: request {number} refused: status {code}, {frames}"
+        return "" if code == 4 else None
+
+    for name in names:
+        with tempfile.TemporaryFile() as told:
+            usual = run(name, told, CALLERS=str(CALLERS))[0]
+            told.seek(0)
+            data = told.read()
+        for number, callers in enumerate(struct.unpack(f"{len(data) // 8}Q", data), 1):
+            made += 1
+            if callers not in seen:
+                seen.add(callers)
+                chosen.append((name, number, usual))
+    with concurrent.futures.ThreadPoolExecutor(len(os.sched_getaffinity(0))) as pool:
+        ends = [*pool.map(refuse, chosen)]
+    if wrong := [*filter(None, ends)]:
+        sys.exit("\n".join(wrong))
+    print(f"{len(names)} sessions: {len(ends)} of {made} requests for memory refused, {ends.count('')} ended the server")
 
 
 class Server:
@@ -487,8 +505,7 @@ def main(words):
         seed = int(words[3]) if len(words) > 3 else 1
         fuzz(words[0], int(words[2]), seed)
     elif "--refused" in words:
-        for name in words[3:]:
-            refused(words[0], words[2], name)
+        refused(words[0], words[2], words[3:])
     elif "--speed" in words:
         speed(words[0], words[2])
     else:

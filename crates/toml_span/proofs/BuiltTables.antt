@@ -1,5 +1,5 @@
 -- Tables under construction, with the table of one more section.
-use Rattle.toml_span_lex.proofs.Common.{◌≡◌, ℕ, Bool, true, false, cond, List, [], ◌∷◌, length, Option, Some, None, option_map, option_and_then, if◌then◌else◌, bytes_eq, cow_str_bytes, lookup_entry, AllByRecursion, rules, refl, sym, ap, ◌∙◌, subst, inl, inr, arith, none-some, same_Some, IfSome, IsBorrowedStr, Greater, unwrap_or, insert_entry, is_eq, keys_of, nat_cmp, slice_cmp, nat_tests, common_steps}
+use Rattle.toml_span_lex.proofs.Common.{◌≡◌, ℕ, Bool, true, false, cond, List, [], ◌∷◌, ◌++◌, length, Option, Some, None, option_map, option_and_then, if◌then◌else◌, bytes_eq, cow_str_bytes, lookup_entry, AllByRecursion, rules, refl, sym, ap, ◌∙◌, subst, inl, inr, arith, none-some, same_Some, IfSome, IsBorrowedStr, Greater, unwrap_or, insert_entry, is_eq, keys_of, nat_cmp, slice_cmp, nat_tests, common_steps}
 use Rattle.std.specs.Prelude.{IsSomeAnd}
 use Rattle.toml_span_lex.specs.declared.key.Key.{Key}
 use Rattle.toml_span_lex.specs.declared.span.Span.{Span}
@@ -26,7 +26,7 @@ use Rattle.toml_span.specs.Clashes.{clash_kind}
 use Rattle.toml_span.specs.Ordered.{IsOrdered, HoldsOrdered}
 use Rattle.toml_span_read.specs.Paths.{same_path}
 use Rattle.toml_span.specs.code.Borrowed.{table_held}
-use Rattle.toml_span.specs.code.Built.{BuildsOn, EntryAt, EntryBuilt, EntryBuildsOn, EntryRight, EntryShows, IsBuilt, built, IsByHeader, IsKeyFor, IsSection, IsTableCell, MakesEntry, Placed, is_assigned}
+use Rattle.toml_span.specs.code.Built.{BuildsOn, EntryAt, EntryBuilt, EntryBuildsOn, EntryRight, EntryShows, IsBuilt, built, IsByHeader, IsKeyFor, IsOpenTable, IsSection, IsTableCell, MakesEntry, Placed, is_assigned}
 use Rattle.toml_span.specs.code.ClaimInfos.{earliest_clash_info, with_name}
 use Rattle.toml_span.specs.code.Machine.{Cell, CellMap, Decided, change, clash_found, decide, earliest_clash, graft, key_spans, no_cell, no_cells, put_all, with_claim}
 use Rattle.toml_span.specs.code.Placing.{Array, NamesAscend, ShowsBelow, Table, place_shown}
@@ -74,7 +74,7 @@ built-right text t st e ascend (built u f c positions at inside) =
 view-held : (v : Value) (i : ValueInner) → v.value ≡ Some i → view v ≡ tree.node (inner_view i) v.span
 view-held v i is = view_is v ∙ ap (λ (o : Option ValueInner). tree.node (unwrap_or (option_map inner_view o) tree.taken) v.span) is
 
-view-table : (v : Value) (t : Table) → v.value ≡ Some (table_inner t) → view v ≡ tree.node (tree.table (members_view t.entries)) v.span
+pub view-table : (v : Value) (t : Table) → v.value ≡ Some (table_inner t) → view v ≡ tree.node (tree.table (members_view t.entries)) v.span
 view-table v t is = view-held v (table_inner t) is ∙ ap (λ i. tree.node i v.span) (inner_view-Table t)
 
 pub view-array : (v : Value) (a : Array) → v.value ≡ Some (array_inner a) → view v ≡ tree.node (tree.array (items_view a.items)) v.span
@@ -88,7 +88,7 @@ abbrev array_in : Array → ValueInner-F ValueInner Value → Array
 array_in d (ValueInner-F.Array a) = a
 array_in d _ = d
 
-table-same : (v : Value) (t u : Table) → v.value ≡ Some (table_inner t) → v.value ≡ Some (table_inner u) → t ≡ u
+pub table-same : (v : Value) (t u : Table) → v.value ≡ Some (table_inner t) → v.value ≡ Some (table_inner u) → t ≡ u
 table-same v t u is also =
     let same : table_inner t ≡ table_inner u = same_Some (table_inner t) (table_inner u) (sym is ∙ also) in
     let one : out-ValueInner (table_inner t) ≡ ValueInner-F.Table t = search (rules, tree_lemmas) in
@@ -118,6 +118,13 @@ value-ordered text v t st e is ascend h = rw (view-table v t is) (rw (inner_view
 value-right : (text : List ℕ) (v : Value) (t : Table) (st : CellMap) (e : Path → ℕ) → v.value ≡ Some (table_inner t) → NamesAscend t → IsBuilt text t st e → AreBorrowedRight text (strings_and_keys v (key_spans st))
 value-right text v t st e is ascend h = rw (table-held v t v.span (is, refl)) (built-right text t st e ascend h)
 
+-- a table has no open table except itself
+only-table : (text : List ℕ) (v : Value) (t u : Table) (st : CellMap) (e : Path → ℕ) (q : Path) → v.value ≡ Some (table_inner t) → IsBuilt text t st e → IsOpenTable v q u → IsBuilt text u (λ p. st (q ++ p)) (λ p. e (q ++ p))
+only-table text v t u st e [] is h has = subst (λ w. IsBuilt text w st e) (table-same v t u is has) h
+only-table text v t u st e (key l ∷ q) is h has = absurd has
+only-table text v t u st e (position i ∷ []) is h (a, before, w, held, items, last, table) = absurd (kinds-apart v t a is held)
+only-table text v t u st e (position i ∷ s ∷ q) is h has = absurd has
+
 entry-table : (text : List ℕ) (k : Key) (v : Value) (t : Table) (st : CellMap) (e : Path → ℕ) → v.value ≡ Some (table_inner t) → NamesAscend t
     → place_shown (st []) ≡ Some (record { shape = shape_table; key_span = Some k.span; span = v.span }) → IsTableCell (st []) → e [] ≡ 0 → IsBorrowedRight text (k.name, key_spans st []) → IsBuilt text t st e
     → EntryBuilt text (k, v) st e
@@ -128,7 +135,7 @@ entry-table text k v t st e is ascend here cell count name h = record {
     right = (name, value-right text v t st e is ascend h);
   };
   made = record { table = λ u also. (count, cell); array = λ a also. absurd (kinds-apart v t a is also) };
-  inside = λ u also. subst (λ w. IsBuilt text w st e) (table-same v t u is also) h;
+  inside = λ q u has. only-table text v t u st e q is h has;
 }
 
 -- ---- an entry at a name
@@ -138,10 +145,10 @@ entry-there : (text : List ℕ) (b : Bool) (x : Key × Value) (o : Option (Key �
 entry-there text true x o st sub e c h old = (h.shows, λ by. h.made)
 entry-there text false x o st sub e c h old = old
 
-inside-there : (text : List ℕ) (b : Bool) (x y : Key × Value) (u : Table) (o : Option (Key × Value)) (st sub : CellMap) (e c : Path → ℕ) → EntryBuilt text x sub c → cond b (Some x) o ≡ Some y → y.1.value ≡ Some (table_inner u)
-    → (o ≡ Some y → IsBuilt text u st e) → IsBuilt text u (λ p. if b then sub p else st p) (λ p. if b then c p else e p)
-inside-there text true x y u o st sub e c h is held old = h.inside u (ap (λ (z : Key × Value). z.1.value) (same_Some x y is) ∙ held)
-inside-there text false x y u o st sub e c h is held old = old is
+inside-there : (text : List ℕ) (b : Bool) (x y : Key × Value) (q : Path) (u : Table) (o : Option (Key × Value)) (st sub : CellMap) (e c : Path → ℕ) → EntryBuilt text x sub c → cond b (Some x) o ≡ Some y → IsOpenTable y.1 q u
+    → (o ≡ Some y → IsBuilt text u (λ p. st (q ++ p)) (λ p. e (q ++ p))) → IsBuilt text u (λ p. if b then sub (q ++ p) else st (q ++ p)) (λ p. if b then c (q ++ p) else e (q ++ p))
+inside-there text true x y q u o st sub e c h is has old = h.inside q u (subst (λ (z : Key × Value). IsOpenTable z.1 q u) (sym (same_Some x y is)) has)
+inside-there text false x y q u o st sub e c h is has old = old is
 
 pub built-at : (text : List ℕ) (t new : Table) (st sub : CellMap) (e c : Path → ℕ) (name : List ℕ) (x : Key × Value)
     → ((l : List ℕ) → lookup_entry (is_named l) new.entries ≡ cond (bytes_eq name l) (Some x) (lookup_entry (is_named l) t.entries)) → EntryBuilt text x sub c → IsBuilt text t st e
@@ -150,9 +157,9 @@ unfolding graft
 built-at text t new st sub e c name x found h (built u f d positions at inside) =
     built new (graft (key name) st sub) (graft (key name) e c) positions
     (λ l. rw (found l) (entry-there text (bytes_eq name l) x (lookup_entry (is_named l) t.entries) (λ p. st (key l ∷ p)) sub (λ p. e (key l ∷ p)) c h (at l)))
-    (λ l y w is by held.
-    inside-there text (bytes_eq name l) x y w (lookup_entry (is_named l) t.entries) (λ p. st (key l ∷ p)) sub (λ p. e (key l ∷ p)) c h (sym (found l) ∙ is) held
-    (λ old. inside l y w old by held))
+    (λ l y q w is by has.
+    inside-there text (bytes_eq name l) x y q w (lookup_entry (is_named l) t.entries) (λ p. st (key l ∷ p)) sub (λ p. e (key l ∷ p)) c h (sym (found l) ∙ is) has
+    (λ old. inside l y q w old by has))
 
 -- the part of a header, in a table
 pub placed-at : (text : List ℕ) (h : HeaderInfo) (tail : Claims) (part : SimpleKey) (rest : List SimpleKey) (t new : Table) (st : CellMap) (e : Path → ℕ) (x : Key × Value)
@@ -205,7 +212,7 @@ module _ (text : List ℕ) (h : HeaderInfo) (tail : Claims) (part : SimpleKey) (
       placed-at text h tail part rest t new st e (x.0, w)
       (λ l. ap (lookup_entry (is_named l)) written ∙ found-again k x w l t.entries found (ap keys_of (sym written) ∙ stay) ∙ ap (λ b. cond b (Some (x.0, w)) (lookup_entry (is_named l) t.entries)) (named-part l))
       (built t st e positions at inside)
-      (on (λ p. st (key part.name ∷ p)) (λ p. e (key part.name ∷ p)) (record { shows = entry.0; made = entry.1 by; inside = λ w held. inside part.name x w here by held }))
+      (on (λ p. st (key part.name ∷ p)) (λ p. e (key part.name ∷ p)) (record { shows = entry.0; made = entry.1 by; inside = λ q w has. inside part.name x q w here by has }))
 
   pub vacant : (v : Value) → lookup_entry (is_named (cow_str_bytes k.name)) t.entries ≡ None → new.entries ≡ insert_entry key_cmp t.entries k v
       → MakesEntry text (k, v) (through (λ p. 0) h part rest tail) (counts_after_through (λ p. 0) h rest)
@@ -226,13 +233,13 @@ claimed-built text t st e f (built u g c positions at inside) = built t (change 
 
 empty-built : (text : List ℕ) (t : Table) → t.entries ≡ [] → IsBuilt text t no_cells (λ p. 0)
 empty-built text t none =
-    built t no_cells (λ p. 0) (λ i p. refl) (λ name. rw none (refl, refl)) (λ name x u is by held. absurd (none-some x (ap (lookup_entry (is_named name)) (sym none) ∙ is)))
+    built t no_cells (λ p. 0) (λ i p. refl) (λ name. rw none (refl, refl)) (λ name x q u is by has. absurd (none-some x (ap (lookup_entry (is_named name)) (sym none) ∙ is)))
 
 section-here : (st : CellMap) (e : Path → ℕ) (h : HeaderInfo) (k : SimpleKey) (rest : List SimpleKey) (tail : Claims) → put_all st (section_at e h (k ∷ rest) tail) [] ≡ st []
 unfolding graft
 section-here st e h k rest tail = rw (section_at-through e h k rest tail) (ap (λ f. f []) (put_all-under (key k.name) st (through (λ p. e (key k.name ∷ p)) h k rest tail)))
 
-counts-here : (e : Path → ℕ) (h : HeaderInfo) (k : SimpleKey) (rest : List SimpleKey) → counts_after e h (k ∷ rest) [] ≡ e []
+pub counts-here : (e : Path → ℕ) (h : HeaderInfo) (k : SimpleKey) (rest : List SimpleKey) → counts_after e h (k ∷ rest) [] ≡ e []
 unfolding graft
 counts-here e h k rest = ap (λ f. f []) (counts_after-through e h k rest)
 
@@ -299,7 +306,7 @@ pass-table text h tail part (l ∷ more) k old new t u st e some was held ascend
     let cell = cell-passed (st []) c refl m.1 in
     let place : place_shown (st []) ≡ Some (record { shape = shape_table; key_span = Some k.span; span = new.span }) = sym (rw (view-table old t was) at (entry.shows.places [])) ∙ rw (held.1) refl in
     through-table text h tail part l more k new t u st e m.0 held.0 ascend (ap (option_map (with_name part.name)) (pass-free (st []).infos c.info m.1.free refl)) cell.0 (ap (option_map (λ d. d.place)) cell.1 ∙ place)
-    (subst (λ (o : Option Decided). IsBorrowedRight text (k.name, option_map (λ d. d.key) o)) (sym cell.1) entry.shows.right.0) (entry.inside t was) on
+    (subst (λ (o : Option Decided). IsBorrowedRight text (k.name, option_map (λ d. d.key) o)) (sym cell.1) entry.shows.right.0) (entry.inside [] t was) on
 
 -- ---- a new name
 
@@ -334,23 +341,64 @@ module _ (text : List ℕ) (h : HeaderInfo) (tail : Claims) (k : Key) (part : Si
 
 -- ---- an element of an array of tables
 
-module _ (text : List ℕ) (h : HeaderInfo) (tail : Claims) (part : SimpleKey) where
-  pub element-free : (t : Table) → IsSection text tail t → clash_found no_cells (opening h TableElement part tail) ≡ None
-  unfolding change same_path clash_found
-  element-free t section = section.free (change no_cells [] (with_claim (header_claim h TableElement [] part))) (λ s p. refl)
+-- what a table shows where it is an element of an array
+abbrev pub ElementShows : List ℕ → Value → CellMap → Type 0
+ElementShows text v st = ((p : Path) → option_map tree_place (reached p (None, view v)) ≡ place_shown (st p)) × IsOrdered (view v) × AreBorrowedRight text (strings_and_keys v (key_spans st))
 
-  pub element-shows : (v : Value) (t : Table) → h.extent ≡ v.span → v.value ≡ Some (table_inner t) → NamesAscend t → IsSection text tail t
-      → ((p : Path) → option_map tree_place (reached p (None, view v)) ≡ place_shown (put_all no_cells (opening h TableElement part tail) p)) × IsOrdered (view v)
-      × AreBorrowedRight text (strings_and_keys v (key_spans (put_all no_cells (opening h TableElement part tail))))
-  unfolding change same_path put_all
-  element-shows v t size held ascend section =
-      let c = header_claim h TableElement [] part in
-      let st = change no_cells [] (with_claim c) in
-      let made = section.built st (λ s p. refl) in (
-        value-shows text None v t (put_all st tail) (λ p. 0) held (ap place_shown (section.here st) ∙ ap (λ s. Some (record { shape = shape_table; key_span = None; span = s })) size) made,
-        value-ordered text v t (put_all st tail) (λ p. 0) held ascend made,
-        value-right text v t (put_all st tail) (λ p. 0) held ascend made,
-      )
+pub element-table : (text : List ℕ) (v : Value) (t : Table) (st : CellMap) (e : Path → ℕ) → v.value ≡ Some (table_inner t) → NamesAscend t → place_shown (st []) ≡ Some (record { shape = shape_table; key_span = None; span = v.span })
+    → IsBuilt text t st e → ElementShows text v st
+element-table text v t st e held ascend here made = (value-shows text None v t st e held here made, value-ordered text v t st e held ascend made, value-right text v t st e held ascend made)
+
+module _ (text : List ℕ) (h : HeaderInfo) (tail : Claims) (part : SimpleKey) where
+  -- a new element
+  module _ (t : Table) (section : IsSection text tail t) where
+    abbrev element : Claims
+    element = opening h TableElement part tail
+
+    abbrev opened : CellMap
+    opened = change no_cells [] (with_claim (header_claim h TableElement [] part))
+
+    pub element-free : clash_found no_cells element ≡ None
+    unfolding change same_path clash_found
+    element-free = section.free opened (λ s p. refl)
+
+    pub element-built : IsBuilt text t (put_all no_cells element) (λ p. 0)
+    unfolding change same_path put_all
+    element-built = section.built opened (λ s p. refl)
+
+    pub element-cell : IsTableCell (put_all no_cells element [])
+    unfolding change same_path put_all
+    element-cell = subst IsTableCell (sym (section.here opened)) (record { free = (refl, tt); header = refl })
+
+    pub element-shows : (v : Value) → h.extent ≡ v.span → v.value ≡ Some (table_inner t) → NamesAscend t → ElementShows text v (put_all no_cells element)
+    unfolding change same_path put_all
+    element-shows v size held ascend =
+        element-table text v t (put_all no_cells element) (λ p. 0) held ascend (ap place_shown (section.here opened) ∙ ap (λ s. Some (record { shape = shape_table; key_span = None; span = s })) size) element-built
+
+  -- the latest element, through which the header passes
+  module _ (l : SimpleKey) (more : List SimpleKey) (sub : CellMap) (e : Path → ℕ) (cell : IsTableCell (sub [])) where
+    abbrev crossed : Claim
+    crossed = header_claim h Passed [] part
+
+    abbrev passed-sub : CellMap
+    passed-sub = put_all sub (passing h part (l ∷ more) tail e)
+
+    passed-here : passed-sub [] ≡ with_claim crossed (sub [])
+    unfolding change same_path put_all
+    passed-here = section-here (change sub [] (with_claim crossed)) e h l more tail
+
+    pub passed-cell : IsTableCell (passed-sub [])
+    passed-cell = subst IsTableCell (sym passed-here) (cell-passed (sub []) crossed refl cell).0
+
+    pub passed-shown : place_shown (passed-sub []) ≡ place_shown (sub [])
+    passed-shown = ap place_shown passed-here ∙ ap (option_map (λ d. d.place)) (cell-passed (sub []) crossed refl cell).1
+
+    pub passed-built : (t u : Table) → IsBuilt text t sub e → BuildsOn text t u (λ f. section_at f h (l ∷ more) tail) (λ f. counts_after f h (l ∷ more))
+        → (clash_found sub (passing h part (l ∷ more) tail e) ≡ None) × IsBuilt text u passed-sub (counts_after e h (l ∷ more))
+    unfolding change same_path clash_found put_all
+    passed-built t u before on =
+        let done = on (change sub [] (with_claim crossed)) e (claimed-built text t sub e (with_claim crossed) before) in
+        (rw (ap (option_map (with_name part.name)) (pass-free (sub []).infos crossed.info cell.free refl)) done.0, done.1)
 
 -- ---- the functions' arguments and results
 

@@ -40,7 +40,7 @@ pub sub-graft : {A : Type 0} (s : Step) (f sub : Path → A) → (λ q. graft s 
 unfolding graft
 sub-graft s f sub = fun_ext (λ q. rw (same_step-self s))
 
-graft-graft : {A : Type 0} (s : Step) (f a b : Path → A) → graft s (graft s f a) b ≡ graft s f b
+pub graft-graft : {A : Type 0} (s : Step) (f a b : Path → A) → graft s (graft s f a) b ≡ graft s f b
 unfolding graft
 graft-graft s f a b = graft-is s f b (graft s (graft s f a) b) refl (sub-graft s (graft s f a) b) (λ t q off. rw off)
 

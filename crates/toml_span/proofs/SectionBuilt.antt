@@ -173,5 +173,5 @@ module _ (text : List ℕ) (es : List ParsedAssignment) (t : Table) (gives : Sco
       here = λ st. put_all-root st cs assigned-below;
       built = λ st empty.
           built t (put_all st cs) (λ p. 0) (section-positions st empty) (λ name. section-entry st empty name _ refl)
-          (λ name x u is by held. absurd (omega (arith, by, late name x is)));
+          (λ name x q u is by has. absurd (omega (arith, by, late name x is)));
     }

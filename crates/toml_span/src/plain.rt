@@ -1,5 +1,6 @@
 //! Parses a plain document in one pass. A plain document is valid, and each of its headers opens a new table or appends
-//! an element to an array of tables. The path of each header leads only through tables that headers created.
+//! an element to an array of tables. The path of each header leads only through tables that headers created, and through
+//! the latest elements of arrays of tables.
 ghost use Rattle.std.specs.Prelude.{◌≡◌, ◌≤◌, length, slice_index, IfOk};
 ghost use Rattle.toml_span_lex.specs.Bytes.{left_bracket};
 ghost use Rattle.toml_span_read.specs.Data.{depth_limit};

@@ -1,12 +1,17 @@
 pub mod Blanks
+mod Boundaries
 pub mod EncodingLemmas
 pub mod Endings
 pub mod Errors
 pub mod Fixings
+mod Ignored
 pub mod Judged
 mod Marks
+mod Names
 mod PatternLemmas
+mod PatternLists
 pub mod Pieces
 pub mod Shows
 pub mod Statuses
 pub mod Collecting
+mod Trimmed

@@ -1,5 +1,5 @@
 -- Marks of the suffixes of a list say where a pattern matches.
-use Rattle.std.proofs.Common.{◌≡◌, ◌==◌, ◌∙◌, sym, ap, ap₂, ℕ, zero, suc, ◌+◌, Bool, true, false, ◌&&◌, ◌||◌, if◌then◌else◌, List, [], ◌∷◌, ◌++◌, append_assoc, length, replicate, get_or, refl, arith, add-one, ◌<◌, drop, inl, inr, ◌⊎◌, Some, None}
+use Rattle.std.proofs.Common.{◌≡◌, ◌∙◌, sym, ap, ap₂, ℕ, zero, suc, ◌+◌, Bool, true, false, ◌&&◌, ◌||◌, if◌then◌else◌, List, [], ◌∷◌, ◌++◌, append_assoc, length, replicate, get_or, refl, arith, add-one, ◌<◌, drop, inl, inr, ◌⊎◌, Some, None}
 use Rattle.std.proofs.lemmas.List.{drop_all, length-replicate}
 use Rattle.toml_span_check.specs.Globs.{Bytes, Element, fits, is_any}
 use Rattle.toml_span_check.specs.Patterns.{after, is_nothing, name_matches, name_step, one_more, path_matches, path_step, some_end, spread}

@@ -1,7 +1,8 @@
 -- Which names and paths a pattern matches.
 use Rattle.std.specs.Prelude.{ℕ, Bool, true, false, not, ◌==◌, ◌&&◌, ◌||◌, List, [], ◌∷◌, drop, Option, None, Some}
 use Rattle.std.specs.Prelude.{length, option_map, take, ◌-◌, if◌then◌else◌}
-use Rattle.std.specs.List.{list_any, slice_split}
+use Rattle.std.specs.List.{filter_map, list_any, slice_split, starts_with}
+use Rattle.std.specs.Str.Lines.{lines}
 use Rattle.toml_span_check.specs.Globs.{Element, fits, glob_parts, is_any, parts_of}
 use Rattle.toml_span_check.specs.declared.patterns.Pattern.{Pattern}
 
@@ -95,6 +96,36 @@ abbrev pub selected : List PatternContent → List (List ℕ) → Bool → Optio
 selected [] path is_directory found = found
 selected (p ∷ ps) path is_directory found =
     selected ps path is_directory (if matches p path is_directory then Some (not p.1) else found)
+
+-- ---- lines of a `.gitignore` file
+
+abbrev pub kept : Bool → ℕ → List ℕ → List ℕ
+kept is_space byte rest = if is_space && is_nothing rest then [] else byte ∷ rest
+
+-- A line without the spaces at its end: those that nothing but spaces follow. `escaped` says whether a backslash is
+-- before the line: a byte after a backslash stays.
+abbrev pub trimmed : Bool → List ℕ → List ℕ
+trimmed escaped [] = []
+trimmed escaped (b ∷ bs) = kept (not escaped && b == 32) b (trimmed (not escaped && b == 92) bs)
+
+abbrev pub without_spaces : List ℕ → List ℕ
+without_spaces line = trimmed false line
+
+-- the pattern of a line; a comment has none
+abbrev pub line_pattern : List ℕ → Option PatternContent
+line_pattern line = if begins 35 line then None else pattern_of (without_spaces line)
+
+-- U+FEFF in UTF-8
+abbrev pub byte_order_mark : List ℕ
+byte_order_mark = 239 ∷ 187 ∷ 191 ∷ []
+
+-- a text without a byte order mark at its start
+abbrev pub without_bom : List ℕ → List ℕ
+without_bom text = if starts_with ◌==◌ text byte_order_mark then drop 3 text else text
+
+-- The patterns of a text: one for each line that has one, in order.
+abbrev pub ignore_patterns : List ℕ → List PatternContent
+ignore_patterns text = filter_map line_pattern (lines (without_bom text))
 
 -- ---- marks of the suffixes of a list
 

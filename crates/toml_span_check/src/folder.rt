@@ -1,10 +1,14 @@
 //! Finds the TOML files below a directory.
-ghost use Rattle.std.specs.Prelude.{◌≡◌, IfOk, IsSorted, string_bytes};
+ghost use Rattle.std.specs.Prelude.{◌≡◌, IfOk, IsSorted, OnOk, map, string_bytes};
 ghost use Rattle.std.specs.Cmp.Lexicographic.{slice_cmp};
+ghost use Rattle.std.specs.List.{filter_map};
 ghost use Rattle.std.specs.Ordering.{nat_cmp};
 ghost use Rattle.toml_span_check.specs.Folders as spec;
+ghost use Rattle.toml_span_check.specs.Patterns.{ignore_patterns as ignored_by, pattern, pattern_of as parsed};
 
-use crate::patterns::{Pattern, ignore_patterns, last_match, pattern_of};
+use crate::patterns::{
+    Pattern, ignore_patterns, last_match, pattern_of, push_pattern, without_root,
+};
 use crate::words::{is_bytes, word_text};
 use std::alloc::{AllocError, Global};
 use std::fs::File;
@@ -79,7 +83,9 @@ fn may_be_file(rt: &HostRuntime, path: &str) -> bool {
 }
 
 /// Returns whether the name is `.` or `..`.
-fn is_dots(name: &[u8]) -> bool {
+fn is_dots(name: &[u8]) -> bool
+    ensures { result ≡ spec.is_dots name.now }
+{
     name == b".".as_slice() || name == b"..".as_slice()
 }
 
@@ -136,17 +142,35 @@ fn text_of(rt: &HostRuntime, alloc: Global, path: &str) -> Result<Option<String>
 }
 
 /// Returns the part of a path after the last slash, or the whole path if it has no slash.
-fn last_name(path: &str) -> &str {
+fn last_name<'t>(path: &'t str) -> &'t str
+    ensures { result.now ≡ spec.last_name path.now }
+{
     match path.rsplit_once('/') {
         Some((_, name)) => name,
         None => path,
     }
 }
 
+/// Returns whether a path is that of the ignore file of a Git repository that is not in its working tree.
+fn is_exclude_file(path: &str) -> bool
+    ensures { result ≡ spec.is_exclude_file path.now }
+{
+    path.ends_with("/.git/info/exclude")
+}
+
 /// Returns whether a path is that of an ignore file.
-pub(crate) fn is_ignore_file(path: &str) -> bool {
+pub(crate) fn is_ignore_file(path: &str) -> bool
+    ensures { result ≡ spec.is_ignore_file path.now }
+{
     let name = last_name(path);
-    name == ".gitignore" || name == ".ignore" || path.ends_with("/.git/info/exclude")
+    name == ".gitignore" || name == ".ignore" || is_exclude_file(path)
+}
+
+/// Returns whether a path ends in `.toml`.
+fn is_toml(path: &str) -> bool
+    ensures { result ≡ spec.is_toml path.now }
+{
+    path.ends_with(".toml")
 }
 
 /// Returns whether a search leaves out directories of this name: `target`, `node_modules`, and names that begin with
@@ -188,15 +212,48 @@ fn repository(rt: &HostRuntime, alloc: Global, folder: &str) -> Result<Option<us
     Ok(None)
 }
 
-/// Returns the path of a directory below another one, relative to it, with a slash at its end. `length` is the length in
-/// bytes of the other one's path. Returns an empty string for the other directory itself.
-fn front_of(alloc: Global, folder: &str, length: usize) -> Result<String, AllocError> {
-    let rest = folder.get(length..).unwrap_or("");
-    let rest = rest.strip_prefix('/').unwrap_or(rest);
+/// Returns the path of a directory relative to another one, with a slash at its end. `rest` is what the directory's path
+/// has after the other one's, and may begin with a slash. Returns an empty string for the other directory itself.
+fn front_of(alloc: Global, rest: &str) -> Result<String, AllocError>
+    ensures { IfOk result (λ front. string_bytes front ≡ spec.front_of rest.now) }
+{
+    let rest = without_root(rest);
     if rest.is_empty() {
         return Ok(String::new(alloc));
     }
     format!(in alloc; "{rest}/")
+}
+
+/// Returns a path without `./` at its start.
+fn without_dot<'t>(path: &'t str) -> &'t str
+    ensures { result.now ≡ spec.without_dot path.now }
+{
+    match path.strip_prefix("./") {
+        Some(rest) => rest,
+        None => path,
+    }
+}
+
+/// Returns the part of a path after the first `length` bytes, or the whole path if that is not a part of it.
+fn rest_from<'t>(path: &'t str, length: usize) -> &'t str
+    ensures { result.now ≡ spec.rest_from length path.now }
+{
+    if path.is_char_boundary(length) {
+        &path[length..]
+    } else {
+        path
+    }
+}
+
+impl Ignore {
+    /// Returns a path, relative to the directory of the patterns.
+    fn inside(&self, alloc: Global, path: &str) -> Result<String, AllocError>
+        ensures { IfOk result (λ inside. string_bytes inside ≡ spec.inside (spec.ignore self.now) path.now) }
+    {
+        let mut inside = String::from_str(alloc, self.front.as_str())?;
+        inside.push_str(rest_from(path, self.length))?;
+        Ok(inside)
+    }
 }
 
 impl Below {
@@ -208,24 +265,36 @@ impl Below {
         path: &str,
         is_directory: bool,
         ignore: Option<usize>,
-    ) -> Result<bool, AllocError> {
+    ) -> Result<bool, AllocError>
+        ensures { IfOk result (λ found. found
+            ≡ spec.is_ignored (map spec.ignore self.now.ignores.items) path.now is_directory ignore) }
+    {
         let mut next = ignore;
-        for _ in 0..=self.ignores.len() {
+        for _ in 0..self.ignores.len() {
             let Some(at) = next else {
                 return Ok(false);
             };
             let Some(ignore) = self.ignores.get(at) else {
                 return Ok(false);
             };
+            let inside = ignore.inside(alloc, path)?;
             let patterns = ignore.patterns.as_slice();
-            let mut inside = String::from_str(alloc, ignore.front.as_str())?;
-            inside.push_str(path.get(ignore.length..).unwrap_or(path))?;
             if let Some(found) = last_match(alloc, patterns, inside.as_str(), is_directory)? {
                 return Ok(found);
             }
             next = ignore.above;
         }
         Ok(false)
+    }
+
+    /// Returns whether the patterns of `--exclude` exclude `path`.
+    fn is_excluded(&self, alloc: Global, path: &str, is_directory: bool) -> Result<bool, AllocError>
+        ensures { IfOk result (λ found. found
+            ≡ spec.is_excluded (map pattern self.now.excludes.items) path.now is_directory) }
+    {
+        let patterns = self.excludes.as_slice();
+        let found = last_match(alloc, patterns, without_dot(path), is_directory)?;
+        Ok(found.unwrap_or(false))
     }
 
     /// Returns whether to leave out `path`, because of its name, a pattern of `--exclude` or an ignore file. `ignore`
@@ -236,13 +305,13 @@ impl Below {
         path: &str,
         is_directory: bool,
         ignore: Option<usize>,
-    ) -> Result<bool, AllocError> {
+    ) -> Result<bool, AllocError>
+        ensures { IfOk result (λ found. found ≡ spec.is_left_out (spec.below self.now) path.now is_directory ignore) }
+    {
         if is_directory && is_passed_over(last_name(path)) {
             return Ok(true);
         }
-        let plain = path.strip_prefix("./").unwrap_or(path);
-        let excluded = last_match(alloc, self.excludes.as_slice(), plain, is_directory)?;
-        if excluded == Some(true) {
+        if self.is_excluded(alloc, path, is_directory)? {
             return Ok(true);
         }
         self.is_ignored(alloc, path, is_directory, ignore)
@@ -255,15 +324,24 @@ impl Below {
         alloc: Global,
         path: String,
         ignore: Option<usize>,
-    ) -> Result<(), AllocError> {
+    ) -> Result<(), AllocError>
+        ensures { OnOk result (spec.below self.new ≡ spec.with_folder (string_bytes path) ignore (spec.below self.old)) }
+    {
         if !self.is_left_out(alloc, path.as_str(), true, ignore)? {
             self.folders.push(Folder { path, ignore })?;
         }
         Ok(())
     }
 
-    /// Adds `path` to the files found if it ends in `.toml`, may be a file, and is not left out. `ignore` is the
-    /// position in `ignores` of the nearest ignore file, if there is one.
+    /// Returns whether `path` ends in `.toml` and is not left out. `ignore` is the position in `ignores` of the nearest
+    /// ignore file, if there is one.
+    fn takes(&self, alloc: Global, path: &str, ignore: Option<usize>) -> Result<bool, AllocError>
+        ensures { IfOk result (λ found. found ≡ spec.takes (spec.below self.now) path.now ignore) }
+    {
+        Ok(is_toml(path) && !self.is_left_out(alloc, path, false, ignore)?)
+    }
+
+    /// Adds `path` to the files found if `takes` returns `true` for it and it may be a file.
     fn push_file(
         &mut self,
         rt: &HostRuntime,
@@ -271,13 +349,38 @@ impl Below {
         path: String,
         ignore: Option<usize>,
     ) -> Result<(), AllocError> {
-        if path.ends_with(".toml")
-            && may_be_file(rt, path.as_str())
-            && !self.is_left_out(alloc, path.as_str(), false, ignore)?
-        {
+        if self.takes(alloc, path.as_str(), ignore)? && may_be_file(rt, path.as_str()) {
             self.files.push(path)?;
         }
         Ok(())
+    }
+
+    /// Adds an ignore file with this text, if it has patterns. `front` and `length` are those of `Ignore`, and `above` is
+    /// the position in `ignores` of the ignore file that applies if this file does not decide. Returns the position of
+    /// the ignore file that applies first.
+    fn add_ignore(
+        &mut self,
+        alloc: Global,
+        text: &str,
+        front: String,
+        length: usize,
+        above: Option<usize>,
+    ) -> Result<Option<usize>, AllocError>
+        ensures { IfOk result (λ at. (at, spec.below self.new)
+            ≡ spec.with_ignore (ignored_by text.now) (string_bytes front) length above (spec.below self.old)) }
+    {
+        let patterns = ignore_patterns(alloc, text)?;
+        if patterns.is_empty() {
+            return Ok(above);
+        }
+        let at = self.ignores.len();
+        self.ignores.push(Ignore {
+            patterns,
+            front,
+            length,
+            above,
+        })?;
+        Ok(Some(at))
     }
 
     /// Adds `path` with `push_folder` or `push_file`. If the path can't be examined, adds it to the files found, so
@@ -295,7 +398,7 @@ impl Below {
             Ok(_) => self.push_file(rt, alloc, path, ignore),
             // The file has been removed in the meantime.
             Err(error) if error.kind() == ErrorKind::NotFound => Ok(()),
-            Err(_) if is_bytes(path.as_str()) && !path.ends_with(".toml") => Ok(()),
+            Err(_) if is_bytes(path.as_str()) && !is_toml(path.as_str()) => Ok(()),
             Err(_) => {
                 self.files.push(path)?;
                 Ok(())
@@ -303,10 +406,8 @@ impl Below {
         }
     }
 
-    /// Reads the ignore file at `path`, if it has patterns. If it can't be read, adds its path to the files found, so
-    /// that reading it reports why. `front` and `length` are those of `Ignore`, and `above` is the position in `ignores`
-    /// of the ignore file that applies if this file does not decide. Returns the position of the ignore file that
-    /// applies first.
+    /// Reads the ignore file at `path` and adds it with `add_ignore`. If it can't be read, adds its path to the files
+    /// found, so that reading it reports why, and returns `above`.
     fn push_ignore(
         &mut self,
         rt: &HostRuntime,
@@ -320,18 +421,7 @@ impl Below {
             self.files.push(String::from_str(alloc, path)?)?;
             return Ok(above);
         };
-        let patterns = ignore_patterns(alloc, text.as_str())?;
-        if patterns.is_empty() {
-            return Ok(above);
-        }
-        let at = self.ignores.len();
-        self.ignores.push(Ignore {
-            patterns,
-            front,
-            length,
-            above,
-        })?;
-        Ok(Some(at))
+        self.add_ignore(alloc, text.as_str(), front, length, above)
     }
 
     /// Reads the ignore files that apply to `folder`, the directory to search, but are not in it or below it: those of
@@ -351,7 +441,7 @@ impl Below {
         let length = path_of(alloc, folder, b"")?.len();
         let root = real.get(..top).unwrap_or("");
         let exclude = format!(in alloc; "{root}/.git/info/exclude")?;
-        let front = front_of(alloc, real, top)?;
+        let front = front_of(alloc, real.get(top..).unwrap_or(""))?;
         let mut ignore = self.push_ignore(rt, alloc, exclude.as_str(), front, length, None)?;
         for (end, byte) in real.bytes().enumerate() {
             if byte != b'/' || end < top || end + 1 == real.len() {
@@ -360,7 +450,7 @@ impl Below {
             let above = real.get(..end).unwrap_or("");
             for name in IGNORES {
                 let path = format!(in alloc; "{above}/{name}")?;
-                let front = front_of(alloc, real, end)?;
+                let front = front_of(alloc, real.get(end..).unwrap_or(""))?;
                 ignore = self.push_ignore(rt, alloc, path.as_str(), front, length, ignore)?;
             }
         }
@@ -415,12 +505,13 @@ impl Below {
 }
 
 /// Parses each text as a pattern. Leaves out texts that can't be parsed.
-fn patterns_of(alloc: Global, texts: &[&str]) -> Result<Vec<Pattern>, AllocError> {
+fn patterns_of(alloc: Global, texts: &[&str]) -> Result<Vec<Pattern>, AllocError>
+    ensures { IfOk result (λ patterns. map pattern patterns.items
+        ≡ filter_map parsed (map (λ text. text.now) texts.now)) }
+{
     let mut patterns = Vec::new(alloc);
     for text in texts {
-        if let Some(pattern) = pattern_of(alloc, *text)? {
-            patterns.push(pattern)?;
-        }
+        push_pattern(&mut patterns, pattern_of(alloc, *text)?)?;
     }
     Ok(patterns)
 }

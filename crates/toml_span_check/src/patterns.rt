@@ -1,6 +1,7 @@
 //! Patterns of paths, as in `.gitignore` files.
-ghost use Rattle.std.specs.Prelude.{◌≡◌, ◌∷◌, IfOk, None, false, map, option_map};
-ghost use Rattle.std.specs.Prelude.{get_or, replicate, true};
+ghost use Rattle.std.specs.List.{cons_option};
+ghost use Rattle.std.specs.Prelude.{[], ◌≡◌, ◌∷◌, ◌++◌, ◌<◌, ◌≤◌, IfOk, None, OnOk, false, length, map, option_map};
+ghost use Rattle.std.specs.Prelude.{get_or, replicate, slice_index, take, true};
 ghost use Rattle.toml_span_check.specs.Globs as globs;
 ghost use Rattle.toml_span_check.specs.Patterns as spec;
 
@@ -195,7 +196,7 @@ fn contains(text: &str, byte: u8) -> bool
 }
 
 /// Removes a slash at the start of a text.
-fn without_root<'t>(text: &'t str) -> &'t str
+pub(crate) fn without_root<'t>(text: &'t str) -> &'t str
     ensures { result.now ≡ spec.without_root text.now }
 {
     match text.strip_prefix('/') {
@@ -251,30 +252,77 @@ pub fn pattern_of(alloc: Global, text: &str) -> Result<Option<Pattern>, AllocErr
     }
 }
 
-/// Returns a line of a `.gitignore` file without the spaces at its end, except for one after a backslash.
-fn without_spaces(line: &str) -> &str {
+/// Returns the length in bytes of a line of a `.gitignore` file without the spaces at its end, except for one after a
+/// backslash.
+fn kept_length(line: &[u8]) -> usize
+    ensures kept { take result line.now ≡ spec.without_spaces line.now }
+    ensures within { result ≤ length line.now }
+    ensures followed_by_space { result < length line.now → slice_index line.now result ≡ 32 }
+{
     let mut end = 0usize;
     let mut is_escaped = false;
-    for (index, byte) in line.bytes().enumerate() {
-        if is_escaped || byte != b' ' {
-            end = index.saturating_add(1);
+    for (index, byte) in line.iter().enumerate() {
+        let stays = is_escaped | (*byte != b' ');
+        if stays {
+            end = index + 1;
         }
-        is_escaped = !is_escaped && byte == b'\\';
+        is_escaped = !is_escaped & (*byte == b'\\');
     }
-    line.get(..end).unwrap_or(line)
+    end
+}
+
+/// Returns a line of a `.gitignore` file without the spaces at its end, except for one after a backslash.
+fn without_spaces<'t>(line: &'t str) -> &'t str
+    ensures { result.now ≡ spec.without_spaces line.now }
+{
+    match line.get(..kept_length(line.as_bytes())) {
+        Some(kept) => kept,
+        None => line,
+    }
+}
+
+/// Removes a byte order mark at the start of a text.
+fn without_bom<'t>(text: &'t str) -> &'t str
+    ensures { result.now ≡ spec.without_bom text.now }
+{
+    match text.strip_prefix("\u{FEFF}") {
+        Some(rest) => rest,
+        None => text,
+    }
+}
+
+/// Returns the pattern of a line of a `.gitignore` file. Returns `None` for a comment and where `pattern_of` does. Fails
+/// if an allocation fails.
+fn line_pattern(alloc: Global, line: &str) -> Result<Option<Pattern>, AllocError>
+    ensures { IfOk result (λ pattern. option_map spec.pattern pattern ≡ spec.line_pattern line.now) }
+{
+    if line.starts_with('#') {
+        return Ok(None);
+    }
+    pattern_of(alloc, without_spaces(line))
+}
+
+/// Appends the pattern, if there is one. Fails if an allocation fails.
+pub(crate) fn push_pattern(
+    patterns: &mut Vec<Pattern>,
+    pattern: Option<Pattern>,
+) -> Result<(), AllocError>
+    ensures { OnOk result (patterns.new.items ≡ patterns.old.items ++ cons_option pattern []) }
+{
+    if let Some(pattern) = pattern {
+        patterns.push(pattern)?;
+    }
+    Ok(())
 }
 
 /// Returns the patterns of the lines of a `.gitignore` file, in order. Leaves out comments, and lines that `pattern_of`
-/// can't parse.
-pub(crate) fn ignore_patterns(alloc: Global, text: &str) -> Result<Vec<Pattern>, AllocError> {
+/// can't parse. Fails if an allocation fails.
+pub(crate) fn ignore_patterns(alloc: Global, text: &str) -> Result<Vec<Pattern>, AllocError>
+    ensures { IfOk result (λ patterns. map spec.pattern patterns.items ≡ spec.ignore_patterns text.now) }
+{
     let mut patterns = Vec::new(alloc);
-    for line in text.strip_prefix('\u{FEFF}').unwrap_or(text).lines() {
-        if line.starts_with('#') {
-            continue;
-        }
-        if let Some(pattern) = pattern_of(alloc, without_spaces(line))? {
-            patterns.push(pattern)?;
-        }
+    for line in without_bom(text).lines() {
+        push_pattern(&mut patterns, line_pattern(alloc, line)?)?;
     }
     Ok(patterns)
 }

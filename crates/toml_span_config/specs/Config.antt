@@ -1,5 +1,6 @@
 -- The settings that a configuration has for a file.
-use Rattle.std.specs.Prelude.{ℕ, Bool, true, false, List, [], ◌∷◌, map, Option, Some, None, if◌then◌else◌}
+use Rattle.std.specs.Prelude.{ℕ, Bool, false, true, ◌==◌, ◌&&◌, ◌||◌, List, [], ◌∷◌, ◌++◌, map, None, if◌then◌else◌}
+use Rattle.std.specs.Option.{unwrap_or}
 use Rattle.toml_span_check.specs.Patterns.{PatternContent, parts, pattern, selected}
 use Rattle.toml_span_config.specs.Layers.{empty, settled, under}
 use Rattle.toml_span_config.specs.declared.config.Config.{Config}
@@ -14,23 +15,33 @@ EntryContent = List PatternContent × Layer
 abbrev pub entry : Entry → EntryContent
 entry e = (map pattern e.patterns.items, e.layer)
 
--- the settings for all files, and the entries for some, in order
+-- the settings for all files, the entries for some, in order, and the patterns of `exclude`
 abbrev pub ConfigContent : Type 0
-ConfigContent = Layer × List EntryContent
+ConfigContent = Layer × List EntryContent × List PatternContent
 
 abbrev pub config : Config → ConfigContent
-config c = (c.general, map entry c.files.items)
+config c = (c.general, map entry c.files.items, map pattern c.excludes.items)
 
 abbrev pub no_config : ConfigContent
-no_config = (empty, [])
-
-abbrev pub is_true : Option Bool → Bool
-is_true None = false
-is_true (Some b) = b
+no_config = (empty, [], [])
 
 -- whether patterns select the file at a path: the last one that matches decides, and does not begin with `!`
 abbrev pub selects : List PatternContent → List ℕ → Bool
-selects patterns path = is_true (selected patterns (parts path) false None)
+selects patterns path = unwrap_or (selected patterns (parts path) false None) false
+
+-- the same of the directory at a path
+abbrev pub selects_folder : List PatternContent → List ℕ → Bool
+selects_folder patterns path = unwrap_or (selected patterns (parts path) true None) false
+
+-- whether patterns select the file at a path, or a directory whose path is `front` with what `rest` has before a slash
+abbrev pub selects_below : List PatternContent → List ℕ → List ℕ → Bool
+selects_below patterns front [] = selects patterns front
+selects_below patterns front (b ∷ rest) =
+    (b == 47 && selects_folder patterns front) || selects_below patterns (front ++ b ∷ []) rest
+
+-- whether `exclude` leaves out the file at a path: its patterns select the file, or a directory that contains it
+abbrev pub excludes : ConfigContent → List ℕ → Bool
+excludes c path = selects_below c.2 [] path
 
 -- the settings of a layer and of an entry above it, if the entry is for this file
 abbrev pub with_entry : List ℕ → Layer → EntryContent → Layer

@@ -1,3 +1,4 @@
 pub mod Config
 pub mod Layers
+pub mod Sources
 pub mod Tables

@@ -1,13 +1,16 @@
 -- The settings that the tables of a configuration file set.
-use Rattle.std.specs.Prelude.{ℕ, Option, Some, None, String}
+use Rattle.std.specs.Prelude.{ℕ, ◌+◌, List, [], ◌∷◌, map, Option, Some, None, String, Vec}
 use Rattle.std.specs.Global.{Global}
 use Rattle.toml_span_check.specs.declared.newer.Version.{Version}
 use Rattle.toml_span_lex.specs.declared.spanned.Spanned.{Spanned}
+use Rattle.toml_span_check.specs.Patterns.{PatternContent, pattern}
+use Rattle.toml_span_config.specs.Config.{ConfigContent, EntryContent}
 use Rattle.toml_span_config.specs.Layers.{empty, of_field, under}
 use Rattle.toml_span_config.specs.declared.document.CheckTable.{CheckTable}
 use Rattle.toml_span_config.specs.declared.document.Document.{Document}
 use Rattle.toml_span_config.specs.declared.document.FilesTable.{FilesTable}
 use Rattle.toml_span_config.specs.declared.document.FmtTable.{FmtTable}
+use Rattle.toml_span_config.specs.declared.document.Glob.{Glob}
 use Rattle.toml_span_config.specs.declared.document.VersionName.{VersionName}
 use Rattle.toml_span_config.specs.declared.layers.Chosen.{Chosen}
 use Rattle.toml_span_config.specs.declared.layers.Layer.{Layer}
@@ -51,6 +54,29 @@ schema_layer (Some path) at =
 abbrev pub entry_layer : FilesTable → ℕ → Layer
 entry_layer t at = with_fmt (with_check (schema_layer t.schema at) t.check) t.fmt
 
+abbrev pub patterns : Vec Glob Global → List PatternContent
+patterns globs = map (λ g. pattern g.pattern) globs.items
+
+abbrev pub entry_content : FilesTable → ℕ → EntryContent
+entry_content t at = (patterns t.globs, entry_layer t at)
+
+-- the entries of the tables from the position `at` on
+abbrev pub entries_from : ℕ → List FilesTable → List EntryContent
+entries_from at [] = []
+entries_from at (t ∷ ts) = entry_content t at ∷ entries_from (at + 1) ts
+
+abbrev pub entries : Option (Vec FilesTable Global) → List EntryContent
+entries None = []
+entries (Some files) = entries_from 0 files.items
+
+abbrev pub excludes : Option (Vec Glob Global) → List PatternContent
+excludes None = []
+excludes (Some globs) = patterns globs
+
 -- the settings for all files
 abbrev pub general_layer : Document → Layer
 general_layer d = with_fmt (with_check empty d.check) d.fmt
+
+-- the configuration of a file
+abbrev pub config_content : Document → ConfigContent
+config_content d = (general_layer d, entries d.files, excludes d.exclude)

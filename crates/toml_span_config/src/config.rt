@@ -1,5 +1,5 @@
 //! Configurations, and the settings that they have for a file.
-ghost use Rattle.std.specs.Prelude.{◌≡◌, IfOk, map, Some, true};
+ghost use Rattle.std.specs.Prelude.{◌≡◌, ◌<◌, ◌==◌, ◌&&◌, IfOk, length, map, slice_index, take, Some, true};
 ghost use Rattle.toml_span_check.specs.Patterns.{pattern, parts};
 ghost use Rattle.toml_span_config.specs.Config as spec;
 ghost use Rattle.toml_span_config.specs.Tables as tables;
@@ -44,7 +44,9 @@ pub struct Config {
 }
 
 /// Returns the patterns of the globs.
-fn patterns_of(alloc: Global, globs: Vec<Glob>) -> Result<Vec<Pattern>, AllocError> {
+fn patterns_of(alloc: Global, globs: Vec<Glob>) -> Result<Vec<Pattern>, AllocError>
+    ensures { IfOk result (λ patterns. map pattern patterns.items ≡ tables.patterns globs) }
+{
     let mut patterns = Vec::new(alloc);
     for glob in globs {
         patterns.push(glob.pattern)?;
@@ -111,7 +113,7 @@ fn schema_layer(schema: &Option<Spanned<String>>, at: usize) -> Layer
 
 /// Returns the entry at the position `at`.
 fn entry_of(alloc: Global, table: FilesTable, at: usize) -> Result<Entry, AllocError>
-    ensures { IfOk result (λ entry. entry.layer ≡ tables.entry_layer table at) }
+    ensures { IfOk result (λ entry. spec.entry entry ≡ tables.entry_content table at) }
 {
     let FilesTable {
         globs,
@@ -132,12 +134,14 @@ fn entry_of(alloc: Global, table: FilesTable, at: usize) -> Result<Entry, AllocE
 }
 
 /// Returns the entries of the array `files`, if it is there.
-fn entries_of(alloc: Global, tables: Option<Vec<FilesTable>>) -> Result<Vec<Entry>, AllocError> {
+fn entries_of(alloc: Global, files: Option<Vec<FilesTable>>) -> Result<Vec<Entry>, AllocError>
+    ensures { IfOk result (λ entries. map spec.entry entries.items ≡ tables.entries files) }
+{
     let mut entries = Vec::new(alloc);
-    let Some(tables) = tables else {
+    let Some(files) = files else {
         return Ok(entries);
     };
-    for table in tables {
+    for table in files {
         let at = entries.len();
         entries.push(entry_of(alloc, table, at)?)?;
     }
@@ -159,9 +163,19 @@ fn copies_of(
     Ok(copies)
 }
 
+/// Returns the patterns of the globs, if they are there.
+fn excludes_of(alloc: Global, globs: Option<Vec<Glob>>) -> Result<Vec<Pattern>, AllocError>
+    ensures { IfOk result (λ patterns. map pattern patterns.items ≡ tables.excludes globs) }
+{
+    match globs {
+        Some(globs) => patterns_of(alloc, globs),
+        None => Ok(Vec::new(alloc)),
+    }
+}
+
 /// Returns the configuration of a file that has been read.
 fn config_of(alloc: Global, document: Document) -> Result<Config, AllocError>
-    ensures { IfOk result (λ config. config.general ≡ tables.general_layer document) }
+    ensures { IfOk result (λ config. spec.config config ≡ tables.config_content document) }
 {
     let Document {
         exclude,
@@ -170,12 +184,8 @@ fn config_of(alloc: Global, document: Document) -> Result<Config, AllocError>
         files,
         schema_map,
     } = document;
-    let excludes = match exclude {
-        Some(globs) => patterns_of(alloc, globs)?,
-        None => Vec::new(alloc),
-    };
     Ok(Config {
-        excludes,
+        excludes: excludes_of(alloc, exclude)?,
         general: with_fmt(with_check(Layer::empty(), &check), &fmt),
         files: entries_of(alloc, files)?,
         copies: copies_of(alloc, schema_map)?,
@@ -223,6 +233,25 @@ fn with_entries(
         layer = with_entry(alloc, layer, entry, path)?;
     }
     Ok(layer)
+}
+
+/// Returns whether the byte of `path` at the offset `end` is a slash, and the patterns select the directory before it.
+/// Fails if an allocation fails.
+fn selects_above(
+    alloc: Global,
+    patterns: &[Pattern],
+    path: &str,
+    end: usize,
+) -> Result<bool, AllocError>
+    requires { end < length path.now }
+    ensures { IfOk result (λ found. found
+        ≡ (slice_index path.now end == 47 && spec.selects_folder (map pattern patterns.now) (take end path.now))) }
+{
+    if path.as_bytes()[end] != b'/' {
+        return Ok(false);
+    }
+    let found = last_match(alloc, patterns, &path[..end], true)?;
+    Ok(found.unwrap_or(false))
 }
 
 impl Config {
@@ -276,19 +305,15 @@ impl Config {
 
     /// Returns whether the patterns of `exclude` select the file at `path`, or a directory that contains it. `path` is
     /// relative to the directory of the configuration. Fails if an allocation fails.
-    pub fn excludes(&self, alloc: Global, path: &str) -> Result<bool, AllocError> {
+    pub fn excludes(&self, alloc: Global, path: &str) -> Result<bool, AllocError>
+        ensures { IfOk result (λ found. found ≡ spec.excludes (spec.config self.now) path.now) }
+    {
         let patterns = self.excludes.as_slice();
-        for (at, byte) in path.as_bytes().iter().enumerate() {
-            if *byte != b'/' {
-                continue;
-            }
-            let Some(above) = path.get(..at) else {
-                continue;
-            };
-            if last_match(alloc, patterns, above, true)? == Some(true) {
+        for at in 0..path.len() {
+            if selects_above(alloc, patterns, path, at)? {
                 return Ok(true);
             }
         }
-        Ok(last_match(alloc, patterns, path, false)? == Some(true))
+        Ok(last_match(alloc, patterns, path, false)?.unwrap_or(false))
     }
 }

@@ -1,4 +1,7 @@
 //! Paths of files and directories.
+ghost use Rattle.std.specs.Prelude.{◌≡◌, option_map};
+ghost use Rattle.toml_span_config.specs.Sources as spec;
+
 use std::alloc::{AllocError, Global};
 
 /// Appends the parts of a path. The part `..` removes the last part instead, `.` and empty parts are left out.
@@ -39,8 +42,24 @@ pub(crate) fn above(path: &str) -> Option<&str> {
 
 /// Returns the part of `path` below the directory `folder`, or `None` if it is not below. Both are as `absolute` returns
 /// them.
-pub(crate) fn below<'t>(folder: &str, path: &'t str) -> Option<&'t str> {
-    path.strip_prefix(folder)?.strip_prefix('/')
+pub(crate) fn below<'t>(folder: &str, path: &'t str) -> Option<&'t str>
+    ensures { option_map (λ rest. rest.now) result ≡ spec.below folder.now path.now }
+{
+    match path.strip_prefix(folder) {
+        Some(rest) => rest.strip_prefix('/'),
+        None => None,
+    }
+}
+
+/// Returns the part of `path` below the directory `folder`, or the whole path if it is not below. Both are as `absolute`
+/// returns them.
+pub(crate) fn inside<'t>(folder: &str, path: &'t str) -> &'t str
+    ensures { result.now ≡ spec.inside folder.now path.now }
+{
+    match below(folder, path) {
+        Some(inside) => inside,
+        None => path,
+    }
 }
 
 /// Returns what to write before a path that is relative to the directory `folder`, so that it is relative to the

@@ -1,7 +1,10 @@
 //! Finds and reads the configuration files of files.
+ghost use Rattle.std.specs.Prelude.{◌≡◌, IfOk, map, option_map};
+ghost use Rattle.toml_span_config.specs.Sources as spec;
+
 use crate::config::Config;
 use crate::layers::{Layer, Settings};
-use crate::paths::{above, absolute, below, front};
+use crate::paths::{above, absolute, front, inside};
 use std::alloc::{AllocError, Global};
 use std::collections::BTreeMap;
 use std::{env, fs, io};
@@ -247,21 +250,31 @@ impl Sources {
         Ok(self.found(alloc, at, path)?)
     }
 
-    /// Returns the settings for the file at `path`, an absolute path, by the configuration file at the position `at`, if
-    /// there is one.
-    fn found(&self, alloc: Global, at: Option<usize>, path: &str) -> Result<Found, AllocError> {
-        let source = match at {
+    /// Returns the configuration file at the position `at`, if there is one.
+    fn source_at(&self, at: Option<usize>) -> Option<&Source>
+        ensures { option_map (λ s. spec.source s.now) result
+            ≡ spec.source_at (map spec.source self.now.list.items) at }
+    {
+        match at {
             Some(at) => self.list.get(at),
             None => None,
-        };
-        let Some(source) = source else {
+        }
+    }
+
+    /// Returns the settings for the file at `path`, an absolute path, by the configuration file at the position `at`, if
+    /// there is one.
+    fn found(&self, alloc: Global, at: Option<usize>, path: &str) -> Result<Found, AllocError>
+        ensures { IfOk result (λ found. found
+            ≡ spec.found (map spec.source self.now.list.items) self.now.arguments at path.now) }
+    {
+        let Some(source) = self.source_at(at) else {
             return Ok(Found {
                 settings: self.arguments.settled(),
                 source: None,
                 is_excluded: false,
             });
         };
-        let inside = below(source.folder.as_str(), path).unwrap_or(path);
+        let inside = inside(source.folder.as_str(), path);
         Ok(Found {
             settings: source.config.settings_for(alloc, self.arguments, inside)?,
             source: at,
@@ -278,11 +291,7 @@ impl Sources {
     ) -> Result<Found, Stop<String>> {
         let base = String::from_str(alloc, self.base.as_str())?;
         let at = self.source_of(alloc, host, base.as_str())?;
-        let source = match at {
-            Some(at) => self.list.get(at),
-            None => None,
-        };
-        let settings = match source {
+        let settings = match self.source_at(at) {
             Some(source) => source.config.general_settings(self.arguments),
             None => self.arguments.settled(),
         };
@@ -296,10 +305,8 @@ impl Sources {
     /// Returns the path or URL of the schema for a file with these settings, or `None` without one. A path is relative
     /// to the current directory.
     pub fn schema_of(&self, alloc: Global, found: &Found) -> Result<Option<String>, AllocError> {
-        let (Some(source), Some(schema)) = (found.source, found.settings.schema) else {
-            return Ok(None);
-        };
-        let Some(source) = self.list.get(source) else {
+        let (Some(source), Some(schema)) = (self.source_at(found.source), found.settings.schema)
+        else {
             return Ok(None);
         };
         let Some(entry) = source.config.files.get(schema.value) else {

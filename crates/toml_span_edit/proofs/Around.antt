@@ -1,5 +1,5 @@
 -- Texts that are the same around a span, and where a value is written.
-use Rattle.toml_span_lex.proofs.Common.{arith, ap, ◌∙◌, drop-drop, take-append-drop, ◌≡◌, ◌≤◌, ℕ, ◌+◌, ◌-◌, List, [], ◌∷◌, ◌++◌, take, drop, length, map, get_or, Bor, Option, Some, slice_range, refl, sym, subst}
+use Rattle.toml_span_lex.proofs.Common.{arith, ap, ◌∙◌, drop-drop, take-append-drop, ◌≡◌, ◌≤◌, ℕ, ◌+◌, ◌-◌, List, [], ◌∷◌, ◌++◌, take, drop, length, map, get_or, Bor, Option, Some, slice_range, refl, sym}
 use Rattle.std.proofs.lemmas.List.{take_all}
 use Rattle.toml_span_lex.specs.declared.span.Span.{Span}
 use Rattle.toml_span_tree.specs.Node.{Node}

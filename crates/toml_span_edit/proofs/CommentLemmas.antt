@@ -1,5 +1,5 @@
 -- Comments that are among others.
-use Rattle.toml_span_lex.proofs.Common.{◌≡◌, ◌<◌, ◌≤◌, ◌∙◌, ℕ, zero, suc, refl, ◌+◌, List, [], ◌∷◌, Bor, Bool, true, false, ap, arith, nat_tests, common_steps, drop, get_or, length, map, sym, if◌then◌else◌}
+use Rattle.toml_span_lex.proofs.Common.{◌≡◌, ◌<◌, ◌≤◌, ℕ, zero, suc, refl, ◌+◌, List, [], ◌∷◌, Bor, true, false, arith, nat_tests, common_steps, drop, get_or, length, map}
 use Rattle.std.proofs.lemmas.List.{drop_more, drop_all}
 use Rattle.std.proofs.Math.Dec.{leb}
 use Rattle.std.specs.Str.{bytes_eq}

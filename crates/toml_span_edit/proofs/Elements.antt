@@ -3,7 +3,6 @@ use Rattle.toml_span_lex.proofs.Common.{arith, nat_tests, common_steps, ◌≡�
 use Rattle.toml_span_tree.specs.declared.value.Value.{Value}
 use Rattle.toml_span_tree.specs.Value.{items_view}
 use Rattle.toml_span_tree.specs.code.Pointer.{PositionIs}
-use Rattle.toml_span_tree.specs.Node.{Node}
 use Rattle.toml_span_edit.specs.Made.{at_position, items_but, item_gone, only_item}
 use Rattle.toml_span_edit.specs.Same.{same_items}
 

@@ -1,5 +1,5 @@
 -- Edits that are refused.
-use Rattle.toml_span_lex.proofs.Common.{arith, ◌≡◌, ◌<◌, ◌∙◌, inl, inr, sym, ap, ℕ, ◌+◌, List, ◌∷◌, ◌++◌, length, take, drop, drop_more, take-append-drop, get_or, map, false, Result, Ok, Err, IfErr, IfOk, String, Global, string_bytes, length-take-le}
+use Rattle.toml_span_lex.proofs.Common.{arith, ◌≡◌, ◌<◌, ◌∙◌, inl, inr, sym, ap, ℕ, ◌+◌, List, ◌∷◌, ◌++◌, length, take, drop, drop_more, take-append-drop, get_or, map, false, Result, Ok, Err, IfErr, IfOk, String, Global, string_bytes, length-take-le, Bor, subst}
 use Rattle.toml_span_lex.specs.declared.stop.Stop.{Stop}
 use Rattle.toml_span_lex.specs.declared.stop.Stop.TheVariants as stops
 use Rattle.toml_span_read.specs.Data.{depth_limit}
@@ -10,8 +10,9 @@ use Rattle.toml_span.specs.Parsing.{IsTree}
 use Rattle.toml_span_edit.specs.Edited.{EditsMade}
 use Rattle.toml_span_edit.specs.Kept.{Keeps}
 use Rattle.toml_span_edit.specs.Paths.{Path}
-use Rattle.toml_span_edit.specs.Refused.{AreRefused, IsFinished, IsOfResult, IsRefused, IsRefusedAt, IsRefusedChange, IsTrueReason, IsUnread, IsUnwritten, is_there}
+use Rattle.toml_span_edit.specs.Refused.{AreRefused, CannotMakeOver, IsFinished, IsOfResult, IsRefused, IsRefusedAt, IsRefusedChange, IsTrueReason, IsUnread, IsUnwritten, UnlessMemory, is_there}
 use Rattle.toml_span_edit.specs.declared.edits.Change.{Change}
+use Rattle.toml_span_edit.specs.declared.edits.Change.TheVariants as changes
 use Rattle.toml_span_edit.specs.declared.edits.Edit.{Edit}
 use Rattle.toml_span_edit.specs.declared.edits.EditError.{EditError}
 use Rattle.toml_span_edit.specs.declared.reason.Reason.{Reason}
@@ -44,19 +45,34 @@ unwritten_refused change path n text new (stops.Fault reason) keeps h = of_resul
 -- a change that is refused is an edit that is refused
 pub change_refused : {A : Type 0} (e : Edit) (root : Value) (text : List ℕ) → IsTree text depth_limit root →
     (r : Result A (Stop Reason)) → IfErr r (IsRefusedChange e.change (map now_of e.path.now) (view root) text) →
-    IfErr r (IsRefused e text)
-change_refused e root text tree (Ok x) h = h
-change_refused e root text tree (Err (stops.Memory error)) h = h
-change_refused e root text tree (Err (stops.Fault reason)) h = inr (root, tree, h)
+    IfErr r (UnlessMemory (CannotMakeOver e.change (map now_of e.path.now) (view root) text)) → IfErr r (IsRefused e text)
+change_refused e root text tree (Ok x) h over = h
+change_refused e root text tree (Err (stops.Memory error)) h over = h
+change_refused e root text tree (Err (stops.Fault reason)) h over = inr (root, tree, h, over)
+
+-- a move does not write over a literal
+move_not_over : (change : Change) (target : Bor (List (Bor (List ℕ)))) (path : Path) (n : Node) (text : List ℕ) →
+    change ≡ changes.MoveTo target → CannotMakeOver change path n text
+move_not_over change target path n text is = subst (λ (c : Change). CannotMakeOver c path n text) (sym is) tt
+
+pub move_refused : {A : Type 0} (e : Edit) (target : Bor (List (Bor (List ℕ)))) (root : Value) (text : List ℕ) →
+    e.change ≡ changes.MoveTo target → IsTree text depth_limit root → (r : Result A (Stop Reason)) →
+    IfErr r (IsRefusedChange e.change (map now_of e.path.now) (view root) text) → IfErr r (IsRefused e text)
+move_refused e target root text is tree (Ok x) h = h
+move_refused e target root text is tree (Err (stops.Memory error)) h = h
+move_refused e target root text is tree (Err (stops.Fault reason)) h =
+    inr (root, tree, h, move_not_over e.change target (map now_of e.path.now) (view root) text is)
 
 pub unread_refused : (e : Edit) (text : List ℕ) (stop : Stop Reason) → IsUnread text stop → IsRefused e text stop
 unread_refused e text (stops.Memory error) h = h
 unread_refused e text (stops.Fault reason) h = inl h
 
--- an edit whose path names nothing
-pub nothing_refused : (e : Edit) (root : Value) (text : List ℕ) → IsTree text depth_limit root →
+-- a move whose path names nothing
+pub nothing_refused : (e : Edit) (target : Bor (List (Bor (List ℕ)))) (root : Value) (text : List ℕ) →
+    e.change ≡ changes.MoveTo target → IsTree text depth_limit root →
     is_there (map now_of e.path.now) (view root) ≡ false → IsRefused e text (stops.Fault reasons.Nothing)
-nothing_refused e root text tree h = inr (root, tree, h)
+nothing_refused e target root text is tree h =
+    inr (root, tree, h, move_not_over e.change target (map now_of e.path.now) (view root) text is)
 
 -- the edit at a position is refused after those before it are made
 pub edits_refused : (es : List Edit) (i : ℕ) (d : Edit) (text before : List ℕ) (stop : Stop EditError) →

@@ -1,5 +1,5 @@
 -- Edits that are made one after the other, and paths without their last segment.
-use Rattle.toml_span_lex.proofs.Common.{arith, ◌≡◌, ◌<◌, ◌≤◌, ℕ, ◌+◌, ◌-◌, List, [], ◌∷◌, ◌++◌, length, take, drop, take_more, get_or, map, map-append, refl, sym, ap, subst, ◌∙◌, Bor, Result, Ok, Err, IfOk, OnOk, ◌⊎◌, inl, inr, String, Global, string_bytes}
+use Rattle.toml_span_lex.proofs.Common.{arith, ◌≡◌, ◌<◌, ◌≤◌, ℕ, ◌+◌, ◌-◌, List, [], ◌∷◌, ◌++◌, length, take, take_more, get_or, map, map-append, refl, sym, ap, subst, ◌∙◌, Bor, Result, Ok, Err, IfOk, OnOk, ◌⊎◌, inl, inr, String, Global, string_bytes}
 use Rattle.std.proofs.lemmas.List.{take_all}
 use Rattle.toml_span_read.specs.Data.{depth_limit}
 use Rattle.toml_span_tree.specs.Node.{Node}

@@ -1,5 +1,5 @@
 -- What appending an edit to the list of edits does.
-use Rattle.std.specs.Prelude.{◌≡◌, List, [], ◌∷◌, ◌++◌, Result, Ok, Err}
+use Rattle.std.specs.Prelude.{◌≡◌, [], ◌∷◌, ◌++◌, Result, Ok, Err}
 use Rattle.std.specs.declared.alloc.AllocError.{AllocError}
 use Rattle.toml_span_edit.specs.declared.edits.Edit.{Edit}
 use Rattle.toml_span_edit.specs.declared.edits.Edits.{Edits}

@@ -5,7 +5,7 @@ use Rattle.std.specs.Borrow.{Bor}
 use Rattle.std.specs.Cow.{cow_str_bytes}
 use Rattle.std.specs.Str.{bytes_eq}
 use Rattle.toml_span_lex.specs.declared.key.Key.{Key}
-use Rattle.toml_span_tree.specs.Node.{Node, node, Inner, taken, scalar, array, table, Items, no_items, item, Members}
+use Rattle.toml_span_tree.specs.Node.{Node, Inner, array, table, Items, no_items, item, Members}
 use Rattle.toml_span_tree.specs.Node.{no_members, member, get_member, get_item}
 use Rattle.toml_span_tree.specs.Pointer.{position_of}
 use Rattle.toml_span_tree.specs.Value.{inner_of, members_view, view}

@@ -1,5 +1,6 @@
 -- Which edits are refused, and why.
-use Rattle.std.specs.Prelude.{◌≡◌, ⊤, ℕ, ◌⊎◌, List, [], ◌∷◌, ◌++◌, length, map, Bool, true, false, is_some}
+use Rattle.std.specs.Prelude.{◌≡◌, ⊤, ℕ, ◌⊎◌, List, [], ◌∷◌, ◌++◌, length, map, Bool, true, false, is_some, codes}
+use Rattle.std.specs.Prelude.{◌==◌, ◌&&◌}
 use Rattle.std.specs.Prelude.{option_and_then, Result, Ok, Err, String, string_bytes}
 use Rattle.std.specs.Global.{Global}
 use Rattle.toml_span_lex.specs.declared.stop.Stop.{Stop}
@@ -10,10 +11,12 @@ use Rattle.toml_span_tree.specs.Value.{inner_of, view}
 use Rattle.toml_span_tree.specs.declared.error.Error.{Error}
 use Rattle.toml_span_tree.specs.declared.value.Value.{Value}
 use Rattle.toml_span.specs.Parsing.{IsRefusal, IsTree}
+use Rattle.toml_span_places.specs.Literals.{literal_span}
 use Rattle.toml_span_edit.specs.Edited.{EditsMade}
-use Rattle.toml_span_edit.specs.Kept.{Keeps}
-use Rattle.toml_span_edit.specs.Made.{child, within}
+use Rattle.toml_span_edit.specs.Kept.{IsWrittenOver, Keeps}
+use Rattle.toml_span_edit.specs.Made.{at, child, within}
 use Rattle.toml_span_edit.specs.Paths.{Path, Splits, found}
+use Rattle.toml_span_edit.specs.Same.{same}
 use Rattle.toml_span_edit.specs.declared.edits.Change.{Change}
 use Rattle.toml_span_edit.specs.declared.edits.Change.TheVariants as changes
 use Rattle.toml_span_edit.specs.declared.edits.Edit.{Edit}
@@ -73,6 +76,46 @@ IsTrueReason (reasons.AlreadyThere s) change path n text = IsTaken change path n
 IsTrueReason (reasons.ResultInvalid s) change path n text = IsWrittenInvalid change path n text
 IsTrueReason _ change path n text = ⊤
 
+-- ---- edits that are not refused
+
+-- whether the literal of this value, which is in the tree of `probe`, begins after `v = ` and ends where `probe` ends
+abbrev pub is_alone : List ℕ → Node → Bool
+is_alone probe w = (literal_span probe w).start == 4 && (literal_span probe w).end == length probe
+
+-- Whether `given`, the tree of `probe`, has a value `v` with nothing around it, and the tree `k` is the tree `n` with
+-- this value at the path.
+abbrev pub is_set : List ℕ → Node → Path → Node → Node → Bool
+is_set probe given path n k =
+    within (λ w. is_alone probe w && at path (λ m. same w) n k) (child (codes "v") (inner_of given))
+
+-- `value` is not a TOML value with nothing around it, or the text `new` is not a document whose tree is `n` with this
+-- value at the path.
+abbrev pub IsNotSet : List ℕ → Path → Node → List ℕ → Type 0
+IsNotSet value path n new =
+    IsInvalid (codes "v = " ++ value)
+    ⊎ (IsInvalid new
+    ⊎ ((given root : Value) × IsTree (codes "v = " ++ value) depth_limit given × IsTree new depth_limit root
+    × (is_set (codes "v = " ++ value) (view given) path n (view root) ≡ false)))
+
+-- The value at the path is not set to `value` by writing `value` over its literal.
+abbrev pub CannotSetOver : List ℕ → Path → Node → List ℕ → Type 0
+CannotSetOver value path n text = (new : List ℕ) → IsWrittenOver value path n text new → IsNotSet value path n new
+
+-- The change is not made by writing its value over the literal at the path. Nothing is said of changes that do not
+-- replace a value.
+abbrev pub CannotMakeOver : Change → Path → Node → List ℕ → Type 0
+CannotMakeOver (changes.Set v) path n text = CannotSetOver v.now path n text
+CannotMakeOver (changes.Replace v) path n text = CannotSetOver v.now path n text
+CannotMakeOver (changes.SetOrAdd v) path n text = CannotSetOver v.now path n text
+CannotMakeOver _ path n text = ⊤
+
+-- P, unless an allocation failed
+abbrev pub UnlessMemory : Type 0 → Stop Reason → Type 0
+UnlessMemory P (stops.Memory e) = ⊤
+UnlessMemory P (stops.Fault reason) = P
+
+-- ---- refusals
+
 -- The text is not a document, and this reason says so.
 abbrev pub IsOfText : Reason → List ℕ → Type 0
 IsOfText (reasons.InvalidDocument fault) text = IsInvalid text
@@ -104,10 +147,11 @@ abbrev pub IsRefusedEdit : Edit → List ℕ → Reason → Type 0
 IsRefusedEdit e text reason =
     IsOfText reason text
     ⊎ ((root : Value) × IsTree text depth_limit root
-    × IsTrueReason reason e.change (map (λ s. s.now) e.path.now) (view root) text)
+    × IsTrueReason reason e.change (map (λ s. s.now) e.path.now) (view root) text
+    × CannotMakeOver e.change (map (λ s. s.now) e.path.now) (view root) text)
 
--- The edit of the text is refused: the text is not a document, or the reason is true of the edit. Or an allocation
--- failed.
+-- The edit of the text is refused: the text is not a document, or the reason is true of the edit, and writing its value
+-- over a literal does not make the edit either. Or an allocation failed.
 abbrev pub IsRefused : Edit → List ℕ → Stop Reason → Type 0
 IsRefused e text (stops.Memory error) = ⊤
 IsRefused e text (stops.Fault reason) = IsRefusedEdit e text reason

@@ -1,10 +1,10 @@
 -- Trees that are equal except for their spans.
-use Rattle.std.specs.Prelude.{ℕ, List, Bool, true, false, ◌&&◌, Option, Some, None, if◌then◌else◌}
+use Rattle.std.specs.Prelude.{Bool, true, false, ◌&&◌}
 use Rattle.std.specs.Ordering.{int_eq}
 use Rattle.std.specs.Bool.{beq}
 use Rattle.std.specs.Str.{bytes_eq}
 use Rattle.toml_span_tree.specs.Float.{float_text}
-use Rattle.toml_span_tree.specs.Node.{FloatValue, Scalar, text, integer, float, boolean, datetime, Node, node, Inner}
+use Rattle.toml_span_tree.specs.Node.{Scalar, text, integer, float, boolean, datetime, Node, node, Inner}
 use Rattle.toml_span_tree.specs.Node.{taken, scalar, array, table, Items, no_items, item, Members, no_members, member}
 
 -- whether two scalars are of the same kind and equal; floats and dates are compared by their texts

@@ -18,6 +18,7 @@ use crate::given::{no_value, probe_text};
 use crate::made::{Local, added, changed, child, value_at};
 use crate::reason::Reason;
 use crate::refusing::{check_new, check_target, confirmed};
+use crate::retrying::made_over;
 use crate::texts::{edited_text, moved_text, text_without};
 use std::alloc::{AllocError, Global};
 use toml_span::value::Value;
@@ -42,7 +43,10 @@ fn fault_text(alloc: Global, fault: &Error<'_>) -> Result<String, AllocError> {
 }
 
 /// Returns the tree of `text` or, if `text` is not valid TOML, its error as text, with line and column.
-fn tree<'t>(alloc: Global, text: &'t str) -> Result<Result<Value<'t>, String>, AllocError>
+pub(crate) fn tree<'t>(
+    alloc: Global,
+    text: &'t str,
+) -> Result<Result<Value<'t>, String>, AllocError>
     ensures tree { IfOk result (λ read. IfOk read (λ root. IsTree text.now depth_limit root)) }
     ensures invalid { IfOk result (λ read. OnErr read (refusals.IsInvalid text.now)) }
 {
@@ -414,9 +418,9 @@ fn proposed(
     edited_text(alloc, text, edit, old)
 }
 
-/// Returns `text` with `edit` made. `old` is the tree of `text`. Fails with a reason if `edit` is refused. Always
-/// refuses a move.
-fn edit_value(
+/// Returns the text that `proposed` returns for these arguments. Fails with a reason if that fails, or if its tree is
+/// not `old` with `edit` made. Always refuses a move.
+fn checked(
     alloc: Global,
     text: &str,
     edit: Edit<'_>,
@@ -436,6 +440,35 @@ fn edit_value(
     match check_made(alloc, edit, old, new.as_str()) {
         Ok(()) => Ok(new),
         Err(stop) => Err(stop),
+    }
+}
+
+/// Returns `text` with `edit` made, as `checked` does or, if that fails, by writing the value over a literal. `old` is
+/// the tree of `text`. Fails with a reason if `edit` is refused. Always refuses a move.
+fn edit_value(
+    alloc: Global,
+    text: &str,
+    edit: Edit<'_>,
+    old: &Value<'_>,
+) -> Result<String, Stop<Reason>>
+    ensures made { IfOk result (λ new. spec.IsMade edit.entry.change (map (λ s. s.now) edit.entry.path.now)
+        (view old.now) (string_bytes new)) }
+    ensures kept { IfOk result (λ new. kept.Keeps edit.entry.change (map (λ s. s.now) edit.entry.path.now)
+        (view old.now) text.now (string_bytes new)) }
+    ensures refused { IfErr result (refusals.IsRefusedChange edit.entry.change (map (λ s. s.now) edit.entry.path.now)
+        (view old.now) text.now) }
+    ensures over { IfErr result (refusals.UnlessMemory (refusals.CannotMakeOver edit.entry.change
+        (map (λ s. s.now) edit.entry.path.now) (view old.now) text.now)) }
+{
+    let reason = match checked(alloc, text, edit, old) {
+        Ok(new) => return Ok(new),
+        Err(Stop::Memory(error)) => return Err(Stop::Memory(error)),
+        Err(Stop::Fault(reason)) => reason,
+    };
+    match made_over(alloc, text, edit, old) {
+        Ok(Some(new)) => Ok(new),
+        Ok(None) => Err(Stop::Fault(reason)),
+        Err(error) => Err(Stop::Memory(error)),
     }
 }
 

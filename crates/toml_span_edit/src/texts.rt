@@ -11,6 +11,7 @@ use crate::edits::{Change, Edit};
 use crate::given::check_value;
 use crate::growing::{append, insert};
 use crate::headed::element_text;
+use crate::inlined::inline_text;
 use crate::items::{Item, bare};
 use crate::kept::{keeps_around, only_comments};
 use crate::lines::comments_above;
@@ -29,7 +30,7 @@ use crate::setting::{Written, how_written, renamed_text, set_text, write_over};
 use std::alloc::Global;
 use toml_span::value::Value;
 use toml_span::{Span, Stop};
-use toml_span_places::{section_lines, to_toml};
+use toml_span_places::section_lines;
 
 // ---- what is inserted
 
@@ -545,7 +546,7 @@ fn table_text(
 {
     let alloc = document.alloc;
     let Some(site) = site_of(document, without, path, target, value.as_table().is_some())? else {
-        let text = to_toml(alloc, value)?;
+        let text = inline_text(document, path, value)?;
         let (above, note) = header_comments(document, path)?;
         let value = text.as_str();
         return put_text(alloc, without, target, Item { above, value, note });

@@ -2,4 +2,5 @@ pub mod DiagnosticLemmas
 pub mod EditLemmas
 pub mod PositionLemmas
 pub mod RoundTrip
+mod PartLemmas
 mod PartialLemmas

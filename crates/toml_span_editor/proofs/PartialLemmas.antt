@@ -1,11 +1,19 @@
 -- Reports that are certain, one after the other.
-use Rattle.toml_span_lex.proofs.Common.{◌≡◌, ◌∙◌, ap, sym, refl, map, map-append, append_assoc, ℕ, Bool, true, false, List, [], ◌∷◌, ◌++◌, if◌then◌else◌}
+use Rattle.toml_span_lex.proofs.Common.{◌≡◌, ◌∙◌, ap, inl, inr, subst, sym, refl, map, map-append, append_assoc, ℕ, Bool, true, false, List, [], ◌∷◌, ◌++◌, if◌then◌else◌}
 use Rattle.std.specs.List.{list_any}
 use Rattle.std.specs.Str.{bytes_eq}
 use Rattle.toml_span_report.specs.Report.{ReportContent, report_content}
 use Rattle.toml_span_report.specs.declared.report.Report.{Report}
 use Rattle.toml_span_editor.specs.Labels.{main_span}
-use Rattle.toml_span_editor.specs.Partial.{certain, is_doubted, with_certain}
+use Rattle.toml_span.specs.Parsing.{IsTree}
+use Rattle.toml_span_check.specs.Schemas.{Says}
+use Rattle.toml_span_check.specs.declared.schemas.Chooser.{Chooser}
+use Rattle.toml_span_read.specs.Data.{depth_limit}
+use Rattle.toml_span_tree.specs.Value.{view}
+use Rattle.toml_span_editor.specs.Documents.{IsNoDocument, IsRead, IsReadable}
+use Rattle.toml_span_editor.specs.Partial.{ArePartialReports, certain, certain_codes, doubts, is_doubted, with_certain}
+use Rattle.toml_span_editor.specs.declared.document.Document.{Document}
+use Rattle.toml_span_editor.specs.declared.document.Part.{Part}
 use Rattle.toml_span_editor.specs.declared.partial.Doubt.{Doubt}
 
 either_way : (doubted : Bool) (kept rest : List ReportContent) (report : ReportContent) →
@@ -28,3 +36,16 @@ with-one sure doubts kept new report sound is =
     ap (map report_content) is
     ∙ map-append report_content kept (report ∷ [])
     ∙ sym (ap (λ b. if b then old else old ++ report_content report ∷ []) sound)
+
+-- the reports of the schema on what can be read, without those that are doubted
+pub partial_of : (says : Says) (chooser : Chooser) (name text : List ℕ) (parts : List Part) (kept one other : List ℕ) (document : Document) (found reports : List ReportContent) (complaint : List ℕ) →
+    IsReadable text parts kept → one ≡ kept → other ≡ kept → IsRead one document → says chooser name other (view document.root) found complaint →
+    reports ≡ certain certain_codes (doubts parts) found → ArePartialReports says chooser name text reports
+partial_of says chooser name text parts kept one other document found reports complaint readable first second read said is =
+    (parts, kept, readable, inr (document.root, found, complaint, subst (λ (t : List ℕ). IsTree t depth_limit document.root) first read.tree, subst (λ (t : List ℕ). says chooser name t (view document.root) found complaint) second said, is))
+
+-- no reports, since what can be read is not a document
+pub none_of : (says : Says) (chooser : Chooser) (name text : List ℕ) (parts : List Part) (kept one : List ℕ) (reports : List ReportContent) →
+    IsReadable text parts kept → one ≡ kept → IsNoDocument one → reports ≡ [] → ArePartialReports says chooser name text reports
+none_of says chooser name text parts kept one reports readable is none empty =
+    (parts, kept, readable, inl (subst IsNoDocument is none, empty))

@@ -75,7 +75,7 @@ fn push_sections(
 ) -> Result<(), AllocError> {
     let mut section = Span { start: 0, end: 0 };
     for statement in statements {
-        let own = span_of(pieces, *statement);
+        let own = span_of(text, pieces, *statement);
         match statement.kind {
             StatementKind::Blank => (),
             StatementKind::Header => {

@@ -1,18 +1,16 @@
 //! Checks a text with errors against its schema, as far as the text can be read.
-ghost use Rattle.std.specs.Prelude.{◌≡◌, ◌&&◌, IfOk, OnOk, map, nat_le, nat_lt};
+ghost use Rattle.std.specs.Prelude.{◌≡◌, ◌∷◌, ◌++◌, [], IfOk, OnOk, map};
 ghost use Rattle.std.specs.List.{list_any};
 ghost use Rattle.std.specs.Str.{bytes_eq};
 ghost use Rattle.toml_span_report.specs.Report.{report_content};
 ghost use Rattle.toml_span_editor.specs.Partial as spec;
 
-use crate::document::{read, readable};
-use crate::spans::{main_span, span_of};
+use crate::document::{Part, read, read_parts};
+use crate::spans::main_span;
 use std::alloc::{AllocError, Global};
 use toml_span_check::schemas::{Chooser, Schemas};
 use toml_span_lex::span::Span;
 use toml_span_report::Report;
-use toml_span_syntax::pieces::{Kind, Piece, pieces};
-use toml_span_syntax::statements::{Statement, statements};
 
 /// The codes of reports that only depend on a value or key that is written, not on what else is written.
 const CERTAIN: [&str; 19] = [
@@ -37,55 +35,71 @@ const CERTAIN: [&str; 19] = [
     "schema-unique-items",
 ];
 
-/// A part of a text in which something can't be read.
+/// A section of a text, and what is in doubt about its table.
 #[derive(Clone, Copy)]
 pub(crate) struct Doubt {
+    /// The span of the section: a header, or the start of the text, and the statements before the next header.
     span: Span,
-    /// Whether the table of the part is not known. Otherwise, the table may have more keys than can be read.
+    /// Whether the header can't be read, so that the table is not known.
     is_unknown: bool,
+    /// Whether some statement can't be read, so that the table may have more keys.
+    is_partial: bool,
 }
 
-/// Returns whether a statement begins with `[`, as a header does.
-fn is_header(pieces: &[Piece], statement: Statement) -> bool {
-    for piece in pieces.get(statement.first..statement.end).unwrap_or(&[]) {
-        if piece.kind != Kind::Blank {
-            return piece.kind == Kind::Mark(b'[');
-        }
+/// Returns a section that consists of the header `part` so far.
+fn begun(part: Part) -> Doubt
+    ensures { result ≡ spec.begun part }
+{
+    Doubt {
+        span: part.span,
+        is_unknown: !part.is_kept,
+        is_partial: !part.is_kept,
     }
-    false
 }
 
-/// Returns the sections of `text` with statements that are not in `kept`, the text without what can't be read. If the
-/// header of a section is not, the table of the section is not known, and any table may have more keys.
-fn doubts(alloc: Global, text: &str, kept: &str) -> Result<Vec<Doubt>, AllocError> {
-    let pieces = pieces(alloc, text)?;
+/// Returns `section` with the statement `part` added.
+fn extended(section: Doubt, part: Part) -> Doubt
+    ensures { result ≡ spec.extended section part }
+{
+    Doubt {
+        span: Span {
+            start: section.span.start,
+            end: part.span.end,
+        },
+        is_unknown: section.is_unknown,
+        is_partial: section.is_partial || !part.is_kept,
+    }
+}
+
+/// Appends `section` if some statement of it can't be read.
+fn push_partial(found: &mut Vec<Doubt>, section: Doubt) -> Result<(), AllocError>
+    ensures { OnOk result (found.new.items ≡ found.old.items ++ spec.partial (section ∷ [])) }
+{
+    if section.is_partial {
+        found.push(section)?;
+    }
+    Ok(())
+}
+
+/// Returns the sections with statements that can't be read, in a text with the statements `parts`.
+fn doubts(alloc: Global, parts: &[Part]) -> Result<Vec<Doubt>, AllocError>
+    ensures { IfOk result (λ found. found.items ≡ spec.doubts parts.now) }
+{
     let mut found = Vec::new(alloc);
-    let mut span = Span { start: 0, end: 0 };
-    let (mut is_unknown, mut is_doubtful) = (false, false);
-    for statement in &statements(alloc, pieces.as_slice())? {
-        let own = span_of(pieces.as_slice(), *statement);
-        let is_kept = text.get(own.start..own.end) == kept.get(own.start..own.end);
-        if is_header(pieces.as_slice(), *statement) {
-            if is_doubtful {
-                found.push(Doubt { span, is_unknown })?;
-            }
-            span.start = own.start;
-            is_unknown = !is_kept;
-            is_doubtful = false;
+    let mut section = Doubt {
+        span: Span { start: 0, end: 0 },
+        is_unknown: false,
+        is_partial: false,
+    };
+    for part in parts {
+        if part.is_header {
+            push_partial(&mut found, section)?;
+            section = begun(*part);
+        } else {
+            section = extended(section, *part);
         }
-        span.end = own.end;
-        is_doubtful = is_doubtful || !is_kept;
     }
-    if is_doubtful {
-        found.push(Doubt { span, is_unknown })?;
-    }
-    if found.iter().any(|doubt| doubt.is_unknown) {
-        let end = text.len().saturating_add(1);
-        found.push(Doubt {
-            span: Span { start: 0, end },
-            is_unknown: false,
-        })?;
-    }
+    push_partial(&mut found, section)?;
     Ok(found)
 }
 
@@ -101,13 +115,21 @@ fn is_among(code: &str, codes: &[&str]) -> bool
     false
 }
 
-/// Returns whether a report with this place, whose code is among the certain ones if `is_certain` is set, may be wrong.
+/// Returns whether a report at the offset `place` may be wrong because of what is in doubt about a section. `is_certain`
+/// says whether its code is among the certain ones.
+fn is_doubted_by(doubt: Doubt, place: usize, is_certain: bool) -> bool
+    ensures { result ≡ spec.is_doubted_by place is_certain doubt }
+{
+    let is_inside = doubt.span.start <= place && place < doubt.span.end;
+    (is_inside && doubt.is_unknown) || ((is_inside || doubt.is_unknown) && !is_certain)
+}
+
+/// Returns whether `is_doubted_by` is true for any of `doubts`.
 fn is_doubted(doubts: &[Doubt], place: usize, is_certain: bool) -> bool
     ensures { result ≡ spec.is_doubted place is_certain doubts.now }
 {
     for doubt in doubts {
-        let is_inside = doubt.span.start <= place && place < doubt.span.end;
-        if is_inside && (doubt.is_unknown || !is_certain) {
+        if is_doubted_by(*doubt, place, is_certain) {
             return true;
         }
     }
@@ -165,11 +187,11 @@ pub(crate) fn partial_reports<S: Schemas>(
     ensures { IfOk result (λ found. spec.ArePartialReports S.says chooser name.now text.now
         (map report_content found.items)) }
 {
-    let kept = readable(alloc, text)?;
-    let Some(document) = read(alloc, kept.as_str())? else {
+    let kept = read_parts(alloc, text)?;
+    let Some(document) = read(alloc, kept.text.as_str())? else {
         return Ok(Vec::new(alloc));
     };
-    let made = schemas.check(alloc, chooser, name, kept.as_str(), &document.root)?;
-    let doubts = doubts(alloc, text, kept.as_str())?;
+    let made = schemas.check(alloc, chooser, name, kept.text.as_str(), &document.root)?;
+    let doubts = doubts(alloc, kept.parts.as_slice())?;
     certain(alloc, made.reports, doubts.as_slice(), &CERTAIN)
 }

@@ -1,26 +1,68 @@
-//! Compares and joins spans.
-ghost use Rattle.std.specs.Prelude.{◌≡◌, ◌&&◌, map, min, max, nat_le};
+//! Finds the spans of statements, and compares and joins spans.
+ghost use Rattle.std.specs.Prelude.{◌≡◌, ◌&&◌, map, min, max, nat_le, slice_range};
+ghost use Rattle.std.specs.Str.{IsCharBoundary};
+ghost use Rattle.toml_span_check.specs.Statements.{begins_section, lines_of, offset_of, own_pieces};
 ghost use Rattle.toml_span_editor.specs.Labels as spec;
 ghost use Rattle.toml_span_tree.specs.Diagnostic.{label_content};
 
 use toml_span_lex::span::Span;
-use toml_span_syntax::pieces::Piece;
+use toml_span_syntax::pieces::{Kind, Piece};
 use toml_span_syntax::statements::Statement;
 use toml_span_tree::Label;
 
-/// Returns the span of a statement, including its line end.
-pub(crate) fn span_of(pieces: &[Piece], statement: Statement) -> Span {
-    match pieces.get(statement.first..statement.end) {
-        Some([one]) => Span {
-            start: one.start,
-            end: one.end,
-        },
-        Some([first, .., last]) => Span {
-            start: first.start,
-            end: last.end,
-        },
-        _ => Span { start: 0, end: 0 },
+/// Returns the offset of the piece at the position `index`, or the length of the text after the last piece.
+fn offset_of(text: &str, pieces: &[Piece], index: usize) -> usize
+    ensures { result ≡ offset_of text.now pieces.now index }
+{
+    match pieces.get(index) {
+        Some(piece) => piece.start,
+        None => text.len(),
     }
+}
+
+/// Returns the span of a statement, including its line end. `pieces` are the pieces of `text`.
+pub(crate) fn span_of(text: &str, pieces: &[Piece], statement: Statement) -> Span
+    ensures { result ≡ lines_of text.now pieces.now statement }
+{
+    Span {
+        start: offset_of(text, pieces, statement.first),
+        end: offset_of(text, pieces, statement.end),
+    }
+}
+
+/// Returns the pieces of a statement.
+fn own_pieces(pieces: &[Piece], statement: Statement) -> &[Piece]
+    ensures { result.now ≡ own_pieces pieces.now statement }
+{
+    let end = statement.end.min(pieces.len());
+    if statement.first < end {
+        &pieces[statement.first..end]
+    } else {
+        &[]
+    }
+}
+
+/// Returns whether a statement begins with `[`, after blanks: whether it is a header, perhaps one that can't be read.
+pub(crate) fn begins_section(pieces: &[Piece], statement: Statement) -> bool
+    ensures { result ≡ begins_section pieces.now statement }
+{
+    match own_pieces(pieces, statement) {
+        [first, second, ..] if matches!(first.kind, Kind::Blank | Kind::ByteOrderMark) => matches!(
+            second.kind,
+            Kind::Mark(b'[')
+        ),
+        [first, ..] => matches!(first.kind, Kind::Mark(b'[')),
+        [] => false,
+    }
+}
+
+/// Returns the text in a span. The span is empty if its end is before its start.
+pub(crate) fn text_in(text: &str, span: Span) -> &str
+    requires start { IsCharBoundary text.now span.start }
+    requires end { IsCharBoundary text.now span.end }
+    ensures { result.now ≡ slice_range text.now span.start span.end }
+{
+    &text[span.start..span.end.max(span.start)]
 }
 
 /// Returns the shortest span that contains both spans.
@@ -41,7 +83,9 @@ pub(crate) fn touches(span: Span, at: usize) -> bool
 }
 
 /// Returns whether the span `outer` contains the span `inner`.
-pub(crate) fn contains(outer: Span, inner: Span) -> bool {
+pub(crate) fn contains(outer: Span, inner: Span) -> bool
+    ensures { result ≡ (nat_le outer.start inner.start && nat_le inner.end outer.end) }
+{
     outer.start <= inner.start && inner.end <= outer.end
 }
 

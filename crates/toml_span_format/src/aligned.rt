@@ -29,6 +29,8 @@ pub(crate) struct Comments {
     groups: Vec<Group>,
     /// Whether the next comment begins a group.
     is_apart: bool,
+    /// Whether an allocation has failed. Comments may be missing then.
+    has_failed: bool,
 }
 
 impl Comments {
@@ -38,6 +40,7 @@ impl Comments {
             list: Vec::new(alloc),
             groups: Vec::new(alloc),
             is_apart: true,
+            has_failed: false,
         }
     }
 
@@ -48,13 +51,7 @@ impl Comments {
 
     /// Adds a comment, which begins at the offset `start` of the document `text`. In the output, the space before it is
     /// at the offset `at`, and it begins in `column`.
-    pub(crate) fn push(
-        &mut self,
-        text: &str,
-        start: usize,
-        at: usize,
-        column: usize,
-    ) -> Result<(), AllocError> {
+    pub(crate) fn push(&mut self, text: &str, start: usize, at: usize, column: usize) {
         let before = text.get(..start).unwrap_or("");
         let old = columns(before.rsplit_once('\n').map_or(before, |(_, line)| line));
         let is_next = match self.list.last() {
@@ -66,25 +63,32 @@ impl Comments {
                 group.column = group.column.max(column);
                 group.has_several = true;
             }
-            _ => self.groups.push(Group {
-                column: old.max(column),
-                has_several: false,
-            })?,
+            _ => {
+                let column = old.max(column);
+                let group = Group {
+                    column,
+                    has_several: false,
+                };
+                self.has_failed = self.groups.push(group).is_err() || self.has_failed;
+            }
         }
         self.is_apart = false;
         let group = self.groups.len().saturating_sub(1);
-        self.list.push(Comment {
+        let comment = Comment {
             at,
             column,
             old,
             group,
-        })?;
-        Ok(())
+        };
+        self.has_failed = self.list.push(comment).is_err() || self.has_failed;
     }
 }
 
 /// Returns the output with spaces before comments, so that all comments of a group begin in its column.
 pub(crate) fn aligned(alloc: Global, out: &str, comments: &Comments) -> Result<String, AllocError> {
+    if comments.has_failed {
+        return Err(AllocError);
+    }
     let mut new = String::new(alloc);
     let mut written = 0;
     for comment in comments.list.as_slice() {

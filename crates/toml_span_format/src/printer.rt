@@ -25,7 +25,7 @@ struct Frame {
     reserved: usize,
 }
 
-/// The output so far, and the open arrays and inline tables. If an allocation fails, the output is dropped.
+/// The output so far, and the open arrays and inline tables.
 #[derive(Drop)]
 struct Printer<'t> {
     text: &'t str,
@@ -50,6 +50,8 @@ struct Printer<'t> {
     is_last: bool,
     /// The comments at the ends of lines, if they are to stay aligned.
     comments: Comments,
+    /// Whether an allocation has failed. Parts of the output may be missing then.
+    has_failed: bool,
 }
 
 /// Returns whether these items, which follow an element, have no other element of the same array or inline table.
@@ -61,32 +63,36 @@ fn ends_list(items: &[Item<'_>]) -> bool {
 }
 
 impl Printer<'_> {
+    /// Writes `text`.
+    fn write(&mut self, text: &str) {
+        self.has_failed = self.out.push_str(text).is_err() || self.has_failed;
+    }
+
     /// Writes a line end.
-    fn end_line(&mut self) -> Result<(), AllocError> {
-        self.out.push_str(self.line_end)?;
+    fn end_line(&mut self) {
+        let line_end = self.line_end;
+        self.write(line_end);
         self.counted = self.out.len();
         self.column = 0;
-        Ok(())
     }
 
     /// Writes blank lines, as many as the options allow.
-    fn blank_lines(&mut self, count: usize) -> Result<(), AllocError> {
+    fn blank_lines(&mut self, count: usize) {
         self.comments.end_group();
         for _ in 0..count.min(self.options.blank_lines).max(1) {
-            self.end_line()?;
+            self.end_line();
         }
-        Ok(())
     }
 
     /// Ends the current line, and begins a new one with its indentation. For `BlankLines`, writes blank lines between
     /// the two, unless the new line is the first inside an array or inline table. At the start of the output, no line
     /// is ended.
-    fn begin_line(&mut self, gap: Gap) -> Result<(), AllocError> {
+    fn begin_line(&mut self, gap: Gap) {
         if self.is_begun {
-            self.end_line()?;
+            self.end_line();
             match gap {
-                Gap::BlankLines(count) if !self.is_after_open => self.blank_lines(count)?,
-                _ => (),
+                Gap::BlankLines(count) if !self.is_after_open => self.blank_lines(count),
+                _ => {}
             }
         }
         self.is_begun = true;
@@ -94,9 +100,8 @@ impl Printer<'_> {
         self.is_after_comment = false;
         // (at most the width, so that deep nesting does not make the output grow without limit)
         for _ in 0..self.spaces.min(self.options.width) {
-            self.out.push(' ')?;
+            self.write(" ");
         }
-        Ok(())
     }
 
     /// Returns the number of columns of the current line so far.
@@ -109,43 +114,44 @@ impl Printer<'_> {
 
     /// Begins an element of the innermost open array or inline table: on a new line, or on the same line, with a comma
     /// after the previous element. Does nothing if no array or inline table is open.
-    fn begin_element(&mut self, gap: Gap) -> Result<(), AllocError> {
+    fn begin_element(&mut self, gap: Gap) {
         let Some(frame) = self.open.last_mut() else {
-            return Ok(());
+            return;
         };
         let is_first = frame.is_empty;
         frame.is_empty = false;
         match frame.mode {
             Mode::Lines => self.begin_line(gap),
-            _ if !is_first => self.out.push_str(", "),
-            _ if frame.is_table => self.out.push(' '),
-            _ => Ok(()),
+            _ if !is_first => self.write(", "),
+            _ if frame.is_table => self.write(" "),
+            _ => {}
         }
     }
 
     /// Continues the line, after the text `between`. After a comment, begins a new line instead.
-    fn go_on(&mut self, between: &str) -> Result<(), AllocError> {
+    fn go_on(&mut self, between: &str) {
         if self.is_after_comment {
-            self.begin_line(Gap::NextLine)
+            self.begin_line(Gap::NextLine);
         } else {
-            self.out.push_str(between)
+            self.write(between);
         }
     }
 
     /// Begins a value. After an equals sign, the value continues the line; otherwise it is an element
     /// (`begin_element`).
-    fn begin_value(&mut self, gap: Gap) -> Result<(), AllocError> {
+    fn begin_value(&mut self, gap: Gap) {
         if self.is_after_equals {
             self.is_after_equals = false;
-            return self.go_on(" ");
+            self.go_on(" ");
+            return;
         }
-        self.begin_element(gap)
+        self.begin_element(gap);
     }
 
     /// Ends an element of the innermost open array or inline table. Writes a comma if each element has its own line.
-    fn end_element(&mut self) -> Result<(), AllocError> {
+    fn end_element(&mut self) {
         if self.is_last {
-            return Ok(());
+            return;
         }
         match self.open.last() {
             Some(
@@ -153,47 +159,47 @@ impl Printer<'_> {
                     mode: Mode::Lines,
                     ..
                 },
-            ) => self.out.push(','),
-            _ => Ok(()),
+            ) => self.write(","),
+            _ => {}
         }
     }
 
     /// Prints a comment, on its own line or at the end of the current line.
-    fn comment(&mut self, item: &Item<'_>) -> Result<(), AllocError> {
+    fn comment(&mut self, item: &Item<'_>) {
         if item.is_own_comment() {
-            self.begin_line(item.gap)?;
+            self.begin_line(item.gap);
         } else {
             if self.options.aligns_comments {
                 let column = self.column().saturating_add(1);
-                self.comments
-                    .push(self.text, item.start, self.out.len(), column)?;
+                let at = self.out.len();
+                self.comments.push(self.text, item.start, at, column);
             }
-            self.out.push(' ')?;
+            self.write(" ");
         }
         self.is_after_comment = true;
-        self.out.push_str(item.text.trim_ascii_end())
+        self.write(item.text.trim_ascii_end());
     }
 
     /// Prints the first part of a key.
-    fn key(&mut self, item: &Item<'_>) -> Result<(), AllocError> {
+    fn key(&mut self, item: &Item<'_>) {
         if self.open.is_empty() {
-            self.begin_line(item.gap)?;
+            self.begin_line(item.gap);
         } else {
-            self.begin_element(item.gap)?;
+            self.begin_element(item.gap);
         }
-        self.out.push_str(item.text)
+        self.write(item.text);
     }
 
     /// Prints a string, number, date or boolean.
-    fn scalar(&mut self, item: &Item<'_>) -> Result<(), AllocError> {
-        self.begin_value(item.gap)?;
+    fn scalar(&mut self, item: &Item<'_>) {
+        self.begin_value(item.gap);
         let start = self.out.len();
-        self.out.push_str(item.text)?;
+        self.write(item.text);
         if let Some((lines, _)) = item.text.rsplit_once('\n') {
             self.counted = start.saturating_add(lines.len()).saturating_add(1);
             self.column = 0;
         }
-        self.end_element()
+        self.end_element();
     }
 
     /// Returns how to print an array or inline table of this form that begins in the current column.
@@ -218,8 +224,8 @@ impl Printer<'_> {
     }
 
     /// Prints an opening bracket or brace.
-    fn begin(&mut self, item: &Item<'_>, is_table: bool, form: Form) -> Result<(), AllocError> {
-        self.begin_value(item.gap)?;
+    fn begin(&mut self, item: &Item<'_>, is_table: bool, form: Form) {
+        self.begin_value(item.gap);
         let mode = self.mode_of(form);
         let outer = match self.open.last() {
             Some(frame) => frame.reserved,
@@ -233,45 +239,46 @@ impl Printer<'_> {
             }
             _ => outer.saturating_add(2),
         };
-        self.open.push(Frame {
+        let frame = Frame {
             mode,
             is_table,
             is_empty: true,
             reserved,
-        })?;
-        self.out.push_str(item.text)
+        };
+        self.has_failed = self.open.push(frame).is_err() || self.has_failed;
+        self.write(item.text);
     }
 
     /// Prints a closing bracket or brace.
-    fn close(&mut self, item: &Item<'_>) -> Result<(), AllocError> {
+    fn close(&mut self, item: &Item<'_>) {
         match self.open.pop() {
             Some(frame) if frame.mode == Mode::Lines => {
                 self.spaces = self.spaces.saturating_sub(self.options.indent);
-                self.begin_line(Gap::NextLine)?;
+                self.begin_line(Gap::NextLine);
             }
-            Some(frame) if frame.is_table && !frame.is_empty => self.out.push(' ')?,
-            _ => (),
+            Some(frame) if frame.is_table && !frame.is_empty => self.write(" "),
+            _ => {}
         }
-        self.out.push_str(item.text)?;
-        self.end_element()
+        self.write(item.text);
+        self.end_element();
     }
 
     /// Prints a item.
-    fn item(&mut self, item: &Item<'_>) -> Result<(), AllocError> {
+    fn item(&mut self, item: &Item<'_>) {
         match item.kind {
             Kind::Header => {
-                self.begin_line(item.gap)?;
-                self.out.push_str(item.text)
+                self.begin_line(item.gap);
+                self.write(item.text);
             }
             Kind::Key => self.key(item),
             Kind::Part => {
-                self.go_on("")?;
-                self.out.push_str(item.text)
+                self.go_on("");
+                self.write(item.text);
             }
             Kind::Equals => {
-                self.go_on(" ")?;
+                self.go_on(" ");
                 self.is_after_equals = true;
-                self.out.push_str("=")
+                self.write("=");
             }
             Kind::Scalar => self.scalar(item),
             Kind::OpenArray(form) => self.begin(item, false, form),
@@ -316,15 +323,19 @@ pub(crate) fn print(
         is_after_comment: false,
         is_last: false,
         comments: Comments::new(alloc),
+        has_failed: false,
     };
     for (at, item) in items.iter().enumerate() {
         if !options.has_trailing_comma && matches!(item.kind, Kind::Scalar | Kind::Close) {
             printer.is_last = ends_list(items.get(at.saturating_add(1)..).unwrap_or(&[]));
         }
-        printer.item(item)?;
+        printer.item(item);
     }
     if printer.is_begun {
-        printer.end_line()?;
+        printer.end_line();
+    }
+    if printer.has_failed {
+        return Err(AllocError);
     }
     if options.aligns_comments {
         return aligned(alloc, printer.out.as_str(), &printer.comments);

@@ -15,7 +15,7 @@ enum Place {
 }
 
 /// An array or inline table that has been opened and not closed.
-#[derive(Drop)]
+#[derive(Clone, Copy)]
 struct Frame {
     is_table: bool,
     /// The position of the item that opens the array or inline table.
@@ -62,7 +62,7 @@ impl Frame {
     }
 }
 
-/// The items read so far, and the open arrays and inline tables. If an allocation fails, all are dropped.
+/// The items read so far, and the open arrays and inline tables.
 #[derive(Drop)]
 struct Reader<'t> {
     text: &'t str,
@@ -79,20 +79,23 @@ struct Reader<'t> {
     /// Whether there is a comma on the current line, after the last item. A line with only a comma does not count as
     /// blank.
     has_comma: bool,
+    /// Whether an allocation has failed. Items may be missing then.
+    has_failed: bool,
 }
 
 impl<'t> Reader<'t> {
-    /// Returns an item that begins at the offset `start`, with the current gap before it. Starts a new gap.
-    fn item(&mut self, kind: Kind, text: &'t str, start: usize) -> Item<'t> {
+    /// Appends an item that begins at the offset `start` to `items`, with the current gap before it. Starts a new gap.
+    fn add(&mut self, kind: Kind, text: &'t str, start: usize) {
         let gap = self.gap;
         self.gap = Gap::SameLine;
         self.has_comma = false;
-        Item {
+        let item = Item {
             kind,
             text,
             start,
             gap,
-        }
+        };
+        self.has_failed = self.items.push(item).is_err() || self.has_failed;
     }
 
     /// Adds `by` columns to the innermost open array or inline table, if there is one.
@@ -141,21 +144,18 @@ impl<'t> Reader<'t> {
     }
 
     /// Appends a comment to `items`.
-    fn comment(&mut self, text: &'t str, start: usize) -> Result<(), AllocError> {
-        let item = self.item(Kind::Comment, text, start);
+    fn comment(&mut self, text: &'t str, start: usize) {
+        self.add(Kind::Comment, text, start);
         if let Some(frame) = self.open.last_mut() {
             frame.has_comment = true;
         }
-        self.items.push(item)?;
-        Ok(())
     }
 
     /// Appends the bracket that begins a header to `items`. Puts a blank line before the header and the comments
     /// directly above it, unless they begin the document.
-    fn header(&mut self, start: usize) -> Result<(), AllocError> {
-        let item = self.item(Kind::Header, "[", start);
+    fn header(&mut self, start: usize) {
+        self.add(Kind::Header, "[", start);
         self.place = Place::Header;
-        self.items.push(item)?;
         for at in (1..self.items.len()).rev() {
             let is_attached = match self.items.get(at - 1) {
                 Some(before) => before.is_own_comment(),
@@ -171,11 +171,10 @@ impl<'t> Reader<'t> {
                 }
             }
         }
-        Ok(())
     }
 
     /// Appends a dot or a part of a key to `items`. The first part counts as an element.
-    fn part(&mut self, text: &'t str, start: usize) -> Result<(), AllocError> {
+    fn part(&mut self, text: &'t str, start: usize) {
         self.widen_by(text);
         let kind = if self.in_key { Kind::Part } else { Kind::Key };
         if !self.in_key {
@@ -183,19 +182,15 @@ impl<'t> Reader<'t> {
         }
         self.place = Place::Key;
         self.in_key = true;
-        let item = self.item(kind, text, start);
-        self.items.push(item)?;
-        Ok(())
+        self.add(kind, text, start);
     }
 
     /// Appends an equals sign to `items`. The next token begins a value.
-    fn equals(&mut self, start: usize) -> Result<(), AllocError> {
+    fn equals(&mut self, start: usize) {
         self.widen(3);
         self.place = Place::Value;
         self.in_scalar = false;
-        let item = self.item(Kind::Equals, "=", start);
-        self.items.push(item)?;
-        Ok(())
+        self.add(Kind::Equals, "=", start);
     }
 
     /// Begins a value. A value without a key counts as an element.
@@ -207,39 +202,36 @@ impl<'t> Reader<'t> {
     }
 
     /// Appends a scalar to `items`, or extends the last item by a token that continues it.
-    fn scalar(&mut self, text: &'t str, start: usize) -> Result<(), AllocError> {
+    fn scalar(&mut self, text: &'t str, start: usize) {
         if !self.in_scalar {
             self.begin_value();
             self.widen_by(text);
-            let item = self.item(Kind::Scalar, text, start);
-            self.items.push(item)?;
+            self.add(Kind::Scalar, text, start);
             self.in_scalar = true;
-            return Ok(());
+            return;
         }
         let end = start.saturating_add(text.len());
         let Some(last) = self.items.last_mut() else {
-            return Ok(());
+            return;
         };
         let before = last.text.len();
         last.text = self.text.get(last.start..end).unwrap_or("");
         // (all bytes are ASCII here, so each is one column)
         let more = last.text.len().saturating_sub(before);
         self.widen(more);
-        Ok(())
     }
 
     /// Appends the opening bracket or brace at `start` to `items`, and opens the array or inline table.
-    fn begin(&mut self, is_table: bool, start: usize) -> Result<(), AllocError> {
+    fn begin(&mut self, is_table: bool, start: usize) {
         self.begin_value();
         let at = self.items.len();
-        let item = if is_table {
+        if is_table {
             self.place = Place::Key;
-            self.item(Kind::OpenTable(Form::Lines), "{", start)
+            self.add(Kind::OpenTable(Form::Lines), "{", start);
         } else {
-            self.item(Kind::OpenArray(Form::Lines), "[", start)
-        };
-        self.items.push(item)?;
-        self.open.push(Frame {
+            self.add(Kind::OpenArray(Form::Lines), "[", start);
+        }
+        let frame = Frame {
             is_table,
             at,
             width: 0,
@@ -248,8 +240,8 @@ impl<'t> Reader<'t> {
             has_comment: false,
             has_line_end: false,
             has_lines: false,
-        })?;
-        Ok(())
+        };
+        self.has_failed = self.open.push(frame).is_err() || self.has_failed;
     }
 
     /// Adds the columns of `frame`, which was just closed, to the innermost open array or inline table, if there is
@@ -265,13 +257,12 @@ impl<'t> Reader<'t> {
 
     /// Appends the closing bracket or brace `text` to `items`, closes the innermost array or inline table, and sets
     /// its form.
-    fn close(&mut self, text: &'t str, start: usize) -> Result<(), AllocError> {
+    fn close(&mut self, text: &'t str, start: usize) {
         self.in_scalar = false;
         self.place = Place::Value;
-        let item = self.item(Kind::Close, text, start);
-        self.items.push(item)?;
+        self.add(Kind::Close, text, start);
         let Some(frame) = self.open.pop() else {
-            return Ok(());
+            return;
         };
         let form = frame.form(self.options);
         if let Some(opening) = self.items.get_mut(frame.at) {
@@ -282,7 +273,6 @@ impl<'t> Reader<'t> {
             };
         }
         self.add_to_outer(&frame, form);
-        Ok(())
     }
 
     /// Ends an element at a comma. In an inline table, the next token begins a key.
@@ -298,32 +288,27 @@ impl<'t> Reader<'t> {
     }
 
     /// Adds a token, such as a bare word, to the key, header or scalar to which it belongs.
-    fn word(&mut self, text: &'t str, start: usize) -> Result<(), AllocError> {
+    fn word(&mut self, text: &'t str, start: usize) {
         match self.place {
             Place::Line | Place::Key => self.part(text, start),
-            Place::Header => {
-                let item = self.item(Kind::Part, text, start);
-                self.items.push(item)?;
-                Ok(())
-            }
+            Place::Header => self.add(Kind::Part, text, start),
             Place::Value => self.scalar(text, start),
         }
     }
 
     /// Adds the string with the source text `src` as `word` does. If it has several lines, sets `has_lines` of the
     /// innermost open array or inline table.
-    fn string(&mut self, src: &'t str, start: usize, multiline: bool) -> Result<(), AllocError> {
-        self.word(src, start)?;
+    fn string(&mut self, src: &'t str, start: usize, multiline: bool) {
+        self.word(src, start);
         if multiline && src.contains('\n') {
             if let Some(frame) = self.open.last_mut() {
                 frame.has_lines = true;
             }
         }
-        Ok(())
     }
 
     /// Begins a header or an array, or adds the second bracket of a header.
-    fn left_bracket(&mut self, start: usize) -> Result<(), AllocError> {
+    fn left_bracket(&mut self, start: usize) {
         match self.place {
             Place::Line => self.header(start),
             Place::Header => self.word("[", start),
@@ -332,7 +317,7 @@ impl<'t> Reader<'t> {
     }
 
     /// Adds a closing bracket to a header, or closes an array.
-    fn right_bracket(&mut self, start: usize) -> Result<(), AllocError> {
+    fn right_bracket(&mut self, start: usize) {
         match self.place {
             Place::Header => self.word("]", start),
             _ => self.close("]", start),
@@ -340,13 +325,10 @@ impl<'t> Reader<'t> {
     }
 
     /// Adds a mark, such as a comma or a bracket.
-    fn mark(&mut self, mark: u8, text: &'t str, start: usize) -> Result<(), AllocError> {
+    fn mark(&mut self, mark: u8, text: &'t str, start: usize) {
         match mark {
             b'=' => self.equals(start),
-            b',' => {
-                self.comma();
-                Ok(())
-            }
+            b',' => self.comma(),
             b'{' => self.begin(true, start),
             b'}' => self.close(text, start),
             b'[' => self.left_bracket(start),
@@ -356,14 +338,11 @@ impl<'t> Reader<'t> {
     }
 
     /// Adds the next piece of the text to the items, and updates the state of the reader.
-    fn piece(&mut self, piece: &Piece) -> Result<(), AllocError> {
+    fn piece(&mut self, piece: &Piece) {
         let text = self.text.get(piece.start..piece.end).unwrap_or("");
         match piece.kind {
-            PieceKind::Blank | PieceKind::ByteOrderMark => Ok(()),
-            PieceKind::LineEnd => {
-                self.line_end();
-                Ok(())
-            }
+            PieceKind::Blank | PieceKind::ByteOrderMark => {}
+            PieceKind::LineEnd => self.line_end(),
             PieceKind::Comment => self.comment(text, piece.start),
             PieceKind::Mark(mark) => self.mark(mark, text, piece.start),
             PieceKind::String(is_multiline) => self.string(text, piece.start, is_multiline),
@@ -392,9 +371,13 @@ pub(crate) fn items_of<'t>(
         in_scalar: false,
         gap: Gap::NextLine,
         has_comma: false,
+        has_failed: false,
     };
     for piece in pieces {
-        reader.piece(piece)?;
+        reader.piece(piece);
+    }
+    if reader.has_failed {
+        return Err(AllocError);
     }
     Ok(reader.items)
 }

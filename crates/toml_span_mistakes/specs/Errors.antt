@@ -1,5 +1,5 @@
 -- The reports of errors, and the text of these reports.
-use Rattle.std.specs.Prelude.{◌≡◌, ℕ, true, ◌⊎◌, List, [], ◌∷◌, ◌++◌, codes, map, All, Any}
+use Rattle.std.specs.Prelude.{◌≡◌, ℕ, true, ◌⊎◌, List, [], ◌∷◌, ◌++◌, codes, map, All, Any, IsSome}
 use Rattle.toml_span_lex.specs.declared.span.Span.{Span}
 use Rattle.toml_span_lex.specs.declared.stop.Stop.{Stop}
 use Rattle.toml_span_lex.specs.declared.stop.Stop.TheVariants as stop
@@ -8,6 +8,7 @@ use Rattle.toml_span_tree.specs.Error.{ErrorContent, Kind, unexpected_keys, unex
 use Rattle.toml_span_tree.specs.Error.{missing_field, deprecated}
 use Rattle.toml_span_tree.specs.Message.{code_of, display_text}
 use Rattle.toml_span_tree.specs.Errors.{Errors, all}
+use Rattle.toml_span_report.specs.Explanations.{explained}
 use Rattle.toml_span_report.specs.Many.{AreReportTexts}
 use Rattle.toml_span_report.specs.Places.{LiesIn}
 use Rattle.toml_span_report.specs.Rendering.{report_text}
@@ -40,22 +41,32 @@ labels span (missing_field field) = one_label span (codes "this table lacks the 
 labels span (deprecated old new) = one_label span (codes "deprecated key")
 labels span kind = labels_of tt span kind
 
--- The report shows the error itself: its message, and its labels, with the primary one where the error starts.
+-- The report shows the error itself: its code and message, and its labels, with the primary one where the error starts.
 pub record ShowsError (error : ErrorContent) (report : ReportContent) : Type 0 where
   pub span : Span
   pub place : span.start ≡ error.span.start
+  pub code : report.code ≡ code_of error.kind
   pub message : report.message ≡ message error.kind
   pub labels : report.labels ≡ labels span error.kind
 
 -- ---- all errors
 
+-- whether `explain` knows a code
+abbrev pub IsExplained : List ℕ → Type 0
+IsExplained code = IsSome (explained code)
+
 abbrev pub lies : List ℕ → ReportLabel → Type 0
 lies text mark = LiesIn text mark.span
 
--- The report shows a mistake that was recognized: its labels are in the text, between characters, and one is primary.
-pub record ShowsMistake (text : List ℕ) (marks : List ReportLabel) : Type 0 where
+-- Labels that mark a mistake are in the text, between characters, and one is primary.
+pub record MarksMistake (text : List ℕ) (marks : List ReportLabel) : Type 0 where
   pub lie : All (lies text) marks
   pub primary : Any (λ mark. mark.primary ≡ true) marks
+
+-- The report shows a mistake that was recognized. Its code is that of the mistake, one that `explain` knows.
+pub record ShowsMistake (text : List ℕ) (report : ReportContent) : Type 0 where
+  pub code : IsExplained report.code
+  pub marks : MarksMistake text report.labels
 
 -- whether all replacements are in the text, between characters
 abbrev pub AreRepairs : List ℕ → List Repair → Type 0
@@ -65,8 +76,7 @@ AreRepairs text repairs = All (λ repair. LiesIn text repair.span) repairs
 -- it has, is not defined.
 pub record ReportsError (given : Severity) (text : List ℕ) (error : ErrorContent) (report : ReportContent) : Type 0 where
   pub severity : report.severity ≡ given
-  pub code : report.code ≡ code_of error.kind
-  pub shown : ShowsError error report ⊎ ShowsMistake text report.labels
+  pub shown : ShowsError error report ⊎ ShowsMistake text report
   pub replacements : AreRepairs text report.replacements
 
 -- whether `out` is the text of the report of an error

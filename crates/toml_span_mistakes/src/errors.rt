@@ -17,6 +17,7 @@ use crate::unknown_keys::{
     deprecated, key_labels, key_names, lent_names, one_of, suggestions, unknown_keys,
     what_is_expected,
 };
+use crate::words::code_name;
 use std::alloc::{AllocError, Global};
 use toml_span_lex::span::Span;
 use toml_span_lex::stop::Stop;
@@ -123,8 +124,8 @@ fn headline(alloc: Global, error: &Error<'_>, finding: Finding<'_>) -> Result<St
     }
 }
 
-/// Returns the report of an error whose mistake is recognized. `text` is the source, and `finding` describes the
-/// mistake.
+/// Returns the report of an error whose mistake is recognized, with the code of the mistake. `text` is the source, and
+/// `finding` describes the mistake.
 fn mistaken(
     alloc: Global,
     severity: Severity,
@@ -136,7 +137,7 @@ fn mistaken(
 {
     Ok(Report {
         severity,
-        code: error.kind.to_string(alloc)?,
+        code: String::from_str(alloc, code_name(finding.words.code))?,
         message: headline(alloc, error, finding)?,
         labels: finding_labels(alloc, text, finding)?,
         notes: Vec::new(alloc),
@@ -183,9 +184,9 @@ fn report_of(
 
 /// Returns the report of an error in the source `text`.
 ///
-/// For a typical mistake, such as `True` instead of `true`, the report usually names the mistake and says what to write,
-/// and may have a replacement. All other reports have the `Display` text of the error as their message, and the labels
-/// of `Error::to_diagnostic`, except:
+/// For a typical mistake, such as `True` instead of `true`, the report has a code of `explain` that depends only on the
+/// mistake, usually names the mistake and says what to write, and may have a replacement. All other reports have the
+/// code and the `Display` text of the error, and the labels of `Error::to_diagnostic`, except:
 ///
 /// - For a `Wanted` error of `parse`, the primary label marks the token at the start of the error's span, up to the end
 ///   of the line at most. If no token begins there, as at the end of the source, the mark is empty.

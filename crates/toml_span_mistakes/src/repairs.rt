@@ -95,7 +95,7 @@ pub(crate) fn finding_labels(
     text: &str,
     finding: Finding<'_>,
 ) -> Result<Vec<Label<()>>, AllocError>
-    ensures { IfOk result (λ labels. spec.ShowsMistake text.now (map label_content labels.items)) }
+    ensures { IfOk result (λ labels. spec.MarksMistake text.now (map label_content labels.items)) }
 {
     let mut labels = also_labels(alloc, text, finding)?;
     let mut message = code_text(alloc, finding.label)?;

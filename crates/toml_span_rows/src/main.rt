@@ -12,6 +12,9 @@
 //!   where it starts.
 //! - `copies START END`: two clones of a key whose name is the text, and two clones of the text, all with this span.
 //! - `load_file NAME`: see `typed::owned`. This is the only call that needs files.
+//!
+//! With the arguments FILE and N, the program parses FILE N times instead, for measurements (`scripts/speed.py`), and
+//! prints `ok`, or `error` if FILE is not valid TOML.
 
 mod characters;
 mod cuts;
@@ -32,9 +35,9 @@ mod typed;
 use escapes::{push_text, push_words};
 use output::Out;
 use std::alloc::{AllocError, Global};
-use std::io;
 use std::process::ExitCode;
-use toml_span::from_str;
+use std::{env, fs, io};
+use toml_span::{from_str, parse};
 use typed::owned::push_file;
 use typed::structs::Holders;
 use typed::warned::push_warned;
@@ -156,10 +159,29 @@ fn push_lines(rt: &HostRuntime, alloc: Global, input: &str, out: &mut Out) -> bo
     readable
 }
 
+/// Parses the file `name` `passes` times, each time dropping the tree, and prints `ok`, or `error` if it is not valid
+/// TOML.
+fn parse_often(rt: &HostRuntime, name: &str, passes: u64) -> io::Result<()> {
+    let text = fs::read_to_string(rt, name)?;
+    let mut outcome = "ok";
+    for _ in 0..passes {
+        if parse(rt.alloc(), text.as_str()).is_err() {
+            outcome = "error";
+        }
+    }
+    println!(rt; "{outcome}")
+}
+
 /// Prints the lines of standard input, each row with its answer. Exits with status 1 if a row can't be answered. Fails
 /// if a read, a write or an allocation fails.
 fn main(rt: HostRuntime) -> io::Result<ExitCode> {
     let alloc = rt.alloc();
+    let words: Vec<String> = env::args(&rt)?.skip(1).collect(alloc)?;
+    if let [file, passes] = words.as_slice() {
+        let passes = passes.as_str().parse::<u64>().unwrap_or(0);
+        parse_often(&rt, file.as_str(), passes)?;
+        return Ok(ExitCode::SUCCESS);
+    }
     let input = io::read_to_string(alloc, rt.stdin())?;
     let mut out = Out::new(alloc);
     let readable = push_lines(&rt, alloc, input.as_str(), &mut out);

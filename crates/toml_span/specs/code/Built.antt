@@ -1,6 +1,6 @@
 -- Finished tables to which headers still add tables.
-use Rattle.std.specs.Prelude.{◌≡◌, ℕ, ◌<◌, ◌≤◌, Bool, true, false, List, [], ◌∷◌, length, Option, Some, None, IsSomeAnd}
-use Rattle.std.specs.Prelude.{option_map}
+use Rattle.std.specs.Prelude.{◌≡◌, ℕ, ◌<◌, ◌≤◌, Bool, true, false, List, [], ◌∷◌, ◌++◌, length, Option, Some, None}
+use Rattle.std.specs.Prelude.{option_map, IsSomeAnd}
 use Rattle.std.specs.Cow.{cow_str_bytes}
 use Rattle.std.specs.List.{AllByRecursion}
 use Rattle.std.specs.Map.{lookup_entry}
@@ -15,6 +15,8 @@ use Rattle.toml_span.specs.Claims.{Claims}
 use Rattle.toml_span.specs.Ordered.{IsOrdered}
 use Rattle.toml_span.specs.code.Machine.{Cell, CellMap, no_cell, no_cells, key_spans, put_all, clash_found}
 use Rattle.toml_span.specs.code.Placing.{Array, NamesAscend, Table, place_shown}
+use Rattle.toml_span.specs.code.Relative.{counts_after, section_at}
+use Rattle.toml_span_read.specs.Data.{SimpleKey}
 use Rattle.toml_span_lex.specs.Key.{is_named}
 use Rattle.toml_span.specs.declared.claims.ClaimInfo.{ClaimInfo}
 use Rattle.toml_span.specs.declared.claims.HeaderInfo.{HeaderInfo}
@@ -48,11 +50,14 @@ pub record IsTableCell (x : Cell) : Type 0 where
   pub free : AllByRecursion (λ (m : ClaimInfo). is_assigned m.kind ≡ false) x.infos
   pub header : IsSomeAnd x.shown (λ d. d.header ≡ true)
 
--- The list has the elements of an array of tables, at least one. Nothing has been claimed at positions after them.
+-- The list has the elements of an array of tables, at least one. The last one is a table that headers made. Nothing has
+-- been claimed at positions after it.
 pub record HasElements (vs : List Value) (st : CellMap) (e : Path → ℕ) : Type 0 where
   pub count : e [] ≡ length vs
   pub some : vs ≡ [] → ⊥
-  pub free : (i : ℕ) (p : Path) → length vs ≤ i → st (position i ∷ p) ≡ no_cell
+  pub latest : (before : List Value) (v : Value) → vs ≡ before ++ (v ∷ [])
+      → IsTableCell (st (position (length before) ∷ [])) × (e (position (length before) ∷ []) ≡ 0)
+  pub free : (i : ℕ) (p : Path) → length vs ≤ i → (st (position i ∷ p) ≡ no_cell) × (e (position i ∷ p) ≡ 0)
 
 -- The cells `st` and the numbers of elements `e` are those of v, a table or an array of tables that a header made.
 pub record IsMade (v : Value) (st : CellMap) (e : Path → ℕ) : Type 0 where
@@ -63,6 +68,16 @@ abbrev pub EntryAt : List ℕ → Option (Key × Value) → CellMap → (Path �
 EntryAt text None st e = (st ≡ no_cells) × (e ≡ (λ p. 0))
 EntryAt text (Some x) st e = EntryShows text x st × (IsByHeader x → IsMade x.1 st e)
 
+-- At the path p, v has the table t, to which headers still add tables: v itself or, in an array of tables, the last
+-- element.
+abbrev pub IsOpenTable : Value → Path → Table → Type 0
+IsOpenTable v [] t = v.value ≡ Some (table_inner t)
+IsOpenTable v (position i ∷ []) t =
+    (a : Array) × (before : List Value) × (w : Value)
+    × (v.value ≡ Some (array_inner a)) × (a.items ≡ before ++ (w ∷ [])) × (i ≡ length before)
+    × (w.value ≡ Some (table_inner t))
+IsOpenTable v _ t = ⊥
+
 -- ---- tables
 
 -- The table has the places in the cells `st`, and its arrays of tables have the numbers of elements `e`. Its strings
@@ -72,9 +87,9 @@ pub data IsBuilt (text : List ℕ) : Table → CellMap → (Path → ℕ) → Ty
       → ((i : ℕ) (p : Path) → st (position i ∷ p) ≡ no_cell)
       → ((name : List ℕ) → EntryAt text (lookup_entry (is_named name) t.entries)
       (λ p. st (key name ∷ p)) (λ p. e (key name ∷ p)))
-      → ((name : List ℕ) (x : Key × Value) (u : Table) → lookup_entry (is_named name) t.entries ≡ Some x
-      → IsByHeader x → x.1.value ≡ Some (table_inner u)
-      → IsBuilt text u (λ p. st (key name ∷ p)) (λ p. e (key name ∷ p)))
+      → ((name : List ℕ) (x : Key × Value) (q : Path) (u : Table) → lookup_entry (is_named name) t.entries ≡ Some x
+      → IsByHeader x → IsOpenTable x.1 q u
+      → IsBuilt text u (λ p. st (key name ∷ (q ++ p))) (λ p. e (key name ∷ (q ++ p))))
       → IsBuilt text t st e
 
 -- The entry x, which a header made or passed through, has the places in the cells `st`, and its arrays of tables have
@@ -82,7 +97,7 @@ pub data IsBuilt (text : List ℕ) : Table → CellMap → (Path → ℕ) → Ty
 pub record EntryBuilt (text : List ℕ) (x : Key × Value) (st : CellMap) (e : Path → ℕ) : Type 0 where
   pub shows : EntryShows text x st
   pub made : IsMade x.1 st e
-  pub inside : (u : Table) → x.1.value ≡ Some (table_inner u) → IsBuilt text u st e
+  pub inside : (q : Path) (u : Table) → IsOpenTable x.1 q u → IsBuilt text u (λ p. st (q ++ p)) (λ p. e (q ++ p))
 
 -- The claims `cs` do not clash with the claims from which the table `old` was built, and the table `new` is built from
 -- both.
@@ -91,12 +106,36 @@ BuildsOn text old new cs after =
     (st : CellMap) (e : Path → ℕ) → IsBuilt text old st e
     → (clash_found st (cs e) ≡ None) × IsBuilt text new (put_all st (cs e)) (after e)
 
+-- The table `new` is built from the table `old` and the claims of a section with the header h, whose remaining parts,
+-- at least one, lead on from the table. The names in it ascend.
+pub record PassesOn (text : List ℕ) (h : HeaderInfo) (tail : Claims) (parts : List SimpleKey) (old new : Table)
+    : Type 0 where
+  pub some : parts ≡ [] → ⊥
+  pub ascend : NamesAscend new
+  pub builds : BuildsOn text old new (λ e. section_at e h parts tail) (λ e. counts_after e h parts)
+
+-- The value `new` is a table, built from the table `old` in the same way. Its span is the same.
+pub record PassesElement (text : List ℕ) (h : HeaderInfo) (tail : Claims) (parts : List SimpleKey) (old new : Value)
+    : Type 0 where
+  pub before : Table
+  pub after : Table
+  pub was : old.value ≡ Some (table_inner before)
+  pub held : new.value ≡ Some (table_inner after)
+  pub span : new.span ≡ old.span
+  pub passes : PassesOn text h tail parts before after
+
 -- The claims `cs` do not clash with the claims from which the entry's value `old` was built, and the value `new` is
 -- built from both.
 abbrev pub EntryBuildsOn : List ℕ → Key → Value → Value → ((Path → ℕ) → Claims) → ((Path → ℕ) → Path → ℕ) → Type 0
 EntryBuildsOn text k old new cs after =
     (st : CellMap) (e : Path → ℕ) → EntryBuilt text (k, old) st e
     → (clash_found st (cs e) ≡ None) × EntryBuilt text (k, new) (put_all st (cs e)) (after e)
+
+-- An entry whose value is the array a is built on by these claims if the array becomes b.
+abbrev pub ArrayBuildsOn : List ℕ → Key → Array → Array → ((Path → ℕ) → Claims) → ((Path → ℕ) → Path → ℕ) → Type 0
+ArrayBuildsOn text k a b cs after =
+    (old new : Value) → old.value ≡ Some (array_inner a) → new.value ≡ Some (array_inner b) → new.span ≡ old.span
+    → EntryBuildsOn text k old new cs after
 
 -- ---- sections
 

@@ -5,9 +5,12 @@ use Rattle.std.proofs.lemmas.Bool.{eqb-true}
 use Rattle.toml_span_read.proofs.EarlierTree.{key_cmp, parts-first}
 use Rattle.toml_span_read.specs.Data.{simple_key}
 use Rattle.toml_span.proofs.Borrowing.{front_right}
-use Rattle.toml_span.proofs.BuiltArrays.{new-array, pass-array}
+use Rattle.toml_span.proofs.BuiltArrays.{new-array, pass-array, pass-latest}
 use Rattle.toml_span.proofs.BuiltTables.{key-for, new-section, new-table, occupied, pass-table, placed-rest, some-map, vacant}
 use Rattle.toml_span.proofs.Headers.{parts-below, parts-some}
+use Rattle.toml_span.specs.code.Built.{ArrayBuildsOn}
+use Rattle.toml_span.specs.code.Placing.{Array}
+use Rattle.toml_span.specs.code.Relative.{counts_after_through, through}
 use Rattle.toml_span.proofs.KeyMaps.{entry-found, entry-missing}
 use Rattle.toml_span.proofs.header_paths.+header_paths.Goals as goal
 
@@ -29,17 +32,47 @@ new_value-returns-in-Ok t c = λ text h tail k part placed key.
     (new-array text h tail k (simple_key part) (placed.brackets ∙ double) c.args.value placed.table placed.extent placed.held placed.ascend placed.section c.with_span-in-Ok.result c.push.new.self key.1 c.with_span-in-Ok.ensures.kept.1 key.2
     c.with_span-in-Ok.ensures.kept.0 (c.in-Ok.ensures.items ∙ ap (λ l. l ++ (c.args.value ∷ [])) c.new-elements.ensures.items))
 
-pub pass_value-returns-in_ok-place_table-in-Table : goal.pass_value-returns-in_ok-place_table-in-Table
-pass_value-returns-in_ok-place_table-in-Table t c = λ text h tail k part placed st e entry.
-    pass-table text h tail part (map simple_key c.args.rest.now) k c.args.child.now c.with_span.result c.in-Table.below c.place_table.new.table st e (parts-some c.args.rest.now (sym c.if-is_empty.ensures)) c.in-Table.ensures.kept c.with_span.ensures.kept
-    c.in_order.ensures (c.in_ok-place_table-in-Table.ensures text h tail placed) entry
+pub pass_table-returns : goal.pass_table-returns
+pass_table-returns t c = λ text h tail placed. record {
+  some = parts-some c.args.rest.now (sym c.if-is_empty.ensures);
+  ascend = c.in_order.ensures;
+  builds = c.in_ok-place_table.ensures text h tail placed;
+}
 
-pub pass_value-returns-in-Ok : goal.pass_value-returns-in-Ok
-pass_value-returns-in-Ok t c = λ text h tail k part placed st e entry.
+pub pass_element-returns-in-Table : goal.pass_element-returns-in-Table
+pass_element-returns-in-Table t c = λ text h tail placed. record {
+  before = c.in-Table.below;
+  after = c.in_ok-below-in-Table.below;
+  was = c.in-Table.ensures.kept;
+  held = c.with_span.ensures.kept.0;
+  span = c.with_span.ensures.kept.1;
+  passes = c.in_ok-below-in-Table.ensures text h tail placed;
+}
+
+pub pass_array-returns-then-not-is_empty : goal.pass_array-returns-then-not-is_empty
+pass_array-returns-then-not-is_empty t c = λ text h tail k part placed.
+    some-map c.with_element.result _ _
+    (λ made is old w was held span st e entry.
+    pass-latest text h tail k part (map simple_key c.args.rest.now) old w c.args.elements made _ c.in_ok-latest.latest c.in_ok-passed.passed st e (c.in_ok-passed.ensures text h tail placed) was held span c.in_ok-latest.ensures.items is entry)
+    c.with_element.ensures
+
+pub pass_array-returns : goal.pass_array-returns
+pass_array-returns t c = λ text h tail k part placed.
     let double : c.args.array ≡ true = search rules in
     rw (parts-below c.args.rest.now (omega (arith, eqb-true (length c.args.rest.now) 0 (sym c.if-not-is_empty.ensures))))
-    (pass-array text h tail k part (placed.brackets ∙ double) c.args.value placed.table placed.extent placed.held placed.ascend placed.section c.args.child.now c.with_span-in-Ok.result c.in-Array.elements c.push.new.self st e c.in-Array.ensures.kept
-    c.with_span-in-Ok.ensures.kept.0 c.with_span-in-Ok.ensures.kept.1 c.in-Ok.ensures.items entry)
+    (some-map _ (λ (made : Array). made.items ≡ c.args.elements.items ++ (c.args.value ∷ [])) (λ (made : Array). ArrayBuildsOn text k c.args.elements made (λ e. through e h part [] tail) (λ e. counts_after_through e h []))
+    (λ made is old w was held span st e entry.
+    pass-array text h tail k part (placed.brackets ∙ double) c.args.value placed.table placed.extent placed.held placed.ascend placed.section old w c.args.elements made st e was held span is entry)
+    (search rules))
+
+pub pass_value-returns-in_ok-below-in-Table : goal.pass_value-returns-in_ok-below-in-Table
+pass_value-returns-in_ok-below-in-Table t c = λ text h tail k part placed st e entry.
+    let on = c.in_ok-below-in-Table.ensures text h tail placed in
+    pass-table text h tail part (map simple_key c.args.rest.now) k c.args.child.now c.with_span.result c.in-Table.below c.in_ok-below-in-Table.below st e on.some c.in-Table.ensures.kept c.with_span.ensures.kept on.ascend on.builds entry
+
+pub pass_value-returns-in_ok-elements-in-Array : goal.pass_value-returns-in_ok-elements-in-Array
+pass_value-returns-in_ok-elements-in-Array t c = λ text h tail k part placed.
+    c.in_ok-elements-in-Array.ensures text h tail k part placed c.args.child.now c.with_span-in-Array.result c.in-Array.ensures.kept c.with_span-in-Array.ensures.kept.0 c.with_span-in-Array.ensures.kept.1
 
 pub place_table-returns-else-get-key : goal.place_table-returns-else-get-key
 place_table-returns-else-get-key t c = λ text h tail placed.

@@ -1,4 +1,4 @@
-use Rattle.toml_span_lex.proofs.Common.{◌≡◌, ◌∙◌, ◌++◌, Bor, List, ap, map, subst, ℕ}
+use Rattle.toml_span_lex.proofs.Common.{◌≡◌, ◌∙◌, ◌++◌, ap, map, subst}
 use Rattle.std.specs.List.Sorted.{IsPermutation}
 use Rattle.std.proofs.lemmas.List.Sorted.{IsPermutation-map}
 use Rattle.toml_span_edit.specs.Comments.{comments}

@@ -1,4 +1,4 @@
-use Rattle.toml_span_lex.proofs.Common.{map, string_bytes}
+use Rattle.toml_span_lex.proofs.Common.{map}
 use Rattle.toml_span_read.specs.Data.{parsed_section}
 use Rattle.toml_span_edit.proofs.Steps.{if_ok}
 use Rattle.toml_span_edit.proofs.setting.rename_keys.Goals as goal

@@ -1,4 +1,4 @@
-use Rattle.toml_span_edit.proofs.Refusals.{change_refused, nothing_refused}
+use Rattle.toml_span_edit.proofs.Refusals.{move_refused}
 use Rattle.toml_span_edit.proofs.Steps.{edit_moved}
 use Rattle.toml_span_edit.proofs.step.changed_text.Goals as goal
 
@@ -10,4 +10,5 @@ returns-in-Some-clause-made c =
 
 pub returns-in-Some-clause-refused : goal.returns-in-Some-clause-refused
 returns-in-Some-clause-refused c =
-    change_refused c.args.edit c.args.old.now c.args.text.now c.requires c.moved.result c.moved.ensures.refused
+    move_refused c.args.edit c.in-MoveTo.target c.args.old.now c.args.text.now c.in-MoveTo.is c.requires c.moved.result
+    c.moved.ensures.refused
