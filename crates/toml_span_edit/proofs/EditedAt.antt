@@ -1,12 +1,16 @@
 -- Edits at paths that are written as text.
-use Rattle.toml_span_lex.proofs.Common.{◌≡◌, ℕ, List, Result, Ok, Err, IfOk, String, Global, string_bytes, map}
+use Rattle.toml_span_lex.proofs.Common.{◌≡◌, ℕ, List, Result, Ok, Err, IfErr, IfOk, String, Global, string_bytes, map, inl, inr}
 use Rattle.std.specs.Borrow.{Bor}
 use Rattle.toml_span_read.specs.Again.{ReadsAsString}
-use Rattle.toml_span_edit.specs.Drafts.{AreSegments, IsEditedAt, IsSetToString}
+use Rattle.toml_span_lex.specs.declared.stop.Stop.{Stop}
+use Rattle.toml_span_lex.specs.declared.stop.Stop.TheVariants as stops
+use Rattle.toml_span_edit.specs.Drafts.{AreSegments, IsEditedAt, IsRefusedAfter, IsSetToString, IsStringRefused, IsUnreadPath}
 use Rattle.toml_span_edit.specs.Edited.{EditMade}
+use Rattle.toml_span_edit.specs.Refused.{IsRefusedAt}
 use Rattle.toml_span_edit.specs.declared.edits.Change.{Change}
 use Rattle.toml_span_edit.specs.declared.edits.Change.TheVariants as changes
 use Rattle.toml_span_edit.specs.declared.edits.Edit.{Edit}
+use Rattle.toml_span_edit.specs.declared.edits.EditError.{EditError}
 
 pub edited : {E : Type 0} (path : List ℕ) (change : Change) (text : List ℕ) (e : Edit) (r : Result (String Global) E) →
     AreSegments path (map (λ s. s.now) e.path.now) → e.change ≡ change → IfOk r (λ new. EditMade e text (string_bytes new)) →
@@ -19,3 +23,21 @@ pub set_to_string : {D E : Type 0} (path string text : List ℕ) (value : Bor (L
     IfOk r (λ d. IsSetToString path string text (bytes d))
 set_to_string path string text value bytes (Ok d) reads h = (value, reads, h)
 set_to_string path string text value bytes (Err x) reads h = tt
+
+pub refused : {T : Type 0} (count : ℕ) (path : List ℕ) (change : Change) (text : List ℕ) (e : Edit) (r : Result T (Stop EditError)) →
+    AreSegments path (map (λ s. s.now) e.path.now) → e.change ≡ change → IfErr r (IsRefusedAt count e text) →
+    IfErr r (IsRefusedAfter count path change text)
+refused count path change text e (Ok new) segments same is = tt
+refused count path change text e (Err (stops.Memory x)) segments same is = tt
+refused count path change text e (Err (stops.Fault x)) segments same (at, edit) = (at, inr (e, segments, same, edit))
+
+pub unread : (count : ℕ) (path : List ℕ) (change : Change) (text : List ℕ) (stop : Stop EditError) →
+    IsUnreadPath count path stop → IsRefusedAfter count path change text stop
+unread count path change text (stops.Memory x) is = tt
+unread count path change text (stops.Fault x) (at, reason) = (at, inl reason)
+
+pub string_refused : (count : ℕ) (path string text : List ℕ) (value : Bor (List ℕ)) (stop : Stop EditError) →
+    ReadsAsString string value.now → IsRefusedAfter count path (changes.Set value) text stop →
+    IsStringRefused count path string text stop
+string_refused count path string text value (stops.Memory x) reads is = tt
+string_refused count path string text value (stops.Fault x) reads is = (value, reads, is)

@@ -1,8 +1,9 @@
 //! Makes edits in a text one by one.
-ghost use Rattle.std.specs.Prelude.{◌≡◌, IfOk, map, string_bytes};
+ghost use Rattle.std.specs.Prelude.{◌≡◌, IfErr, IfOk, map, string_bytes};
 ghost use Rattle.std.specs.Cow.{cow_str_bytes};
 ghost use Rattle.toml_span_edit.specs.Drafts as spec;
 ghost use Rattle.toml_span_edit.specs.Edited.{EditMade};
+ghost use Rattle.toml_span_edit.specs.Refused.{IsRefusedAt};
 
 use crate::edits::{Change, Edit, EditError, edit_made};
 use crate::given::string_text;
@@ -44,8 +45,9 @@ impl Draft {
     /// Fails with the number of edits made before, and the reason, if `path` can't be read or the change is refused.
     /// Fails with `Stop::Memory` if an allocation fails.
     pub fn edit(self, path: &str, change: Change<'_>) -> Result<Self, Stop<EditError>>
-        ensures { IfOk result (λ draft. spec.IsEditedAt path.now change.entry (string_bytes self.text)
+        ensures made { IfOk result (λ draft. spec.IsEditedAt path.now change.entry (string_bytes self.text)
             (string_bytes draft.text)) }
+        ensures refused { IfErr result (spec.IsRefusedAfter self.count path.now change.entry (string_bytes self.text)) }
     {
         let Draft { alloc, text, count } = self;
         let new = edited_at(alloc, text.as_str(), path, change, count)?;
@@ -59,8 +61,9 @@ impl Draft {
     /// Replaces the value at `path` with the string `string`, which is written in quotes. Headers or dotted keys must
     /// not define the old value. Fails as `edit` does.
     pub fn set_str(self, path: &str, string: &str) -> Result<Self, Stop<EditError>>
-        ensures { IfOk result (λ draft. spec.IsSetToString path.now string.now (string_bytes self.text)
+        ensures made { IfOk result (λ draft. spec.IsSetToString path.now string.now (string_bytes self.text)
             (string_bytes draft.text)) }
+        ensures refused { IfErr result (spec.IsStringRefused self.count path.now string.now (string_bytes self.text)) }
     {
         let value = string_text(self.alloc, string)?;
         self.edit(path, Change::Set(value.as_str()))
@@ -74,7 +77,8 @@ fn segments_of<'p>(
     path: &'p str,
     index: usize,
 ) -> Result<Vec<CowStr<'p>>, Stop<EditError>>
-    ensures { IfOk result (λ parts. spec.AreSegments path.now (map cow_str_bytes parts.items)) }
+    ensures segments { IfOk result (λ parts. spec.AreSegments path.now (map cow_str_bytes parts.items)) }
+    ensures refused { IfErr result (spec.IsUnreadPath index path.now) }
 {
     match path_segments(alloc, path) {
         Ok(parts) => Ok(parts),
@@ -95,8 +99,9 @@ fn made_at<'e>(
     change: Change<'e>,
     index: usize,
 ) -> Result<String, Stop<EditError>>
-    ensures { IfOk result (λ new. EditMade (record { path = path.entry; change = change.entry }) text.now
+    ensures made { IfOk result (λ new. EditMade (record { path = path.entry; change = change.entry }) text.now
         (string_bytes new)) }
+    ensures refused { IfErr result (IsRefusedAt index (record { path = path.entry; change = change.entry }) text.now) }
 {
     edit_made(alloc, text, Edit { path, change }, index)
 }
@@ -110,7 +115,8 @@ fn edited_at(
     change: Change<'_>,
     index: usize,
 ) -> Result<String, Stop<EditError>>
-    ensures { IfOk result (λ new. spec.IsEditedAt path.now change.entry text.now (string_bytes new)) }
+    ensures made { IfOk result (λ new. spec.IsEditedAt path.now change.entry text.now (string_bytes new)) }
+    ensures refused { IfErr result (spec.IsRefusedAfter index path.now change.entry text.now) }
 {
     let segments = segments_of(alloc, path, index)?;
     let names = segment_names(alloc, segments.as_slice())?;

@@ -11,6 +11,9 @@ const MOST_BRACKETS: usize = 4;
 
 const MOST_PATTERNS: usize = 1_000;
 
+/// The maximum number of levels to which arrays and objects nest in a JSON text.
+const MOST_LEVELS: usize = 128;
+
 /// A schema of a catalog.
 #[derive(Drop)]
 struct Listed {
@@ -174,15 +177,31 @@ impl Catalog {
     }
 }
 
-/// Returns the line and the column of the first error in a JSON text, or `None` if the text has no error. Both are
-/// counted from 1, the column in characters. Nesting more than 128 levels deep is an error.
-pub(crate) fn json_fault(alloc: Global, text: &str) -> Result<Option<(usize, usize)>, AllocError> {
+/// Reads a JSON text in which arrays and objects may nest `depth` levels deep. Returns the byte offset of the first
+/// error, or `None` if there is none.
+fn error_at(alloc: Global, text: &str, depth: usize) -> Result<Option<usize>, AllocError> {
     let mut scratch = Scratch::new(alloc);
     let mut reader = Reader::new(text, &mut scratch)?;
-    let is_value = reader.skip_value(128).is_ok();
+    let is_value = reader.skip_value(depth).is_ok();
     if is_value && reader.next().is_none() {
         return Ok(None);
     }
-    let (line, column) = line_column(text, reader.offset());
-    Ok(Some((line, column)))
+    Ok(Some(reader.offset()))
+}
+
+/// Returns the message that says why a JSON text can't be read, with the line and the column of the first error, or
+/// `None` if the text has no error. Both are counted from 1, the column in characters. Nesting more than 128 levels
+/// deep is an error.
+pub(crate) fn json_fault(alloc: Global, text: &str) -> Result<Option<String>, AllocError> {
+    let Some(at) = error_at(alloc, text, MOST_LEVELS)? else {
+        return Ok(None);
+    };
+    let is_deep = error_at(alloc, text, MOST_LEVELS + 1)? != Some(at);
+    let what = if is_deep {
+        "it is nested more than 128 levels deep"
+    } else {
+        "it is not valid JSON"
+    };
+    let (line, column) = line_column(text, at);
+    Ok(Some(format!(in alloc; "{what} (line {line}, column {column})")?))
 }

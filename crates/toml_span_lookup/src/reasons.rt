@@ -97,25 +97,19 @@ pub(crate) fn remote_reason(
     Ok(Some(remote_message(alloc, place, urls.as_slice())?))
 }
 
-/// Returns the message that a text is not valid JSON, with the line and column of the error. If `json_fault` finds no
-/// error, the message says instead that the text may be nested too deeply.
+/// Returns the message that says why `text` is not valid JSON, or nested too deep (see `json_fault`).
 pub(crate) fn json_reason(alloc: Global, text: &str) -> Result<String, AllocError> {
     match json_fault(alloc, text)? {
-        Some((line, column)) => {
-            format!(in alloc; "it is not valid JSON (line {line}, column {column})")
-        }
-        None => String::from_str(
-            alloc,
-            "it is not valid JSON, or nested more than 128 levels deep",
-        ),
+        Some(reason) => Ok(reason),
+        None => String::from_str(alloc, "it is not valid JSON"),
     }
 }
 
-/// Returns the message that says why a catalog can't be used: `text` is not valid JSON, is nested too deeply, or has no
+/// Returns the message that says why a catalog can't be used: `text` is not valid JSON, is nested too deep, or has no
 /// array `schemas`.
 pub(crate) fn catalog_reason(alloc: Global, text: &str) -> Result<String, AllocError> {
     match json_fault(alloc, text)? {
-        Some(_) => json_reason(alloc, text),
+        Some(reason) => Ok(reason),
         None => String::from_str(alloc, "it has no array `schemas`"),
     }
 }
