@@ -12,7 +12,7 @@ use toml_span::value::{Step, nodes};
 use toml_span_edit::{Change, Edit as KeyEdit, Edits};
 use toml_span_lex::span::Span;
 use toml_span_places::{quote_key, segment_names};
-use toml_span_schema::{Guide, Kinds, Subschemas};
+use toml_span_schema::{Guide, Subschemas};
 
 /// Edits that insert a missing key.
 #[derive(Drop)]
@@ -26,23 +26,6 @@ pub struct Insertion {
     pub edits: Vec<Edit>,
 }
 
-/// Returns an empty value of one of `kinds` as TOML. If there are none, returns an empty string.
-fn empty_value(kinds: Kinds) -> &'static str {
-    if kinds.string || kinds.is_empty() {
-        "\"\""
-    } else if kinds.table {
-        "{}"
-    } else if kinds.array {
-        "[]"
-    } else if kinds.boolean {
-        "false"
-    } else if kinds.integer {
-        "0"
-    } else {
-        "0.0"
-    }
-}
-
 /// Returns a value that a schema may allow, as TOML: its default, the first value that it lists, or an empty value.
 /// `inner` are the subschemas for the value.
 fn new_value(alloc: Global, guide: &Guide, inner: &Subschemas) -> Result<String, AllocError> {
@@ -51,7 +34,7 @@ fn new_value(alloc: Global, guide: &Guide, inner: &Subschemas) -> Result<String,
     }
     match listed_values(alloc, guide, inner)?.first() {
         Some(value) => value.clone(),
-        None => String::from_str(alloc, empty_value(guide.kinds_of(inner))),
+        None => String::from_str(alloc, guide.kinds_of(inner).empty_value()),
     }
 }
 

@@ -392,8 +392,8 @@ fn compile_used<D: Disk>(
     complain(complaint, "use the schema", used.path.as_str(), reason)
 }
 
-/// Returns the address of the schema at `path`, against which its relative references are resolved. `address` is the path
-/// or the URL that names the schema.
+/// Returns the address of the schema at `path`, against which its relative references are resolved. `address` is the
+/// path or the URL that names the schema.
 pub(crate) fn base_of(alloc: Global, address: &str, path: &str) -> Result<String, AllocError> {
     if is_remote(address) && !address.contains('"') && !address.contains('\\') {
         String::from_str(alloc, without_fragment(address))
@@ -402,8 +402,8 @@ pub(crate) fn base_of(alloc: Global, address: &str, path: &str) -> Result<String
     }
 }
 
-/// Reads and compiles the schema at a path, whose address is `address`. If the schema can't be used, adds an error to `complaint`, and returns a
-/// `Used` without a compiled schema.
+/// Reads and compiles the schema at a path, whose address is `address`. If the schema can't be used, adds an error to
+/// `complaint`, and returns a `Used` without a compiled schema.
 pub(crate) fn used_from<D: Disk>(
     alloc: Global,
     disk: &mut D,

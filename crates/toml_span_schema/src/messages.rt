@@ -5,7 +5,8 @@ use crate::error::CheckError;
 use crate::keyword::{Keyword, Placed, Types};
 use crate::listed::Part;
 use crate::schema::Schema;
-use crate::walk::{Cause, Violation};
+use crate::subschemas::Kinds;
+use crate::walk::{Cause, Violation, is_plain};
 use json::{Scratch, is_valid};
 use std::alloc::{AllocError, Global};
 use std::borrow::CowStr;
@@ -397,13 +398,54 @@ impl Schema {
         true
     }
 
-    /// Returns what to do about a value of a wrong type, or an empty text: quotes around a number or boolean, or a
-    /// table instead of an array of tables.
+    /// Returns a value that the schema at index `node` may allow, as TOML: the first one that it lists, or an empty value
+    /// of its type. Returns an empty text if the schema has neither.
+    fn value_for(&self, node: usize) -> &str {
+        let mut kinds = Kinds::NONE;
+        for placed in self.keywords(node) {
+            match &placed.keyword {
+                Keyword::Type(types) => kinds.add_types(types),
+                Keyword::Enum(_, shown) => {
+                    let first = shown.first().map_or("", |value| value.as_str());
+                    // (JSON and TOML write such values alike)
+                    if !first.contains('\\') && !first.contains('{') {
+                        return first.trim_matches('`');
+                    }
+                }
+                _ => {}
+            }
+        }
+        if kinds.is_empty() {
+            ""
+        } else {
+            kinds.empty_value()
+        }
+    }
+
+    /// Returns what to do about a table without the key `name`, which the schema at index `node` requires, or an empty
+    /// text: add the key, with a value that its schema may allow.
+    fn addition(&self, alloc: Global, node: usize, name: &str) -> Result<String, AllocError> {
+        for placed in self.keywords(node) {
+            if let Keyword::Properties(named, _, _) = &placed.keyword {
+                let value = named.get(name).map_or("", |inner| self.value_for(*inner));
+                if is_plain(name) && !value.is_empty() {
+                    return format!(in alloc; "add `{name} = {value}`");
+                }
+            }
+        }
+        Ok(String::new(alloc))
+    }
+
+    /// Returns what to do about a missing key or a value of a wrong type, or an empty text: the key with a value, quotes
+    /// around a number or boolean, or a table instead of an array of tables.
     pub(crate) fn help_of<'s>(
         &'s self,
         alloc: Global,
         violation: &Violation<'s, '_, '_>,
     ) -> Result<String, AllocError> {
+        if let Cause::Missing(name) = violation.cause {
+            return self.addition(alloc, violation.node, name);
+        }
         if !violation.is_unlisted() {
             return Ok(String::new(alloc));
         }

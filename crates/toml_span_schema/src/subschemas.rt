@@ -42,7 +42,7 @@ pub struct Kinds {
 
 impl Kinds {
     /// No kind.
-    const NONE: Kinds = Kinds {
+    pub(crate) const NONE: Kinds = Kinds {
         string: false,
         integer: false,
         float: false,
@@ -56,8 +56,25 @@ impl Kinds {
         *self == Kinds::NONE
     }
 
+    /// Returns an empty value of one of the kinds as TOML, or an empty string (`""`) if there are none.
+    pub fn empty_value(&self) -> &'static str {
+        if self.string || self.is_empty() {
+            "\"\""
+        } else if self.table {
+            "{}"
+        } else if self.array {
+            "[]"
+        } else if self.boolean {
+            "false"
+        } else if self.integer {
+            "0"
+        } else {
+            "0.0"
+        }
+    }
+
     /// Adds the kinds that the keyword `type` names. A number may be an integer or a float.
-    fn add_types(&mut self, types: &Types) {
+    pub(crate) fn add_types(&mut self, types: &Types) {
         self.string |= types.string;
         self.integer |= types.integer | types.number;
         self.float |= types.number;
