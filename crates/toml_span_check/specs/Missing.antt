@@ -1,5 +1,5 @@
 -- The report that there is no value at a path: what is missing, and which key may be meant.
-use Rattle.std.specs.Prelude.{ℕ, suc, Bool, ◌==◌, List, [], ◌∷◌, ◌++◌, length, codes, if◌then◌else◌, is_none}
+use Rattle.std.specs.Prelude.{ℕ, suc, Bool, true, false, ◌==◌, List, [], ◌∷◌, ◌++◌, length, codes, if◌then◌else◌, is_none}
 use Rattle.std.specs.Prelude.{Option, Some, None, option_and_then, unwrap_or}
 use Rattle.toml_span_check.specs.Numbers.{number_of}
 use Rattle.toml_span_lex.specs.declared.span.Span.{Span}
@@ -41,13 +41,14 @@ abbrev pub count_items : Items → ℕ
 count_items no_items = 0
 count_items (item n ns) = suc (count_items ns)
 
-abbrev pub lacks_in : Option Items → List ℕ → List ℕ → List ℕ
-lacks_in (Some ns) kind segment = codes "this array has " ++ number_of (count_items ns) (codes " element")
-lacks_in None kind segment = codes "this " ++ kind ++ codes " has no key `" ++ segment ++ codes "`"
+abbrev pub lacks_in : Option Items → Bool → List ℕ → List ℕ → List ℕ
+lacks_in (Some ns) is_root kind segment = codes "this array has " ++ number_of (count_items ns) (codes " element")
+lacks_in None true kind segment = codes "the document has no key `" ++ segment ++ codes "`"
+lacks_in None false kind segment = codes "this " ++ kind ++ codes " has no key `" ++ segment ++ codes "`"
 
 -- what a value lacks, to which the segment should apply: elements or a key
 abbrev pub lacks : Bool → Inner → List ℕ → List ℕ
-lacks is_root i segment = lacks_in (items_in i) (if is_root then codes "document" else kind_name i) segment
+lacks is_root i segment = lacks_in (items_in i) is_root (kind_name i) segment
 
 -- the names of the keys
 abbrev pub names_of : Members → List (List ℕ)

@@ -71,6 +71,7 @@ fn names_of<'v>(alloc: Global, table: &'v Table<'_>) -> Result<Vec<&'v str>, All
     Ok(names)
 }
 
+#[tactic(auto, using(crate::proofs::Missings::count_is))]
 /// Returns what `value` lacks, to which `segment` should apply. `is_root` says whether it is the whole document.
 fn lacks(
     alloc: Global,
@@ -85,7 +86,10 @@ fn lacks(
         push_number(&mut out, elements.len(), " element")?;
         return Ok(out);
     }
-    let kind = if is_root { "document" } else { value.type_str() };
+    if is_root {
+        return format!(in alloc; "the document has no key `{segment}`");
+    }
+    let kind = value.type_str();
     format!(in alloc; "this {kind} has no key `{segment}`")
 }
 

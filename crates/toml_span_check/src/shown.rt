@@ -118,12 +118,24 @@ fn entries_of<'v, 'de>(
 ) -> Result<Vec<(&'v Key<'de>, &'v Value<'de>)>, AllocError>
     ensures { IfOk result (λ entries. map entry_of entries.items ≡ entries_in_order is_sorted table.now.entries) }
 {
+    let mut entries = listed(alloc, table)?;
+    if is_sorted {
+        return Ok(entries);
+    }
+    entries.sort_by_key(|entry| entry.0.span.start)?;
+    Ok(entries)
+}
+
+/// Returns the entries of a table in the order of their names.
+fn listed<'v, 'de>(
+    alloc: Global,
+    table: &'v Table<'de>,
+) -> Result<Vec<(&'v Key<'de>, &'v Value<'de>)>, AllocError>
+    ensures { IfOk result (λ entries. map entry_of entries.items ≡ table.now.entries) }
+{
     let mut entries = Vec::with_capacity(alloc, table.len())?;
     for (key, value) in table.iter() {
         entries.push((key, value))?;
-    }
-    if !is_sorted {
-        entries.sort_by_key(|entry| entry.0.span.start)?;
     }
     Ok(entries)
 }
