@@ -26,9 +26,11 @@ use Rattle.toml_span_check.specs.declared.formats.Format.{Format}
 pub shows-text : (says : Says) (format : Format) (task : Task) (pointer name text : List ℕ) (document : ToPrint) →
     task ≡ Show document.printing → document.text.now ≡ text → IsParseResult text depth_limit (Ok document.root) →
     JudgesText says format task pointer name text (Document document)
-shows-text says format task pointer name text document is same tree =
-    (is, λ answer found_is. subst (λ (t : Task). IsRead says format t pointer name text answer) (sym is)
-    (inl (document.root, tree, (found_is.0, found_is.1.0, found_is.1.1 ∙ ap (λ (x : List ℕ). found format document.printing pointer name x found_is.0 (view document.root)) same))))
+shows-text says format task pointer name text document is same tree = (
+  is,
+  λ answer found_is. subst (λ (t : Task). IsRead says format t pointer name text answer) (sym is)
+      (inl (document.root, tree, (found_is.0, found_is.1.0, found_is.1.1 ∙ ap (λ (x : List ℕ). found format document.printing pointer name x found_is.0 (view document.root)) same))),
+)
 
 -- an answer, with a verdict that has its counts and its text for standard error
 same-answer : (answer : Answer) (v : Verdict) → told v ≡ (answer.0, answer.2) → let a : Answer = (v.count, answer.1, string_bytes v.stderr) in answer ≡ a

@@ -1,6 +1,6 @@
 -- The report that there is no value at a path: what is missing, and which key may be meant.
-use Rattle.std.specs.Prelude.{ℕ, suc, Bool, true, false, ◌==◌, List, [], ◌∷◌, ◌++◌, length, codes, if◌then◌else◌, is_none}
-use Rattle.std.specs.Prelude.{Option, Some, None, option_and_then, unwrap_or}
+use Rattle.std.specs.Prelude.{ℕ, suc, Bool, ◌==◌, List, [], ◌∷◌, ◌++◌, length, codes, if◌then◌else◌, is_none}
+use Rattle.std.specs.Prelude.{Option, Some, None, option_and_then, option_map, unwrap_or}
 use Rattle.toml_span_check.specs.Numbers.{number_of}
 use Rattle.toml_span_lex.specs.declared.span.Span.{Span}
 use Rattle.toml_span_places.specs.Quoted.{key_text}
@@ -41,14 +41,17 @@ abbrev pub count_items : Items → ℕ
 count_items no_items = 0
 count_items (item n ns) = suc (count_items ns)
 
-abbrev pub lacks_in : Option Items → Bool → List ℕ → List ℕ → List ℕ
-lacks_in (Some ns) is_root kind segment = codes "this array has " ++ number_of (count_items ns) (codes " element")
-lacks_in None true kind segment = codes "the document has no key `" ++ segment ++ codes "`"
-lacks_in None false kind segment = codes "this " ++ kind ++ codes " has no key `" ++ segment ++ codes "`"
+abbrev pub lacks_key : Inner → List ℕ → List ℕ
+lacks_key i name = codes "this " ++ kind_name i ++ codes " has no key `" ++ name ++ codes "`"
+
+abbrev pub lacks_in : Option Items → Inner → List ℕ → List ℕ
+lacks_in (Some ns) i segment = codes "this array has " ++ number_of (count_items ns) (codes " element")
+lacks_in None i segment = lacks_key i segment
 
 -- what a value lacks, to which the segment should apply: elements or a key
 abbrev pub lacks : Bool → Inner → List ℕ → List ℕ
-lacks is_root i segment = lacks_in (items_in i) is_root (kind_name i) segment
+lacks is_root i segment =
+    if is_root then codes "the document has no key `" ++ segment ++ codes "`" else lacks_in (items_in i) i segment
 
 -- the names of the keys
 abbrev pub names_of : Members → List (List ℕ)
@@ -78,22 +81,13 @@ stopped r path mark i segment = suggested (with_mark r mark (lacks (is_none mark
 
 -- ---- the way to the value
 
--- The report with what is missing on the way along the segments from the value n, which is at `path`. If the first
--- segment leads to a value, `next` is this value.
-abbrev mutual
-  pub explained_from : ReportContent → List ℕ → Option Span → List (List ℕ) → Node → ReportContent
-  explained_from r path mark [] n = r
-  explained_from r path mark (segment ∷ more) n =
-      explained_after r path mark segment more n (untaken_entry segment n)
-
-  pub explained_after : ReportContent → List ℕ → Option Span → List ℕ → List (List ℕ) → Node → Option Node
-      → ReportContent
-  explained_after r path mark segment more n None = stopped r path mark (inner_of n) segment
-  explained_after r path mark segment more n (Some next) =
-      explained_from r (with_step (inner_of n) path segment) (Some (mark_of (inner_of n) segment next)) more next
-
-abbrev pub explained : ReportContent → List (List ℕ) → Node → ReportContent
-explained r segments n = explained_from r [] None segments n
+-- the report with what is missing on the way along the segments from the value n, which is at `path`
+abbrev pub explained : ReportContent → List ℕ → Option Span → List (List ℕ) → Node → ReportContent
+explained r path mark [] n = r
+explained r path mark (segment ∷ more) n =
+    unwrap_or (option_map (λ next. explained r (with_step (inner_of n) path segment)
+    (Some (mark_of (inner_of n) segment next)) more next) (untaken_entry segment n))
+    (stopped r path mark (inner_of n) segment)
 
 abbrev pub nothing_there : List ℕ → ReportContent
 nothing_there pointer = bare severity.Error (codes "nothing-there") (codes "no value at `" ++ pointer ++ codes "`")
@@ -101,4 +95,4 @@ nothing_there pointer = bare severity.Error (codes "nothing-there") (codes "no v
 -- the report that a path names no value in the document n; without segments if the path is malformed
 abbrev pub missing : List ℕ → Option (List (List ℕ)) → Node → ReportContent
 missing pointer None n = nothing_there pointer
-missing pointer (Some segments) n = explained (nothing_there pointer) segments n
+missing pointer (Some segments) n = explained (nothing_there pointer) [] None segments n

@@ -47,7 +47,11 @@ fn push_prefix(
     let name = shown_word(alloc, name)?;
     let mut out = String::new(alloc);
     push_visible(&mut out, name.as_str())?;
-    out.push_str(if printing.form == Form::Items { ":\n" } else { ": " })?;
+    out.push_str(if printing.form == Form::Items {
+        ":\n"
+    } else {
+        ": "
+    })?;
     held.extend_from_slice(out.as_bytes())?;
     Ok(())
 }
@@ -81,7 +85,10 @@ fn write_value<W: Sink>(
 }
 
 /// Returns the segments of `path`, or `None` if it is malformed.
-pub(crate) fn segments_of<'p>(alloc: Global, path: &'p str) -> Result<Option<Vec<CowStr<'p>>>, AllocError>
+pub(crate) fn segments_of<'p>(
+    alloc: Global,
+    path: &'p str,
+) -> Result<Option<Vec<CowStr<'p>>>, AllocError>
     ensures { IfOk result (λ names. IsNames path.now (option_map (λ names. map cow_str_bytes names.items) names)) }
 {
     match path_segments(alloc, path) {

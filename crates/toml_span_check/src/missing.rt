@@ -71,7 +71,18 @@ fn names_of<'v>(alloc: Global, table: &'v Table<'_>) -> Result<Vec<&'v str>, All
     Ok(names)
 }
 
-#[tactic(auto, using(crate::proofs::Missings::count_is))]
+/// Returns that `value`, which is not an array, has no key with this name.
+fn lacks_key(alloc: Global, value: &Value<'_>, name: &str) -> Result<String, AllocError>
+    ensures { IfOk result (λ out. string_bytes out ≡ spec.lacks_key (inner_of (view value.now)) name.now) }
+{
+    let mut out = String::from_str(alloc, "this ")?;
+    out.push_str(value.type_str())?;
+    out.push_str(" has no key `")?;
+    out.push_str(name)?;
+    out.push_str("`")?;
+    Ok(out)
+}
+
 /// Returns what `value` lacks, to which `segment` should apply. `is_root` says whether it is the whole document.
 fn lacks(
     alloc: Global,
@@ -81,16 +92,18 @@ fn lacks(
 ) -> Result<String, AllocError>
     ensures { IfOk result (λ out. string_bytes out ≡ spec.lacks is_root (inner_of (view value.now)) segment.now) }
 {
-    if let Some(elements) = value.as_array() {
-        let mut out = String::from_str(alloc, "this array has ")?;
-        push_number(&mut out, elements.len(), " element")?;
-        return Ok(out);
-    }
     if is_root {
         return format!(in alloc; "the document has no key `{segment}`");
     }
-    let kind = value.type_str();
-    format!(in alloc; "this {kind} has no key `{segment}`")
+    match value.as_array() {
+        Some(elements) => {
+            let elements = elements.as_slice();
+            let mut out = String::from_str(alloc, "this array has ")?;
+            push_number(&mut out, elements.len(), " element")?;
+            Ok(out)
+        }
+        None => lacks_key(alloc, value, segment),
+    }
 }
 
 /// Adds a line of help to the report, if a key of the table `value`, which is at `path`, has a name similar to `name`.
@@ -112,8 +125,9 @@ fn suggested(
         return Ok(report);
     };
     push_step(alloc, &mut path, value, meant)?;
-    let path = path.as_str();
-    let help = format!(in alloc; "did you mean `{path}`?")?;
+    let mut help = String::from_str(alloc, "did you mean `")?;
+    help.push_str(path.as_str())?;
+    help.push_str("`?")?;
     report.help(help.as_str())
 }
 
@@ -130,37 +144,44 @@ fn stopped(
     ensures { IfOk result (λ made. report_content made
         ≡ spec.stopped (report_content report) (string_bytes path) mark (inner_of (view value.now)) segment.now) }
 {
-    let text = lacks(alloc, mark.is_none(), value, segment)?;
-    let report = match mark {
-        Some(span) => report.primary(span, text.as_str())?,
-        None => report.note(text.as_str())?,
-    };
-    suggested(alloc, report, path, value, segment)
+    match mark {
+        Some(span) => {
+            let text = lacks(alloc, false, value, segment)?;
+            let report = report.primary(span, text.as_str())?;
+            suggested(alloc, report, path, value, segment)
+        }
+        None => {
+            let text = lacks(alloc, true, value, segment)?;
+            let report = report.note(text.as_str())?;
+            suggested(alloc, report, path, value, segment)
+        }
+    }
 }
 
-/// Adds to the report where the segments of a path stop leading to values of `root`, and why.
+/// Adds to the report where the segments of a path stop leading from `value`, which is at `path`, to other values.
 fn explained(
     alloc: Global,
     report: Report,
-    root: &Value<'_>,
+    mut path: String,
+    mark: Option<Span>,
+    value: &Value<'_>,
     segments: &[CowStr<'_>],
 ) -> Result<Report, AllocError>
-    ensures { IfOk result (λ made. report_content made
-        ≡ spec.explained (report_content report) (map cow_str_bytes segments.now) (view root.now)) }
+    ensures { IfOk result (λ made. report_content made ≡ spec.explained (report_content report) (string_bytes path) mark
+        (map cow_str_bytes segments.now) (view value.now)) }
 {
-    let mut path = String::new(alloc);
-    let mut mark = None;
-    let mut value = root;
-    for segment in segments {
-        let segment = segment.as_ref();
-        let Some(child) = child_of(value, segment) else {
-            return stopped(alloc, report, path, mark, value, segment);
-        };
-        push_step(alloc, &mut path, value, segment)?;
-        mark = Some(mark_of(value, segment, child));
-        value = child;
+    let [segment, rest @ ..] = segments else {
+        return Ok(report);
+    };
+    let segment = segment.as_ref();
+    match child_of(value, segment) {
+        Some(child) => {
+            push_step(alloc, &mut path, value, segment)?;
+            let mark = Some(mark_of(value, segment, child));
+            explained(alloc, report, path, mark, child, rest)
+        }
+        None => stopped(alloc, report, path, mark, value, segment),
     }
-    Ok(report)
 }
 
 /// Returns the report that the path `pointer` names no value in the document `root`. `segments` are those of the path,
@@ -177,7 +198,7 @@ pub(crate) fn missing(
     let message = format!(in alloc; "no value at `{pointer}`")?;
     let report = Report::error(alloc, "nothing-there", message.as_str())?;
     match segments {
-        Some(segments) => explained(alloc, report, root, segments),
+        Some(segments) => explained(alloc, report, String::new(alloc), None, root, segments),
         None => Ok(report),
     }
 }

@@ -136,15 +136,7 @@ fn collect_one<S: Schemas, O: Sink>(
     match reading {
         Ok(bytes) => {
             let held = &mut collected.held;
-            let found = collect_bytes(
-                alloc,
-                question,
-                name,
-                bytes.as_slice(),
-                held,
-                schemas,
-                out,
-            )?;
+            let found = collect_bytes(alloc, question, name, bytes.as_slice(), held, schemas, out)?;
             let stderr = found.stderr.as_str();
             collected.errors.push_str(stderr)?;
             let status = status_of(question.task, found.count.errors, stderr);
@@ -208,15 +200,7 @@ fn collect<I: Inputs, S: Schemas, O: Sink>(
     for name in names {
         let name = name.as_str();
         let reading = inputs.read(alloc, name)?;
-        collect_one(
-            alloc,
-            question,
-            name,
-            reading,
-            &mut collected,
-            schemas,
-            out,
-        )?;
+        collect_one(alloc, question, name, reading, &mut collected, schemas, out)?;
     }
     Ok(collected)
 }

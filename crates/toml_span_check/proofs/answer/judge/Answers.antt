@@ -42,4 +42,3 @@ returns-in-Ok g c = judged _ _ _ _ _ _ _ c.if-bytes-gt-BOUND.false c.in-Ok.ensur
 
 pub not_utf8_fault-requires : goal.not_utf8_fault-requires
 not_utf8_fault-requires g c = subst (IsValidUpTo c.args.bytes.now) (sym c.valid_up_to-at.ensures) c.in-Err.ensures.cases.1
-
