@@ -5,7 +5,7 @@ use Rattle.toml_span_check.specs.Schemas.{Says}
 use Rattle.toml_span_check.specs.declared.answer.Task.{Task}
 use Rattle.toml_span_check.specs.declared.answer.Task.TheVariants.{Check, Show}
 use Rattle.toml_span_check.specs.declared.formats.Format.{Format}
-use Rattle.toml_span_check.specs.Run.{Asked, Reading, Gathered, LogsSearch, FindsAll, no_name, one_more, Logs, Shows, Collects, CollectsFirst, nothing, answered, unread, none_wrong, together, whole}
+use Rattle.toml_span_check.specs.Run.{Asked, Reading, Gathered, LogsSearch, FindsAll, no_name, one_more, Logs, Shows, Collects, CollectsFirst, named_task, nothing, answered, unread, none_wrong, together, whole}
 use Rattle.toml_span_check.specs.code.Collected.{AddsFile, BegunOne, Holds, CollectsAll, CollectsFiles, CollectsOne, TextsOf}
 use Rattle.toml_span_check.specs.declared.run.Tally.{Tally}
 use Rattle.toml_span_check.specs.declared.run.Collected.{Collected}
@@ -96,10 +96,10 @@ whole-shown format task text shows = grind (arith, nat_tests, common_steps)
 
 -- the reports on all files together are held
 pub whole-held : (format : Format) (task : Task) (a b : Option (List ℕ)) (all held kept : List ℕ) → Holds task a b all held → kept ≡ whole format task held → HoldsRest a b (whole format task all) kept
-whole-held format (Show form) a b all held kept h is = subst (HoldsRest a b all) (sym is) h.0
+whole-held format (Show printing) a b all held kept h is = subst (HoldsRest a b all) (sym is) h.0
 whole-held format (Check version chooser) a b all held kept (h, inl same) is =
     (h.0, h.1, ap (λ f. f ++ kept) (no-front h.0 held all h.2 same) ∙ is ∙ ap (together format) same)
-whole-held format (Check version chooser) a b all held kept (h, inr (form, wrong)) is = cc
+whole-held format (Check version chooser) a b all held kept (h, inr (printing, wrong)) is = cc
 
 shows-next : (task : Task) (a b c : Option (List ℕ)) → (b ≡ a) ⊎ Shows task → (c ≡ b) ⊎ Shows task → (c ≡ a) ⊎ Shows task
 shows-next task a b c h k = grind (arith, nat_tests, common_steps)
@@ -175,14 +175,35 @@ pub stops-finding : (says : Says) (format : Format) (task : Task) (pointer : Lis
     b ≡ a → failed ≡ false → IsErrAnd r (λ y. y ≡ Memory) → CollectsAll says format task pointer excludes names watched r old new a b failed
 stops-finding says format task pointer excludes names watched old new a b failed r same good err = grind (arith, nat_tests, common_steps)
 
+-- the task with or without names
+pub shows-named : (task : Task) (count : ℕ) → Shows (named_task task count) → Shows task
+shows-named (Show printing) count shows = (printing, refl)
+shows-named (Check version chooser) count (printing, wrong) = cc
+
+pub whole-named : (format : Format) (task : Task) (count : ℕ) (text : List ℕ) → whole format (named_task task count) text ≡ whole format task text
+whole-named format (Show printing) count text = refl
+whole-named format (Check version chooser) count text = refl
+
+pub or-shows : (P : Type 0) (task : Task) (count : ℕ) → P ⊎ Shows (named_task task count) → P ⊎ Shows task
+or-shows P task count (inl p) = inl p
+or-shows P task count (inr shows) = inr (shows-named task count shows)
+
 stops-all : (says : Says) (format : Format) (task : Task) (pointer : List ℕ) (excludes names files : List (List ℕ)) (watched : Bool) (old mid new : Option Asked) (a b : Option (List ℕ)) (failed : Bool) (e : Unwritten) →
-    FindsAll excludes names old mid files → CollectsFiles says format task pointer files (Err e) mid new a b failed → CollectsAll says format task pointer excludes names watched (Err e) old new a b failed
-stops-all says format task pointer excludes names files watched old mid new a b failed e found h = grind (arith, nat_tests, common_steps)
+    FindsAll excludes names old mid files → CollectsFiles says format (named_task task (length files)) pointer files (Err e) mid new a b failed → CollectsAll says format task pointer excludes names watched (Err e) old new a b failed
+stops-all says format task pointer excludes names files watched old mid new a b failed Failed found (bad, shows, first) =
+    (bad, record { aloud = refl; files = files; mid = mid; found = found; prints = first })
+stops-all says format task pointer excludes names files watched old mid new a b failed Memory found (good, inl same) = (good, inl same)
+stops-all says format task pointer excludes names files watched old mid new a b failed Memory found (good, inr (shows, (last, first))) =
+    (good, inr (shows-named task (length files) shows, (last, record { aloud = refl; files = files; mid = mid; found = found; prints = first })))
+
+pub stops-collecting : (says : Says) (format : Format) (task : Task) (pointer : List ℕ) (excludes names files : List (List ℕ)) (watched : Bool) (old mid new : Option Asked) (a b : Option (List ℕ)) (failed : Bool) (e : Unwritten) (r : Result Collected Unwritten) →
+    FindsAll excludes names old mid files → CollectsFiles says format (named_task task (length files)) pointer files (Err e) mid new a b failed → IsErrAnd r (λ y. y ≡ e) → CollectsAll says format task pointer excludes names watched r old new a b failed
+stops-collecting says format task pointer excludes names files watched old mid new a b failed e r found h err = grind (arith, nat_tests, common_steps, stops-all says format task pointer excludes names files watched old mid new a b failed e found h)
 
 -- memory runs out after the files
 pub stops-counting : (says : Says) (format : Format) (task : Task) (pointer : List ℕ) (excludes names files : List (List ℕ)) (watched : Bool) (old mid new : Option Asked) (a b : Option (List ℕ)) (failed : Bool) (t : Collected) (r : Result Collected Unwritten) →
-    FindsAll excludes names old mid files → CollectsFiles says format task pointer files (Ok t) mid new a b failed → IsErrAnd r (λ y. y ≡ Memory) → CollectsAll says format task pointer excludes names watched r old new a b failed
+    FindsAll excludes names old mid files → CollectsFiles says format (named_task task (length files)) pointer files (Ok t) mid new a b failed → IsErrAnd r (λ y. y ≡ Memory) → CollectsAll says format task pointer excludes names watched r old new a b failed
 stops-counting says format task pointer excludes names files watched old mid new a b failed t r found stdout err =
     let text : TextsOf = (t.held.items, string_bytes t.errors, t.status, t.wrong) in
-    let first = first-upto says format task pointer files [] files mid new a b text (stdout.1, stdout.2) (sym (append-nil files)) in
+    let first = first-upto says format (named_task task (length files)) pointer files [] files mid new a b text (stdout.1, stdout.2) (sym (append-nil files)) in
     grind (arith, nat_tests, common_steps, stops-all says format task pointer excludes names files watched old mid new a b failed Memory found (stdout.0, first))

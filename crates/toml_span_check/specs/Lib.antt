@@ -9,7 +9,10 @@ pub mod Formats
 pub mod Github
 pub mod Globs
 pub mod Lints
+pub mod Missing
 pub mod Newer
+pub mod Numbers
+pub mod Order
 pub mod Patterns
 pub mod Run
 pub mod Safety

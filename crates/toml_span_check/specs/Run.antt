@@ -11,11 +11,12 @@ use Rattle.std.specs.declared.io.ErrorKind.TheVariants as kind
 use Rattle.toml_span_lines.specs.Run.{HasRead, HasReadAll, HasWritten}
 use Rattle.toml_span_check.specs.Answer.{Answer, IsAnswer}
 use Rattle.toml_span_check.specs.Fixable.{no_error, one_error, plus}
+use Rattle.toml_span_check.specs.Numbers.{number_of}
 use Rattle.toml_span_check.specs.Sarif.{document}
 use Rattle.toml_span_report.specs.Visible.{visible}
 use Rattle.toml_span_check.specs.Schemas.{Says}
 use Rattle.toml_span_check.specs.Words.{shown_word}
-use Rattle.toml_span_check.specs.declared.answer.Form.{Form}
+use Rattle.toml_span_check.specs.declared.answer.Printing.{Printing}
 use Rattle.toml_span_check.specs.declared.answer.Task.{Task}
 use Rattle.toml_span_check.specs.declared.answer.Task.TheVariants.{Check, Show}
 use Rattle.toml_span_check.specs.declared.fixable.Count.{Count}
@@ -83,9 +84,12 @@ none_wrong = record { files = 0; count = no_error }
 abbrev pub counted : Tally → Count → Tally
 counted wrong count = record { files = wrong.files + min count.errors 1; count = plus wrong.count count }
 
--- the exit status for a file with this many errors, and this complaint about its schema
-abbrev pub status_of : ℕ → List ℕ → ℕ
-status_of errors complaint = if length complaint == 0 then (if errors == 0 then 0 else 1) else 2
+-- the exit status for a file with this many errors and this text for standard error, which is a complaint about the
+-- schema if the task is a check
+abbrev pub status_of : Task → ℕ → List ℕ → ℕ
+status_of (Check version chooser) errors stderr =
+    if length stderr == 0 then (if errors == 0 then 0 else 1) else 2
+status_of (Show printing) errors stderr = if errors == 0 then 0 else 1
 
 -- The output for files, one after the other: the answer to the bytes of each, and a line for each that can't be read.
 -- The exit status is the highest of all files: 0 for a file without errors, 1 for a file with errors, and 2 for a file
@@ -97,7 +101,7 @@ pub data Gathered (says : Says) (format : Format) (task : Task) (pointer : List 
       (answer : Answer)
       → Gathered says format task pointer rs out errors status wrong → IsAnswer says format task pointer name bytes answer
       → Gathered says format task pointer (rs ++ (name, Ok bytes) ∷ []) (out ++ answer.1) (errors ++ answer.2)
-      (max status (status_of answer.0.errors answer.2)) (counted wrong answer.0)
+      (max status (status_of task answer.0.errors answer.2)) (counted wrong answer.0)
   unread : (rs : List Reading) (out errors : List ℕ) (status : ℕ) (wrong : Tally) (name reason : List ℕ)
       → Gathered says format task pointer rs out errors status wrong
       → Gathered says format task pointer (rs ++ (name, Err reason) ∷ []) out
@@ -111,10 +115,6 @@ pub record Collects (says : Says) (format : Format) (task : Task) (pointer : Lis
   pub asked : map (λ r. r.0) readings ≡ names
   pub logged : Logs old new readings
   pub gathered : Gathered says format task pointer readings out errors status wrong
-
--- a number and a noun, in the plural unless the number is 1
-abbrev pub number_of : ℕ → List ℕ → List ℕ
-number_of n word = decimal n ++ word ++ (if n == 1 then [] else codes "s")
 
 -- how many errors have safe fixes, and how many more have fixes
 abbrev pub fixable_with : ℕ → ℕ → List ℕ
@@ -149,8 +149,13 @@ together Sarif stdout = document stdout
 together _ stdout = stdout
 
 abbrev pub whole : Format → Task → List ℕ → List ℕ
-whole format (Show form) stdout = stdout
+whole format (Show printing) stdout = stdout
 whole format (Check version chooser) stdout = together format stdout
+
+-- the task for this number of files: if there are several, their names are printed before values
+abbrev pub named_task : Task → ℕ → Task
+named_task (Show printing) files = Show (record printing { is_named = nat_lt 1 files })
+named_task (Check version chooser) files = Check version chooser
 
 -- the output, or nothing in a quiet run
 abbrev pub said : Bool → List ℕ → List ℕ
@@ -166,13 +171,13 @@ pub record IsOutput (says : Says) (format : Format) (task : Task) (pointer : Lis
   pub all : List ℕ
   pub complaints : List ℕ
   pub wrong : Tally
-  pub prints : Collects says format task pointer files mid new all complaints status wrong
+  pub prints : Collects says format (named_task task (length files)) pointer files mid new all complaints status wrong
   pub shown : out ≡ said is_quiet (whole format task all)
   pub stderr : errors ≡ said is_quiet (complaints ++ summary format task is_watched (length files) wrong)
 
 -- the task is to print documents
 abbrev pub Shows : Task → Type 0
-Shows task = (form : Form) × (task ≡ Show form)
+Shows task = (printing : Printing) × (task ≡ Show printing)
 
 -- The first files were read, or all of them if the task is to check, and a prefix of the output for them was written.
 pub record CollectsFirst (says : Says) (format : Format) (task : Task) (pointer : List ℕ) (files : List (List ℕ))
@@ -195,7 +200,7 @@ pub record Begins (says : Says) (format : Format) (task : Task) (pointer : List 
   pub files : List (List ℕ)
   pub mid : Option Asked
   pub found : FindsAll excludes names old mid files
-  pub prints : CollectsFirst says format task pointer files mid new stdout stdout'
+  pub prints : CollectsFirst says format (named_task task (length files)) pointer files mid new stdout stdout'
 
 -- A run with this exit status. `stdout` and `stdout'` are the texts on standard output before and after the run, and
 -- `out_failed` says whether a write to standard output failed. `stderr`, `stderr'` and `err_failed` are the same for

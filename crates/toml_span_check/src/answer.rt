@@ -1,5 +1,5 @@
-//! Checks one file, or parses it for printing. Returns the verdict and the text of the reports, or the document.
-ghost use Rattle.std.specs.Prelude.{◌≡◌, ◌++◌, IfOk, OnOk, ℕ, List, [], map, string_bytes};
+//! Checks one file, or parses it for printing. Returns the verdict and the text for standard output, or the document.
+ghost use Rattle.std.specs.Prelude.{◌≡◌, ◌++◌, IfOk, OnOk, ℕ, List, map, string_bytes};
 ghost use Rattle.std.specs.Str.{IsValidUpTo};
 ghost use Rattle.toml_span_lex.specs.declared.stop.Stop.TheVariants.{Fault};
 ghost use Rattle.toml_span.specs.Parsing.{IsRefusal};
@@ -7,9 +7,7 @@ ghost use Rattle.toml_span_read.specs.Data.{depth_limit};
 ghost use Rattle.toml_span_report.specs.Report.{report_content};
 ghost use Rattle.toml_span_tree.specs.Value.{view};
 ghost use Rattle.toml_span_check.specs.Answer as spec;
-ghost use Rattle.toml_span_check.specs.code.Judged.{Judges, JudgesText};
-ghost use Rattle.toml_span_check.specs.Fixable.{one_error};
-ghost use Rattle.toml_span_check.specs.declared.fixable.Count.{Count};
+ghost use Rattle.toml_span_check.specs.code.Judged.{Judges, JudgesText, answer_of};
 
 use crate::encoding::not_utf8;
 use crate::every::errors_from;
@@ -39,51 +37,58 @@ pub enum Form {
     Toml,
 }
 
+/// What is printed of a document or value.
+#[derive(Clone, Copy, PartialEq, Eq)]
+pub struct Printing {
+    pub form: Form,
+    /// Whether the keys of JSON are sorted. Otherwise, they are in the order of the text.
+    pub is_sorted: bool,
+    /// Whether the name of the file comes first. `run` sets this if there are several files.
+    pub is_named: bool,
+}
+
 /// The task for a file.
 #[derive(Clone, Copy, PartialEq, Eq)]
 pub enum Task {
     /// Report the errors of the file, checked as this version of TOML, and violations of the schema that the chooser
     /// selects.
     Check(Version, Chooser),
-    /// Print the document, or a value in it, in this form.
-    Show(Form),
+    /// Print the document, or a value in it.
+    Show(Printing),
 }
 
-/// The numbers of errors of a file, and the complaint about its schema.
+/// The numbers of errors of a file, and the text for standard error.
 #[derive(Drop)]
 pub(crate) struct Verdict {
     /// The numbers of errors. A complaint counts as one error.
     pub(crate) count: Count,
-    /// The lines of `SchemaReports::complaint`, for standard error. Empty if no schema check was attempted, since the
-    /// file has errors.
-    pub(crate) complaint: String,
+    /// If a value is printed, the reports of the errors. Otherwise the lines of `SchemaReports::complaint`, which are
+    /// empty if no schema check was attempted, since the file has errors.
+    pub(crate) stderr: String,
 }
 
-impl Verdict {
-    /// Returns the verdict on a file with these numbers of errors and no complaint.
-    pub(crate) fn plain(alloc: Global, count: Count) -> Verdict
-        ensures { ◌≡◌ {A = Count × List ℕ} (result.count, string_bytes result.complaint) (count, []) }
-    {
-        Verdict {
-            count,
-            complaint: String::new(alloc),
-        }
-    }
-}
-
-/// Returns the text of an error report in this format. The report is about the file `name` as a whole, without source
-/// lines.
-fn plain_fault(
-    alloc: Global,
-    format: Format,
-    code: &str,
-    message: &str,
-    name: &str,
-) -> Result<Vec<u8>, AllocError>
-    ensures { IfOk result (λ out. out.items ≡ spec.plain_fault format code.now message.now name.now) }
+/// Returns the verdict on a file with these errors, and the text for standard output. `text` has the reports of the
+/// errors. They are for standard error if `task` is to print a value.
+pub(crate) fn reported(alloc: Global, task: Task, count: Count, text: String) -> (Verdict, String)
+    ensures { answer_of result ≡ spec.reported task count (string_bytes text) }
 {
-    let report = Report::error(alloc, code, message)?;
-    Ok(formatted_report(alloc, format, &report, name, "")?.into_bytes())
+    let none = String::new(alloc);
+    match task {
+        Task::Check(_, _) => (
+            Verdict {
+                count,
+                stderr: none,
+            },
+            text,
+        ),
+        Task::Show(_) => (
+            Verdict {
+                count,
+                stderr: text,
+            },
+            none,
+        ),
+    }
 }
 
 /// Returns the text of a report in this format. `text` is the source of the file `name`. If `is_fixable`, `--fix` may
@@ -127,17 +132,18 @@ fn push_reports(
     Ok(())
 }
 
-/// Returns the numbers and the text of the reports that `every::check` returns for the source `text`, without the
+/// Returns the result of `reported` for the reports that `every::check` returns for the source `text`, without the
 /// replacements that `with_fixes` does not make. `error` is the error that `parse` returns for `text`.
 fn errors_text(
     alloc: Global,
     format: Format,
+    task: Task,
     error: &Error<'_>,
     name: &str,
     text: &str,
-) -> Result<(Count, Vec<u8>), AllocError>
+) -> Result<(Verdict, String), AllocError>
     requires { IsRefusal text.now depth_limit (Fault error.now) }
-    ensures { IfOk result (λ out. spec.AreReported format name.now text.now (out.0, out.1.items, [])) }
+    ensures { IfOk result (λ out. spec.AreReported format task name.now text.now (answer_of out)) }
 {
     let reports = shown(alloc, text, errors_from(alloc, text, error)?)?;
     let count = count_of(reports.as_slice());
@@ -151,7 +157,7 @@ fn errors_text(
         name,
         text,
     )?;
-    Ok((count, out.into_bytes()))
+    Ok(reported(alloc, task, count, out))
 }
 
 /// The text of a file, and the name of the file.
@@ -171,9 +177,9 @@ fn document_text<S: Schemas>(
     source: NamedText<'_>,
     root: &Value<'_>,
     schemas: &mut S,
-) -> Result<(Verdict, Vec<u8>), AllocError>
+) -> Result<(Verdict, String), AllocError>
     ensures { IfOk result (λ out. spec.AreChecked S.says format version chooser source.entry.name.now
-        source.entry.text.now (view root.now) (out.0.count, out.1.items, string_bytes out.0.complaint)) }
+        source.entry.text.now (view root.now) (answer_of out)) }
 {
     let NamedText { name, text } = source;
     let reports = version_reports(alloc, text, version, name)?;
@@ -202,65 +208,60 @@ fn document_text<S: Schemas>(
     )?;
     let verdict = Verdict {
         count: Count { errors, ..count },
-        complaint: found.complaint,
+        stderr: found.complaint,
     };
-    Ok((verdict, out.into_bytes()))
+    Ok((verdict, out))
 }
 
-/// Returns the text of the report that the path `pointer` names no value in the file `name`.
-pub(crate) fn nothing_there(
+/// Returns the result of `reported` for a file `name` that is longer than 16 MiB.
+fn too_long(
     alloc: Global,
     format: Format,
-    pointer: &str,
+    task: Task,
     name: &str,
-) -> Result<Vec<u8>, AllocError>
-    ensures { IfOk result (λ out. (one_error, out.items, []) ≡ spec.nothing_there format pointer.now name.now) }
+) -> Result<(Verdict, String), AllocError>
+    ensures { IfOk result (λ out. answer_of out ≡ spec.too_long format task name.now) }
 {
-    let mut message = String::from_str(alloc, "no value at `")?;
-    message.push_str(pointer)?;
-    message.push_str("`")?;
-    plain_fault(alloc, format, "nothing-there", message.as_str(), name)
+    let report = Report::error(alloc, "too-long", "the file is larger than 16 MiB")?;
+    let text = formatted_report(alloc, format, &report, name, "")?;
+    Ok(reported(alloc, task, Count::one(), text))
 }
 
-/// Returns the text of the report that the file `name` is longer than 16 MiB.
-fn too_long(alloc: Global, format: Format, name: &str) -> Result<Vec<u8>, AllocError>
-    ensures { IfOk result (λ out. (one_error, out.items, []) ≡ spec.too_long format name.now) }
-{
-    plain_fault(
-        alloc,
-        format,
-        "too-long",
-        "the file is larger than 16 MiB",
-        name,
-    )
-}
-
-/// Returns the text of the report that the file `name` is not valid UTF-8. `at` is the byte offset of the first invalid
-/// byte.
+/// Returns the result of `reported` for a file `name` that is not valid UTF-8. `at` is the byte offset of the first
+/// invalid byte.
 fn not_utf8_fault(
     alloc: Global,
     format: Format,
+    task: Task,
     name: &str,
     bytes: &[u8],
     at: usize,
-) -> Result<Vec<u8>, AllocError>
+) -> Result<(Verdict, String), AllocError>
     requires { IsValidUpTo bytes.now at }
-    ensures { IfOk result (λ out. out.items ≡ (spec.not_utf8 format name.now bytes.now at).1) }
+    ensures { IfOk result (λ out. answer_of out ≡ spec.not_utf8 format task name.now bytes.now at) }
 {
     let (report, text) = not_utf8(alloc, bytes, at)?;
-    Ok(formatted_report(alloc, format, &report, name, text)?.into_bytes())
+    let text = formatted_report(alloc, format, &report, name, text)?;
+    Ok(reported(alloc, task, Count::one(), text))
+}
+
+/// A document to print.
+#[derive(Drop)]
+pub(crate) struct Document<'t> {
+    pub(crate) printing: Printing,
+    pub(crate) text: &'t str,
+    pub(crate) root: Value<'t>,
 }
 
 /// The result for one file.
 pub(crate) enum Judged<'t> {
-    /// The verdict and the text of the reports, for a file that has errors or is only to be checked.
-    Text(Verdict, Vec<u8>),
-    /// A document to print in this form.
-    Document(Form, Value<'t>),
+    /// The verdict and the text for standard output, for a file that has errors or is only to be checked.
+    Text(Verdict, String),
+    Document(Document<'t>),
 }
 
 /// Parses the source `text` of the file `name`. Returns the document if the source is valid and `task` is to print it,
-/// otherwise the verdict and the text of the reports.
+/// otherwise the verdict and the text for standard output.
 fn judge_text<'t, S: Schemas>(
     alloc: Global,
     format: Format,
@@ -280,20 +281,24 @@ fn judge_text<'t, S: Schemas>(
                 )?;
                 Ok(Judged::Text(verdict, out))
             }
-            Task::Show(form) => Ok(Judged::Document(form, root)),
+            Task::Show(printing) => Ok(Judged::Document(Document {
+                printing,
+                text,
+                root,
+            })),
         },
         Err(stop) => {
             let error = stop.fault()?;
-            let stdout = errors_text(alloc, format, &error, name, text);
+            let found = errors_text(alloc, format, task, &error, name, text);
             drop(error);
-            let (count, out) = stdout?;
-            Ok(Judged::Text(Verdict::plain(alloc, count), out))
+            let (verdict, out) = found?;
+            Ok(Judged::Text(verdict, out))
         }
     }
 }
 
 /// Parses the bytes of the file `name`. Returns the document if the file is valid and `task` is to print it, otherwise
-/// the verdict and the text of the reports. A file that is longer than `BOUND` or not valid UTF-8 has one error.
+/// the verdict and the text for standard output. A file that is longer than `BOUND` or not valid UTF-8 has one error.
 pub(crate) fn judge<'t, S: Schemas>(
     alloc: Global,
     format: Format,
@@ -305,17 +310,15 @@ pub(crate) fn judge<'t, S: Schemas>(
     ensures { IfOk result (λ a. (pointer : List ℕ) → Judges S.says format task pointer name.now bytes.now a) }
 {
     if bytes.len() > BOUND {
-        return Ok(Judged::Text(
-            Verdict::plain(alloc, Count::one()),
-            too_long(alloc, format, name)?,
-        ));
+        let (verdict, out) = too_long(alloc, format, task, name)?;
+        return Ok(Judged::Text(verdict, out));
     }
     match str::from_utf8(bytes) {
         Ok(text) => judge_text(alloc, format, task, name, text, schemas),
         Err(error) => {
             let at = error.valid_up_to();
-            let text = not_utf8_fault(alloc, format, name, bytes, at)?;
-            Ok(Judged::Text(Verdict::plain(alloc, Count::one()), text))
+            let (verdict, out) = not_utf8_fault(alloc, format, task, name, bytes, at)?;
+            Ok(Judged::Text(verdict, out))
         }
     }
 }

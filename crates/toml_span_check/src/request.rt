@@ -19,3 +19,12 @@ pub struct Request<'w> {
     /// Whether to print nothing.
     pub is_quiet: bool,
 }
+
+/// What to do with each file.
+#[derive(Clone, Copy)]
+pub(crate) struct Question<'w> {
+    pub(crate) format: Format,
+    pub(crate) task: Task,
+    /// The path of the value to print.
+    pub(crate) pointer: &'w str,
+}

@@ -1,16 +1,18 @@
 //! Checks or prints files, and writes the output.
 ghost use Rattle.std.specs.Prelude.{◌≡◌, ◌+◌, ◌++◌, IfOk, OnOk, false, map, string_bytes};
 ghost use Rattle.toml_span_check.specs.Run as spec;
+ghost use Rattle.toml_span_check.specs.Numbers.{number_of};
 ghost use Rattle.toml_span_check.specs.Run.{FindsAll, Runs, complaint};
 ghost use Rattle.toml_span_check.specs.code.Collected.{EndsQuiet, CollectsAll, CollectsBytes, CollectsFiles};
 ghost use Rattle.toml_span_check.specs.code.Collected.{CollectsOne};
 
-use crate::answer::{Judged, Task, Verdict, judge};
-use crate::document::{place_of, show};
+use crate::answer::{Judged, Printing, Task, Verdict, judge};
+use crate::document::{segments_of, show};
 use crate::fixable::Count;
 use crate::formats::Format;
 use crate::input::Inputs;
-use crate::request::Request;
+use crate::numbers::push_number;
+use crate::request::{Question, Request};
 use crate::sarif::document;
 use crate::schemas::Schemas;
 use crate::sums::sum_of;
@@ -57,14 +59,14 @@ impl Collected {
 }
 
 /// Returns the exit status for one file: 2 if there is a complaint about its schema, otherwise 1 if there are errors,
-/// otherwise 0.
-fn status_of(errors: usize, complaint: &str) -> u8
-    ensures { result ≡ spec.status_of errors complaint.now }
+/// otherwise 0. `stderr` is the text for standard error, which is a complaint if the task is a check.
+fn status_of(task: Task, errors: usize, stderr: &str) -> u8
+    ensures { result ≡ spec.status_of task errors stderr.now }
 {
-    match (errors, complaint.is_empty()) {
-        (_, false) => 2,
-        (0, true) => 0,
-        (_, true) => 1,
+    match (task, errors) {
+        (Task::Check(_, _), _) if !stderr.is_empty() => 2,
+        (_, 0) => 0,
+        _ => 1,
     }
 }
 
@@ -80,12 +82,12 @@ pub fn push_complaint(out: &mut String, name: &str, reason: &str) -> Result<(), 
     Ok(())
 }
 
-/// Checks the file `name`, whose content is `bytes`, or prints its value at the path in `request`. Returns the verdict.
-/// Reports are appended to `held`. To print a value, `held` and the value are written to `out`, except for the last
-/// bytes, which may stay in `held`. Fails if a write fails.
+/// Checks the file `name`, whose content is `bytes`, or prints its value at the path in `question`. Returns the verdict.
+/// The reports of a check are appended to `held`. To print a value, `held` and the value are written to `out`, except
+/// for the last bytes, which may stay in `held`. Fails if a write fails.
 fn collect_bytes<S: Schemas, O: Sink>(
     alloc: Global,
-    request: &Request<'_>,
+    question: Question<'_>,
     name: &str,
     bytes: &[u8],
     held: &mut Vec<u8>,
@@ -93,28 +95,31 @@ fn collect_bytes<S: Schemas, O: Sink>(
     out: &mut O,
 ) -> Result<Verdict, Unwritten>
     requires { O.failed out.old ≡ false }
-    ensures { CollectsBytes S.says request.now.format request.now.task request.now.pointer.now name.now bytes.now result
+    ensures { CollectsBytes S.says question.format question.task question.entry.pointer.now name.now bytes.now result
         (O.contents out.old) (O.contents out.new) (O.failed out.new) held.old.items held.new.items }
 {
-    match judge(alloc, request.format, request.task, name, bytes, schemas)? {
-        Judged::Text(verdict, mut text) => {
-            held.append(&mut text)?;
+    match judge(alloc, question.format, question.task, name, bytes, schemas)? {
+        Judged::Text(verdict, text) => {
+            held.extend_from_slice(text.as_bytes())?;
             Ok(verdict)
         }
-        Judged::Document(form, root) => {
-            let place = place_of(alloc, request.pointer, &root)?;
-            let count = show(alloc, request, form, name, place, held, out)?;
-            Ok(Verdict::plain(alloc, count))
+        Judged::Document(document) => {
+            let segments = segments_of(alloc, question.pointer)?;
+            let segments = match &segments {
+                Some(segments) => Some(segments.as_slice()),
+                None => None,
+            };
+            show(alloc, question, name, &document, segments, held, out)
         }
     }
 }
 
-/// Checks one file, or prints its value at the path in `request`, and updates the messages, status and counts in
+/// Checks one file, or prints its value at the path in `question`, and updates the messages, status and counts in
 /// `collected`. The output goes through the buffer `collected.held` to `out`; its end may stay in the buffer. `reading`
 /// has the bytes of the file, or the reason why it can't be read. Fails if a write fails.
 fn collect_one<S: Schemas, O: Sink>(
     alloc: Global,
-    request: &Request<'_>,
+    question: Question<'_>,
     name: &str,
     reading: Result<Vec<u8>, String>,
     collected: &mut Collected,
@@ -122,7 +127,7 @@ fn collect_one<S: Schemas, O: Sink>(
     out: &mut O,
 ) -> Result<(), Unwritten>
     requires { O.failed out.old ≡ false }
-    ensures { CollectsOne S.says request.now.format request.now.task request.now.pointer.now name.now
+    ensures { CollectsOne S.says question.format question.task question.entry.pointer.now name.now
         (spec.read_of reading) result
         (O.contents out.old) (O.contents out.new) (O.failed out.new)
         (collected.old.held.items, string_bytes collected.old.errors, collected.old.status, collected.old.wrong)
@@ -131,12 +136,11 @@ fn collect_one<S: Schemas, O: Sink>(
     match reading {
         Ok(bytes) => {
             let held = &mut collected.held;
-            let found = collect_bytes(alloc, request, name, bytes.as_slice(), held, schemas, out)?;
-            let complaint = found.complaint.as_str();
-            collected.errors.push_str(complaint)?;
-            collected.status = collected
-                .status
-                .max(status_of(found.count.errors, complaint));
+            let found = collect_bytes(alloc, question, name, bytes.as_slice(), held, schemas, out)?;
+            let stderr = found.stderr.as_str();
+            collected.errors.push_str(stderr)?;
+            let status = status_of(question.task, found.count.errors, stderr);
+            collected.status = collected.status.max(status);
             collected.count(found.count)?;
         }
         Err(reason) => {
@@ -173,14 +177,14 @@ fn find_all<I: Inputs>(
 /// yet. Fails if a write fails.
 fn collect<I: Inputs, S: Schemas, O: Sink>(
     alloc: Global,
-    request: &Request<'_>,
+    question: Question<'_>,
     names: &[String],
     inputs: &mut I,
     schemas: &mut S,
     out: &mut O,
 ) -> Result<Collected, Unwritten>
     requires { O.failed out.old ≡ false }
-    ensures { CollectsFiles S.says request.now.format request.now.task request.now.pointer.now
+    ensures { CollectsFiles S.says question.format question.task question.entry.pointer.now
         (map (λ name. string_bytes name) names.now) result
         (I.log inputs.old) (I.log inputs.new) (O.contents out.old) (O.contents out.new) (O.failed out.new) }
 {
@@ -196,21 +200,9 @@ fn collect<I: Inputs, S: Schemas, O: Sink>(
     for name in names {
         let name = name.as_str();
         let reading = inputs.read(alloc, name)?;
-        collect_one(alloc, request, name, reading, &mut collected, schemas, out)?;
+        collect_one(alloc, question, name, reading, &mut collected, schemas, out)?;
     }
     Ok(collected)
-}
-
-/// Appends a number and a noun, as in `1 file` or `2 files`. `word` is a space and the singular of the noun.
-fn push_number(out: &mut String, number: usize, word: &str) -> Result<(), AllocError>
-    ensures { OnOk result (string_bytes out.new ≡ string_bytes out.old ++ spec.number_of number word.now) }
-{
-    write!(out, "{number}")?;
-    out.push_str(word)?;
-    if number != 1 {
-        out.push_str("s")?;
-    }
-    Ok(())
 }
 
 /// Appends how many errors have fixes, such as ``, 2 fixable with `--fix` ``. Appends nothing if no error has a fix.
@@ -285,6 +277,19 @@ fn whole(alloc: Global, format: Format, task: Task, stdout: Vec<u8>) -> Result<V
     }
 }
 
+/// Returns the task for this number of files: if there are several, their names are printed before values.
+fn named_task(task: Task, files: usize) -> Task
+    ensures { result ≡ spec.named_task task files }
+{
+    match task {
+        Task::Show(printing) => Task::Show(Printing {
+            is_named: files > 1,
+            ..printing
+        }),
+        Task::Check(version, chooser) => Task::Check(version, chooser),
+    }
+}
+
 /// Reads the files that `request` names, checks or prints each, and adds a summary. Returns the results, with the
 /// output that has not been written yet. Fails if a write fails.
 fn collect_all<I: Inputs, S: Schemas, O: Sink>(
@@ -304,7 +309,12 @@ fn collect_all<I: Inputs, S: Schemas, O: Sink>(
     let names = request.names.as_slice();
     let found = find_all(alloc, excludes, names, inputs)?;
     let files = found.as_slice();
-    let mut collected = collect(alloc, request, files, inputs, schemas, out)?;
+    let question = Question {
+        format: request.format,
+        task: named_task(request.task, files.len()),
+        pointer: request.pointer,
+    };
+    let mut collected = collect(alloc, question, files, inputs, schemas, out)?;
     collected.held = whole(alloc, request.format, request.task, collected.held)?;
     push_summary(&mut collected.errors, request, files.len(), collected.wrong)?;
     Ok(collected)

@@ -25,9 +25,11 @@ fn status_of(rt: HostRuntime) -> Result<u8, AllocError>
     let is_coloured = wants_colours(&rt, out.is_terminal())?;
     let mut out = Tracked::new(out);
     let errors = rt.stderr();
+    let is_watched = errors.is_terminal();
     let screen = Screen {
         is_coloured,
-        is_watched: errors.is_terminal(),
+        has_coloured_errors: wants_colours(&rt, is_watched)?,
+        is_watched,
     };
     let mut errors = Tracked::new(errors);
     let mut host = Host { rt };

@@ -1,5 +1,5 @@
--- What `check` does: with `--fix`, it fixes errors first; then it checks the files. With `--diff`, it only shows what
--- the fixes would change.
+-- What `check` does: with `--fix`, it fixes errors first; then it checks the files. With `--diff`, it shows what the
+-- fixes would change instead of the reports of the check.
 use Rattle.std.specs.Prelude.{◌≡◌, ◌⊎◌, ◌≤◌, ℕ, max, Bool, List, [], Option, None}
 use Rattle.std.specs.Io.KnownBytes.{Keeps}
 use Rattle.toml_span_lines.specs.Run.{HasWritten}
@@ -15,7 +15,7 @@ use Rattle.toml_span_commands.specs.declared.options.Query.TheVariants as querie
 
 -- After files have been fixed, lines are written to standard error: why files were not written, and how many errors
 -- were fixed. There may be no line. Then all files are checked, and the status is at least `unwritten`, which is 3 if a
--- file was not written. If the lines can't be written, the status is 3.
+-- file was not written, and 1 if a file would change. If the lines can't be written, the status is 3.
 abbrev pub ChecksFixed : Request → Option (List ℕ) → Option (List ℕ) → Bool → Option (List ℕ) → Option (List ℕ) → Bool
     → ℕ → Type 0
 ChecksFixed request stdout stdout' out_failed stderr stderr' err_failed status =
@@ -25,12 +25,15 @@ ChecksFixed request stdout stdout' out_failed stderr stderr' err_failed status =
     × (status ≡ max checked unwritten) × (unwritten ≤ 3))
     ⊎ ((status ≡ 3) × Keeps stdout stdout' × (mid ≡ stderr')))
 
--- Lines are written to standard error: why files were not read, and how many errors would be fixed. Then what the fixes
--- would change is written to standard output, unless the lines can't be written.
-abbrev pub ShowsChanges : Option (List ℕ) → Option (List ℕ) → Option (List ℕ) → Option (List ℕ) → ℕ → Type 0
-ShowsChanges stdout stdout' stderr stderr' status =
-    (lines : List ℕ) × HasWritten stderr stderr' lines
-    × (Keeps stdout stdout' ⊎ ((changes : List ℕ) × HasWritten stdout stdout' changes)) × (status ≤ 3)
+-- What the fixes would change is written to standard output. Then the files are checked with these changes, as
+-- `ChecksFixed` says, except that the reports are written nowhere. If the changes can't be written, the status is 3.
+abbrev pub ShowsChanges : Request → Option (List ℕ) → Option (List ℕ) → Option (List ℕ) → Option (List ℕ) → Bool → ℕ
+    → Type 0
+ShowsChanges request stdout stdout' stderr stderr' err_failed status =
+    (changes : List ℕ) × HasWritten stdout stdout' changes
+    × (((nowhere nowhere' : Option (List ℕ)) × (failed : Bool)
+    × ChecksFixed request nowhere nowhere' failed stderr stderr' err_failed status)
+    ⊎ ((status ≡ 3) × Keeps stderr stderr'))
 
 -- What `check` does with right arguments, which make this request and ask for these fixes.
 abbrev pub ChecksWith : Fixing → Request → Option (List ℕ) → Option (List ℕ) → Bool → Option (List ℕ)
@@ -40,7 +43,7 @@ ChecksWith No request stdout stdout' out_failed stderr stderr' err_failed status
 ChecksWith (Write level) request stdout stdout' out_failed stderr stderr' err_failed status =
     ChecksFixed request stdout stdout' out_failed stderr stderr' err_failed status
 ChecksWith (Diff level) request stdout stdout' out_failed stderr stderr' err_failed status =
-    ShowsChanges stdout stdout' stderr stderr' status
+    ShowsChanges request stdout stdout' stderr stderr' err_failed status
 
 -- Configuration files may say the version of TOML, unless the arguments name one, and name schemas. If a configuration
 -- file can't be read or is wrong, only a message is written to standard error, with status 2.

@@ -1,5 +1,8 @@
 -- What configuration files change: the task, and the reports of schemas.
-use Rattle.std.specs.Prelude.{◌≡◌, ℕ, Bool, true, false, List, ◌++◌, map, ◌&&◌, if◌then◌else◌}
+use Rattle.std.specs.Prelude.{◌≡◌, ℕ, Bool, true, false, List, ◌++◌, map, if◌then◌else◌, Option, None}
+use Rattle.toml_span_config.specs.Layers.{empty, given}
+use Rattle.toml_span_config.specs.declared.layers.Chosen.{Chosen}
+use Rattle.toml_span_config.specs.declared.layers.Layer.{Layer}
 use Rattle.toml_span_check.specs.Newer.{Lacks}
 use Rattle.toml_span_check.specs.Schemas.{Says}
 use Rattle.toml_span_check.specs.declared.answer.Task.{Task}
@@ -14,6 +17,19 @@ use Rattle.toml_span_report.specs.Report.{ReportContent}
 use Rattle.toml_span_report.specs.declared.report.Severity.{Severity}
 use Rattle.toml_span_report.specs.declared.report.Severity.TheVariants as severities
 
+-- the version that the command line sets
+abbrev pub given_version : Task → Option (Chosen Version)
+given_version (Check Auto chooser) = None
+given_version (Check asked chooser) = given asked
+given_version (Show printing) = None
+
+-- the settings of the command line: the version of TOML, and whether warnings are errors
+abbrev pub layer_of : Task → Bool → Layer
+layer_of task denies_warnings = record empty {
+  toml = given_version task;
+  deny_warnings = if denies_warnings then given true else None;
+}
+
 -- Who chooses schemas, if configuration files name some.
 abbrev pub with_schemas : Chooser → Bool → Chooser
 with_schemas chooser true = Arguments
@@ -23,7 +39,7 @@ with_schemas chooser false = chooser
 abbrev pub configured_task : Task → Version → Bool → Task
 configured_task (Check Auto chooser) version has_schemas = Check version (with_schemas chooser has_schemas)
 configured_task (Check asked chooser) version has_schemas = Check asked (with_schemas chooser has_schemas)
-configured_task (Show form) version has_schemas = Show form
+configured_task (Show printing) version has_schemas = Show printing
 
 -- The second request is the first with the task that configuration files make of its task.
 abbrev pub IsConfigured : Request → Request → Type 0

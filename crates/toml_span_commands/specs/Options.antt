@@ -1,7 +1,7 @@
 -- The arguments of `check` and `get`. The crate `clap` parses them, as its definitions `matches_of` and `fault_of`
 -- state.
 use Rattle.std.specs.Prelude.{map, ◌≡◌, ◌==◌, ◌&&◌, ◌||◌, not, ℕ, Bool, true, false, List, [], ◌∷◌, length, Option, Some, None, codes}
-use Rattle.std.specs.Prelude.{unwrap_or, if◌then◌else◌, Result, Ok, Err}
+use Rattle.std.specs.Prelude.{◌++◌, ◌-◌, slice_get, take, unwrap_or, if◌then◌else◌, Result, Ok, Err}
 use Rattle.std.specs.Str.{bytes_eq}
 use Rattle.clap.specs.Lexer.{usize_max}
 use Rattle.clap.specs.Kinds.{Kinds, or_else}
@@ -64,6 +64,12 @@ files = record (new_rule (codes "FILE")) {
 abbrev pub required : List ℕ → Rule
 required name = record (new_rule name) { required = true }
 
+-- the path, which may follow further names
+abbrev pub path : Rule
+path = record (required (codes "PATH")) {
+  range = Some (record { start_inclusive = 1; end_inclusive = usize_max });
+}
+
 -- the program `app` with a version, and so with the option `--version`
 abbrev pub with_version : App → App
 with_version app = record app { top = record app.top { has_version = true } }
@@ -87,11 +93,11 @@ fixing =
     (flag (codes "fix"))) (flag (codes "unsafe-fixes"))) (flag (codes "diff"))) (flag (codes "force")))
     (flag (codes "change-owner"))) (flag (codes "in-place"))
 
--- `[..] [--config FILE] [--no-config] [--force-exclude]`, with the options for schemas and fixes
+-- `[..] [--config FILE] [--no-config] [--force-exclude] [--deny-warnings]`, with the options for schemas and fixes
 unfoldable pub configured : App
 configured =
-    with_rule (with_rule (with_rule fixing (optional (codes "config"))) (flag (codes "no-config")))
-    (flag (codes "force-exclude"))
+    with_rule (with_rule (with_rule (with_rule fixing (optional (codes "config"))) (flag (codes "no-config")))
+    (flag (codes "force-exclude"))) (flag (codes "deny-warnings"))
 
 -- `check [..] [--quiet] [--toml VERSION] [--exclude GLOB].. [--stdin-name NAME] [FILE..]`, with the options for schemas,
 -- fixes and configuration files
@@ -101,15 +107,16 @@ check =
     (flag (codes "quiet"))) (with_default (codes "toml") (codes "auto"))) (several (codes "exclude")))
     (with_default (codes "stdin-name") (codes "-"))) files
 
--- `[--format FORMAT] [--color WHEN] [--json] [--raw] [--toml] [--tagged] [--items]`
+-- `[--format FORMAT] [--color WHEN] [--json] [--raw] [--toml] [--tagged] [--items] [--sort-keys]`
 unfoldable pub forms : App
 forms =
-    with_rule (with_rule (with_rule (with_rule (with_rule common (flag (codes "json"))) (flag (codes "raw")))
-    (flag (codes "toml"))) (flag (codes "tagged"))) (flag (codes "items"))
+    with_rule (with_rule (with_rule (with_rule (with_rule (with_rule common
+    (flag (codes "json"))) (flag (codes "raw"))) (flag (codes "toml"))) (flag (codes "tagged")))
+    (flag (codes "items"))) (flag (codes "sort-keys"))
 
--- `get [--format FORMAT] [--color WHEN] [--json] [--raw] [--toml] [--tagged] [--items] FILE PATH`
+-- `get [..] FILE.. PATH`, with the options for forms
 unfoldable pub get : App
-get = with_rule (with_rule forms (required (codes "FILE"))) (required (codes "PATH"))
+get = with_rule (with_rule forms (required (codes "FILE"))) path
 
 abbrev pub program : Query → App
 program queries.Check = check
@@ -124,6 +131,22 @@ value_of rows name = unwrap_or (first_of name rows) []
 -- the values of an option that may be repeated
 abbrev pub values_of : List Row → List ℕ → List (List ℕ)
 values_of rows name = unwrap_or (all_of name rows) []
+
+-- the last of these arguments, or an empty text
+abbrev pub last : List (List ℕ) → List ℕ
+last words = unwrap_or (slice_get words (length words - 1)) []
+
+-- these arguments without the last one
+abbrev pub but_last : List (List ℕ) → List (List ℕ)
+but_last words = take (length words - 1) words
+
+-- the path of `get`: the last argument
+abbrev pub path_of : List Row → List ℕ
+path_of rows = last (values_of rows (codes "PATH"))
+
+-- the names of files: for `get`, all arguments but the last one
+abbrev pub names_of : List Row → List (List ℕ)
+names_of rows = values_of rows (codes "FILE") ++ but_last (values_of rows (codes "PATH"))
 
 abbrev pub is_given : List Row → List ℕ → Bool
 is_given rows name = bytes_eq (value_of rows name) (codes "true")
@@ -160,9 +183,11 @@ form_of rows =
     (is_given rows (codes "toml")) form.Toml) (is_given rows (codes "tagged")) form.Tagged)
     (is_given rows (codes "items")) form.Items
 
-abbrev pub shows : Result (Option Form) Mistake → Result Task Mistake
-shows (Ok chosen) = Ok (Show (unwrap_or chosen form.Plain))
-shows (Err mistake) = Err mistake
+-- the task to print a value in this form, with sorted keys or not
+abbrev pub shows : Result (Option Form) Mistake → Bool → Result Task Mistake
+shows (Ok chosen) is_sorted =
+    Ok (Show (record { form = unwrap_or chosen form.Plain; is_sorted = is_sorted; is_named = false }))
+shows (Err mistake) is_sorted = Err mistake
 
 abbrev pub version_named : List ℕ → Option Version
 version_named name =
@@ -215,12 +240,12 @@ task_of queries.Check rows =
     else checks (version_named (value_of rows (codes "toml"))) (chooser_of rows))
     else Err mistake.Map
 task_of queries.Get rows =
-    if is_bytes (value_of rows (codes "PATH")) then Err mistake.Path
-    else shows (form_of rows)
+    if is_bytes (path_of rows) then Err mistake.Path
+    else shows (form_of rows) (is_given rows (codes "sort-keys"))
 
 -- the format and the task; SARIF is a mistake if the task is to print a value
 abbrev pub with_task : Format → Task → Result (Format × Task) Mistake
-with_task Sarif (Show form) = Err mistake.Sarif
+with_task Sarif (Show printing) = Err mistake.Sarif
 with_task format task = Ok (format, task)
 
 abbrev pub asked_of : Format → Result Task Mistake → Result (Format × Task) Mistake
@@ -240,6 +265,11 @@ with_style None query rows = Err mistake.Color
 abbrev pub asked : Query → List Row → Bool → Result (Format × Task) Mistake
 asked query rows auto_is_coloured = with_style (style_named (value_of rows (codes "color")) auto_is_coloured) query rows
 
+-- whether reports have colors with `--color auto`; those of `get` are on standard error
+abbrev pub coloured : Query → Screen → Bool
+coloured queries.Check screen = screen.is_coloured
+coloured queries.Get screen = screen.has_coloured_errors
+
 -- the options in the arguments `words`, with their values
 unfoldable pub options : Query → List (List ℕ) → List Row
 options query words = matches_of (program query) words
@@ -247,12 +277,11 @@ options query words = matches_of (program query) words
 -- What the arguments `words` mean, if they are right: what to do with which files, and what to do with fixes.
 pub record Asks (query : Query) (words : List (List ℕ)) (screen : Screen) (request : Request) (fixing : Fixing)
     : Type 0 where
-  pub what : asked query (options query words) screen.is_coloured ≡ Ok (request.format, request.task)
-  pub place : request.pointer.now ≡ value_of (options query words) (codes "PATH")
+  pub what : asked query (options query words) (coloured query screen) ≡ Ok (request.format, request.task)
+  pub place : request.pointer.now ≡ path_of (options query words)
   pub left_out : map (λ pattern. pattern.now) request.excludes.items
       ≡ unwrap_or (all_of (codes "exclude") (options query words)) []
-  pub files : map (λ name. name.now) request.names.items
-      ≡ unwrap_or (all_of (codes "FILE") (options query words)) []
+  pub files : map (λ name. name.now) request.names.items ≡ names_of (options query words)
   pub quiet : request.is_quiet ≡ is_given (options query words) (codes "quiet")
   pub watched : request.is_watched ≡ screen.is_watched
   pub fixes : fixing ≡ fixing_of (options query words)

@@ -6,7 +6,7 @@ use Rattle.std.specs.Io.KnownBytes.{Keeps}
 use Rattle.clap.specs.Kinds.{IsAmong}
 use Rattle.clap.specs.declared.error.kind.ErrorKind.{ErrorKind}
 use Rattle.clap.specs.declared.error.kind.ErrorKind.TheVariants.{DisplayHelp, DisplayVersion, OutOfMemory}
-use Rattle.toml_span_commands.specs.Options.{Asks, faults}
+use Rattle.toml_span_commands.specs.Options.{Asks, coloured, faults}
 use Rattle.toml_span_commands.specs.Say.{Prints}
 use Rattle.toml_span_report.specs.Visible.{visible_lines}
 use Rattle.toml_span_check.specs.Run.{Asked, Runs}
@@ -66,8 +66,8 @@ Declines query words auto_is_coloured stdout stdout' out_failed stderr stderr' e
 abbrev pub Starts : Says → Query → List (List ℕ) → Screen → Option Asked → Option Asked
     → Option (List ℕ) → Option (List ℕ) → Bool → Option (List ℕ) → Option (List ℕ) → Bool → ℕ → Type 0
 Starts says query words screen old new stdout stdout' out_failed stderr stderr' err_failed status =
-    ((request : Request) × (fixing : Fixing) × (faults query words screen.is_coloured ≡ [])
+    ((request : Request) × (fixing : Fixing) × (faults query words (coloured query screen) ≡ [])
     × Asks query words screen request fixing
     × RunsWith says request old new stdout stdout' out_failed stderr stderr' err_failed status)
     ⊎ ((new ≡ old)
-    × Declines query words screen.is_coloured stdout stdout' out_failed stderr stderr' err_failed status)
+    × Declines query words (coloured query screen) stdout stdout' out_failed stderr stderr' err_failed status)

@@ -1,10 +1,11 @@
 //! The command `check`.
 ghost use Rattle.std.specs.Prelude.{◌≡◌, ◌≤◌, IfOk, None, false, map, string_bytes};
 ghost use Rattle.toml_span_commands.specs.Check.{ChecksConfigured, ChecksFixed, ChecksWith, PerformsCheck, ShowsChanges};
+ghost use Rattle.toml_span_commands.specs.Configured as spec;
 ghost use Rattle.toml_span_commands.specs.Configured.{IsConfigured, configured_says};
 ghost use Rattle.toml_span_commands.specs.Start.{RunsWith};
 
-use crate::answers::{Answer, failed};
+use crate::answers::Answer;
 use crate::colours::Screen;
 use crate::configured::{
     Configured, Wanted, common_version, configured_files, configured_task, has_schemas,
@@ -16,7 +17,7 @@ use crate::say::say;
 use crate::schemas::FileSchemas;
 use crate::start::{refuse, run_with};
 use std::alloc::{AllocError, Global};
-use std::io::IsTerminal;
+use std::io::{IsTerminal, sink};
 use std::mem;
 use toml_span::Stop;
 use toml_span_check::answer::Task;
@@ -32,6 +33,7 @@ use toml_span_config::sources::Sources;
 use toml_span_files::unified;
 use toml_span_lines::run::BOUND;
 use toml_span_lines::sink::Sink;
+use toml_span_lines::tracked::Tracked;
 use toml_span_report::Style;
 use toml_span_report::visible::visible;
 
@@ -49,19 +51,39 @@ struct Fixes {
     files: usize,
     /// What the fixes would change, for standard output. Empty unless `is_diff`.
     changes: String,
+    /// For each file, the bytes to check instead of what is read: the fixed text of a file that is not written, or
+    /// standard input that has been read.
+    texts: Vec<Option<Vec<u8>>>,
     /// The lines for standard error.
     lines: String,
-    /// The exit status: 3 if a file can't be written. With `is_diff`, 2 if a file can't be read, and 1 if one would
-    /// change.
+    /// The exit status: 3 if a file can't be written, 1 if one would change.
     status: u8,
     ghost small: { status ≤ 3 },
 }
 
 impl Fixes {
-    /// Adds the line and the status of the answer for a file that can't be read or written.
+    /// Adds the line and the status of the answer for a file that can't be written.
     fn fail(&mut self, answer: &Answer) -> Result<(), AllocError> {
         self.lines.push_str(answer.errors.as_str())?;
         self.status = self.status.max(answer.status.min(3));
+        Ok(())
+    }
+
+    /// Adds what the fixes change in a file, which reports call `shown`. `text` is the text of the file, and `new` the
+    /// fixed text.
+    fn add_changes(
+        &mut self,
+        alloc: Global,
+        shown: &str,
+        text: &str,
+        new: &str,
+    ) -> Result<(), AllocError> {
+        let shown = shown_word(alloc, shown)?;
+        let shown = visible(alloc, shown.as_str())?;
+        let changes = unified(alloc, shown.as_str(), text, new)?;
+        self.changes.push_str(changes.as_str())?;
+        self.status = self.status.max(1);
+        self.texts.push(Some(Vec::from_slice(alloc, new.as_bytes())?))?;
         Ok(())
     }
 
@@ -78,11 +100,7 @@ impl Fixes {
     ) -> Result<(), AllocError> {
         let new = made.text.as_str();
         if self.is_diff {
-            let shown = shown_word(alloc, shown)?;
-            let shown = visible(alloc, shown.as_str())?;
-            let changes = unified(alloc, shown.as_str(), text, new)?;
-            self.changes.push_str(changes.as_str())?;
-            self.status = self.status.max(1);
+            self.add_changes(alloc, shown, text, new)?;
         } else if let Some(answer) = replace(
             alloc,
             &host.rt,
@@ -99,40 +117,54 @@ impl Fixes {
         Ok(())
     }
 
-    /// Fixes errors of a file as `fixed` does, and calls `put` if there were fixes.
-    ///
-    /// A file that can't be read, is larger than 16 MiB or is not valid UTF-8 has no fixes. The check that follows
-    /// reports what is wrong with it. If `is_diff`, no check follows, and a line says why a file can't be read.
-    /// Standard input is only read if `is_diff`.
+    /// Fixes errors of a file whose content is `bytes`, and calls `put` if there were fixes. Returns whether there were.
+    /// A file that is larger than 16 MiB or not valid UTF-8 has no fixes.
+    fn add_bytes(
+        &mut self,
+        alloc: Global,
+        host: &Host,
+        file: &Configured,
+        bytes: &[u8],
+    ) -> Result<bool, AllocError> {
+        if bytes.len() > BOUND {
+            return Ok(false);
+        }
+        let Ok(text) = str::from_utf8(bytes) else {
+            return Ok(false);
+        };
+        let (name, shown) = (file.name.as_str(), file.shown.as_str());
+        let version = file.found.settings.toml.value;
+        let made = with_all_fixes(alloc, text, version, shown, self.level)?;
+        if made.count == 0 {
+            return Ok(false);
+        }
+        self.put(alloc, host, name, shown, text, &made)?;
+        Ok(true)
+    }
+
+    /// Fixes errors of a file as `add_bytes` does. The check that follows reports why a file can't be read. Standard
+    /// input is only read if `is_diff`.
     fn add_file(
         &mut self,
         alloc: Global,
         host: &mut Host,
         file: &Configured,
     ) -> Result<(), AllocError> {
-        let (name, shown) = (file.name.as_str(), file.shown.as_str());
-        if name == "-" && !self.is_diff {
-            return Ok(());
-        }
-        let bytes = match read_file(alloc, host, name)? {
-            Ok(bytes) => bytes,
-            Err(reason) if self.is_diff => {
-                return self.fail(&failed(alloc, "error: cannot read ", name, reason.as_str(), 2)?);
+        let is_stdin = file.name.as_str() == "-";
+        let mut kept = None;
+        if !is_stdin || self.is_diff {
+            if let Ok(bytes) = read_file(alloc, host, file.name.as_str())? {
+                let is_put = self.add_bytes(alloc, host, file, bytes.as_slice())?;
+                if self.is_diff && is_put {
+                    return Ok(());
+                }
+                if is_stdin {
+                    kept = Some(bytes);
+                }
             }
-            Err(_) => return Ok(()),
-        };
-        if bytes.len() > BOUND {
-            return Ok(());
         }
-        let Ok(text) = str::from_utf8(bytes.as_slice()) else {
-            return Ok(());
-        };
-        let version = file.found.settings.toml.value;
-        let made = with_all_fixes(alloc, text, version, shown, self.level)?;
-        if made.count == 0 {
-            return Ok(());
-        }
-        self.put(alloc, host, name, shown, text, &made)
+        self.texts.push(kept)?;
+        Ok(())
     }
 
     /// Removes what would be printed.
@@ -172,6 +204,7 @@ fn fix_files(
         errors: 0,
         files: 0,
         changes: String::new(alloc),
+        texts: Vec::new(alloc),
         lines: String::new(alloc),
         status: 0,
     };
@@ -191,6 +224,10 @@ struct NamedInputs {
     host: Host,
     /// The names of the files in reports. Empty after the first search.
     names: Vec<String>,
+    /// The bytes of files that are not read, by the numbers of the files.
+    texts: Vec<Option<Vec<u8>>>,
+    /// The number of files that have been read.
+    count: usize,
     stdin_name: String,
     /// Whether standard input is one of the files, and has not been read yet.
     is_waiting: bool,
@@ -212,6 +249,13 @@ impl Inputs for NamedInputs {
     }
 
     fn read(&mut self, alloc: Global, name: &str) -> Result<Result<Vec<u8>, String>, AllocError> {
+        let at = self.count;
+        self.count = at.saturating_add(1);
+        if let Some(text) = self.texts.get_mut(at) {
+            if let Some(bytes) = text.take() {
+                return Ok(Ok(bytes));
+            }
+        }
         if self.is_waiting && name == self.stdin_name.as_str() {
             self.is_waiting = false;
             return self.host.read(alloc, "-");
@@ -220,36 +264,6 @@ impl Inputs for NamedInputs {
             return Ok(Err(String::from_str(alloc, "it is not a regular file")?));
         }
         self.host.read(alloc, name)
-    }
-}
-
-/// Prints the lines of `fixes`, and then what they would change. Returns the exit status.
-fn show_changes<O: Sink, E: Sink>(
-    alloc: Global,
-    fixes: Fixes,
-    host: &Host,
-    out: &mut O,
-    errors: &mut E,
-) -> Result<u8, AllocError>
-    requires out { O.failed out.old ≡ false }
-    requires errors { E.failed errors.old ≡ false }
-    ensures { IfOk result (ShowsChanges (O.contents out.old) (O.contents out.new)
-        (E.contents errors.old) (E.contents errors.new)) }
-{
-    let Fixes {
-        level: _,
-        writing: _,
-        is_diff: _,
-        errors: _,
-        files: _,
-        changes,
-        lines,
-        status,
-    } = fixes;
-    let changes = escaped(alloc, changes, host.rt.stdout().is_terminal())?;
-    match say(errors, lines.as_str(), 0) {
-        0 => Ok(say(out, changes.as_str(), status)),
-        _ => Ok(3),
     }
 }
 
@@ -268,13 +282,17 @@ struct Listed {
 }
 
 /// Returns the settings of the command line.
-fn layer_of(task: Task) -> Layer {
-    match task {
-        Task::Check(Version::Auto, _) | Task::Show(_) => Layer::empty(),
-        Task::Check(version, _) => Layer {
-            toml: given(version),
-            ..Layer::empty()
-        },
+fn layer_of(task: Task, denies_warnings: bool) -> Layer
+    ensures { result ≡ spec.layer_of task denies_warnings }
+{
+    let toml = match task {
+        Task::Check(Version::Auto, _) | Task::Show(_) => None,
+        Task::Check(version, _) => given(version),
+    };
+    Layer {
+        toml,
+        deny_warnings: if denies_warnings { given(true) } else { None },
+        ..Layer::empty()
     }
 }
 
@@ -294,7 +312,8 @@ fn find_files(
     host: &mut Host,
 ) -> Result<Listed, Stop<String>> {
     let request = &options.request;
-    let (layer, style) = (layer_of(request.task), style_of(request.format));
+    let layer = layer_of(request.task, options.denies_warnings);
+    let style = style_of(request.format);
     let mut sources = Sources::new(alloc, host, options.search(), layer, style)?;
     let wanted = Wanted {
         names: request.names.as_slice(),
@@ -307,11 +326,13 @@ fn find_files(
 }
 
 impl Files {
-    /// Returns the files, and their schemas for `options`. Reads nothing yet.
+    /// Returns the files, and their schemas for `options`. `texts` are the bytes of files that are not read, by the
+    /// numbers of the files. Reads nothing yet.
     fn of(
         alloc: Global,
         options: &Options<'_>,
         listed: Listed,
+        texts: Vec<Option<Vec<u8>>>,
         host: &Host,
     ) -> Result<Files, AllocError> {
         let Listed { files, sources } = listed;
@@ -327,6 +348,8 @@ impl Files {
             inputs: NamedInputs {
                 host: Host { rt: host.rt },
                 names,
+                texts,
+                count: 0,
                 stdin_name: String::from_str(alloc, options.stdin_name)?,
                 is_waiting,
                 opens_pipes: matches!(options.fixing, Fixing::No),
@@ -383,6 +406,33 @@ fn check_fixed<O: Sink, E: Sink>(
     }
 }
 
+/// Prints what `fixes` would change, and then does what `check_fixed` does, but prints no reports. Returns the exit
+/// status, which is 3 if the changes can't be written.
+fn show_changes<O: Sink, E: Sink>(
+    alloc: Global,
+    fixes: &mut Fixes,
+    request: &Request<'_>,
+    files: &mut Files,
+    out: &mut O,
+    errors: &mut E,
+) -> Result<u8, AllocError>
+    requires out { O.failed out.old ≡ false }
+    requires errors { E.failed errors.old ≡ false }
+    ensures { IfOk result (ShowsChanges request.now (O.contents out.old) (O.contents out.new)
+        (E.contents errors.old) (E.contents errors.new) (E.failed errors.new)) }
+{
+    let changes = mem::replace(&mut fixes.changes, String::new(alloc));
+    let is_terminal = files.inputs.host.rt.stdout().is_terminal();
+    let changes = escaped(alloc, changes, is_terminal)?;
+    match say(out, changes.as_str(), 0) {
+        0 => {
+            let mut nowhere = Tracked::new(sink());
+            Ok(check_fixed(alloc, fixes, request, files, &mut nowhere, errors))
+        }
+        _ => Ok(3),
+    }
+}
+
 /// Carries out `check` for files that have been found, and returns the exit status.
 fn check_listed<O: Sink, E: Sink>(
     alloc: Global,
@@ -401,17 +451,19 @@ fn check_listed<O: Sink, E: Sink>(
     let request = &options.request;
     match options.fixing {
         Fixing::No => {
-            let mut files = Files::of(alloc, options, listed, host)?;
+            let mut files = Files::of(alloc, options, listed, Vec::new(alloc), host)?;
             Ok(check_files(alloc, request, &mut files, out, errors))
         }
         Fixing::Write(level) => {
             let fixes = fix_files(alloc, options, level, false, &listed, host)?;
-            let mut files = Files::of(alloc, options, listed, host)?;
+            let mut files = Files::of(alloc, options, listed, Vec::new(alloc), host)?;
             Ok(check_fixed(alloc, &fixes, request, &mut files, out, errors))
         }
         Fixing::Diff(level) => {
-            let fixes = fix_files(alloc, options, level, true, &listed, host)?;
-            show_changes(alloc, fixes, host, out, errors)
+            let mut fixes = fix_files(alloc, options, level, true, &listed, host)?;
+            let texts = mem::replace(&mut fixes.texts, Vec::new(alloc));
+            let mut files = Files::of(alloc, options, listed, texts, host)?;
+            show_changes(alloc, &mut fixes, request, &mut files, out, errors)
         }
     }
 }
@@ -454,8 +506,8 @@ fn check_with<O: Sink, E: Sink>(
     }
 }
 
-/// Checks files. With `--fix`, first fixes their errors, or prints with `--diff` what this would change, and checks
-/// nothing. Returns the exit status. `words` are the name of the command, or of the program, and the arguments.
+/// Checks files. With `--fix`, first fixes their errors. With `--diff`, writes no file: prints what the fixes would
+/// change instead of the reports of the check. Returns the exit status. `words` are the name of the command, or of the program, and the arguments.
 pub fn check<O: Sink, E: Sink>(
     alloc: Global,
     words: &[String],

@@ -11,6 +11,8 @@ use std::env::VarError;
 pub struct Screen {
     /// Whether reports on standard output have colors with `--color auto`.
     pub is_coloured: bool,
+    /// Whether reports on standard error have colors with `--color auto`.
+    pub has_coloured_errors: bool,
     /// Whether standard error is a terminal.
     pub is_watched: bool,
 }
@@ -19,6 +21,7 @@ impl Screen {
     /// No colors, and no terminal.
     pub(crate) const PLAIN: Screen = Screen {
         is_coloured: false,
+        has_coloured_errors: false,
         is_watched: false,
     };
 }
@@ -52,8 +55,8 @@ fn variable(rt: &HostRuntime, name: &str) -> Result<String, AllocError> {
     }
 }
 
-/// Returns whether reports on standard output have colors with `--color auto`. `is_terminal` says whether standard
-/// output is a terminal.
+/// Returns whether reports on a stream have colors with `--color auto`. `is_terminal` says whether the stream is a
+/// terminal.
 pub fn wants_colours(rt: &HostRuntime, is_terminal: bool) -> Result<bool, AllocError> {
     let no_color = variable(rt, "NO_COLOR")?;
     let force = variable(rt, "CLICOLOR_FORCE")?;

@@ -66,7 +66,7 @@ pub(crate) fn arguments_of(command: Command) -> &'static str {
     match command {
         Command::Check => "check [OPTION].. [FILE|DIRECTORY|-]..",
         Command::Show => "show FILE",
-        Command::Get => "get [OPTION].. FILE PATH",
+        Command::Get => "get [OPTION].. FILE.. PATH",
         Command::Fmt => "fmt [OPTION].. [FILE|DIRECTORY|-]..",
         Command::Set => "set [OPTION].. FILE PATH VALUE",
         Command::Rename => "rename [OPTION].. FILE PATH NAME",

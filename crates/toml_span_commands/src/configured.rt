@@ -112,7 +112,7 @@ pub(crate) fn configured_task(task: Task, version: Version, has_schemas: bool) -
             with_schemas(chooser, has_schemas),
         ),
         Task::Check(asked, chooser) => Task::Check(asked, with_schemas(chooser, has_schemas)),
-        Task::Show(form) => Task::Show(form),
+        Task::Show(printing) => Task::Show(printing),
     }
 }
 

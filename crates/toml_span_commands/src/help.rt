@@ -52,12 +52,13 @@ Options:
                      github  annotations for GitHub Actions
                      sarif   one SARIF 2.1.0 document for all files
   --color WHEN     auto, always or never [default: auto]; auto means colors on a
-                   terminal, unless NO_COLOR or CLICOLOR_FORCE is set
+                   terminal, or if CLICOLOR_FORCE is set, unless NO_COLOR is set
   --fix            first apply the safe fixes that reports show, and rewrite the
                    files; standard input is only checked
   --unsafe-fixes   with --fix, also apply the unsafe fixes that reports show;
                    they may differ from what was meant
-  --diff           with --fix, write and check no file; print what would change
+  --diff           with --fix, write no file; print what would change instead of
+                   the errors that would be left
   --force          with --fix, write read-only files too
   --change-owner   with --fix, write files whose owner or group can't be kept too
   --in-place       with --fix, write into the files themselves, which keeps their
@@ -75,6 +76,7 @@ Options:
                    fetched; if URL ends with `/`, FILE is a folder with the
                    schemas below URL; can be repeated
   --no-formats     ignore the keyword `format` of schemas
+  --deny-warnings  treat warnings as errors
   --exclude GLOB   skip matching files and directories in a search; GLOB is
                    written as in a `.gitignore` file; can be repeated
   --config FILE    take settings from FILE, not from the nearest
@@ -90,7 +92,7 @@ Options:
   -h, --help       print this help
 
 Exit status:
-  0  all files are valid, or with --diff: no file would change
+  0  all files are valid
   1  a file has an error, or with --diff: a file would change
   2  a file, its schema or its configuration can't be read, or the arguments are
      wrong
@@ -119,16 +121,20 @@ Exit status:
 
 /// The help of `get`.
 pub(crate) const GET: &str = "\
-Prints one value of a TOML file.
+Prints one value of a TOML file, or of each of several files.
 
-Usage: toml-span get [OPTION].. FILE PATH
+Usage: toml-span get [OPTION].. FILE.. PATH
 
 PATH is a dotted key such as server.ports[0], or a pointer such as
 /server/ports/0; positions in arrays count from 0. The empty path '' is the
-whole document. For `-`, standard input is read.
+whole document. For `-`, standard input is read. Directories are searched for
+`*.toml`. With several files, each value comes after `FILE: `, or with --items
+after a line `FILE:`. Errors go to standard error.
 
 Options:
-  --json           print JSON, with dates, inf and nan as strings (the default)
+  --json           print JSON, with dates, inf and nan as strings, and with keys
+                   in the order of the file (the default)
+  --sort-keys      sort the keys of JSON
   --raw            print strings, floats and dates without quotes, other values
                    as JSON
   --toml           print TOML on one line
@@ -141,8 +147,8 @@ Options:
 
 Exit status:
   0  the value was printed
-  1  the file has an error, or no value at PATH
-  2  the file can't be read, or the arguments are wrong
+  1  a file has an error, or no value at PATH
+  2  a file can't be read, or the arguments are wrong
   3  output can't be written
   4  out of memory
 ";

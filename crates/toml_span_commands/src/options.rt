@@ -11,7 +11,7 @@ use crate::words::has;
 use clap::error::ErrorKind;
 use clap::{Arg, ArgAction, ArgMatches, Command, Error};
 use std::alloc::{AllocError, Global};
-use toml_span_check::answer::{Form, Task};
+use toml_span_check::answer::{Form, Printing, Task};
 use toml_span_check::fixing::FixLevel;
 use toml_span_check::formats::Format;
 use toml_span_check::newer::Version;
@@ -58,6 +58,8 @@ pub(crate) struct Options<'w> {
     has_no_config: bool,
     /// Whether configuration files also exclude files that are named.
     pub(crate) forces_exclude: bool,
+    /// Whether warnings are errors.
+    pub(crate) denies_warnings: bool,
 }
 
 impl<'w> Options<'w> {
@@ -148,6 +150,14 @@ fn required<'w>(alloc: Global, name: &'w str) -> Arg<'w>
     Arg::new(alloc, name).required(true)
 }
 
+/// Returns the argument for the path of `get`, which may follow names of further files.
+fn path<'w>(alloc: Global) -> Arg<'w>
+    ensures rule { rule_of result ≡ spec.path }
+    ensures own { result.global ≡ false }
+{
+    required(alloc, "PATH").num_args(1..)
+}
+
 /// Returns a command with the options that `check` and `get` share. `name` is the name of the command in messages, and
 /// `help` its help text.
 fn common<'w>(alloc: Global, name: &'w str, help: &'w str) -> Result<Command<'w>, AllocError>
@@ -192,7 +202,8 @@ fn configured_command<'w>(alloc: Global) -> Result<Command<'w>, AllocError>
     fixing_command(alloc)?
         .arg(optional(alloc, "config"))?
         .arg(flag(alloc, "no-config"))?
-        .arg(flag(alloc, "force-exclude"))
+        .arg(flag(alloc, "force-exclude"))?
+        .arg(flag(alloc, "deny-warnings"))
 }
 
 /// Returns the command `check` with all its arguments.
@@ -216,7 +227,8 @@ fn forms_command<'w>(alloc: Global) -> Result<Command<'w>, AllocError>
         .arg(flag(alloc, "raw"))?
         .arg(flag(alloc, "toml"))?
         .arg(flag(alloc, "tagged"))?
-        .arg(flag(alloc, "items"))
+        .arg(flag(alloc, "items"))?
+        .arg(flag(alloc, "sort-keys"))
 }
 
 /// Returns the command `get` with all its arguments.
@@ -225,7 +237,7 @@ fn get_command<'w>(alloc: Global) -> Result<Command<'w>, AllocError>
 {
     forms_command(alloc)?
         .arg(required(alloc, "FILE"))?
-        .arg(required(alloc, "PATH"))
+        .arg(path(alloc))
 }
 
 /// Returns the command that `query` names, with all its arguments.
@@ -271,6 +283,35 @@ fn value_of<'w>(matches: &ArgMatches<'w>, name: &str) -> &'w str
     ensures { result.now ≡ spec.value_of (rows_of (found_of matches.now)) name.now }
 {
     matches.get_str(name).unwrap_or("")
+}
+
+/// Returns the names of files and the path among the last arguments of `get`: the path is the last one. Without
+/// arguments, as for `check`, the path is empty.
+fn last_of<'m, 'w>(arguments: &'m [&'w str]) -> (&'m [&'w str], &'w str)
+    ensures names { map (λ name. name.now) result.0.now ≡ spec.but_last (map (λ word. word.now) arguments.now) }
+    ensures path { result.1.now ≡ spec.last (map (λ word. word.now) arguments.now) }
+{
+    match arguments.split_last() {
+        Some((path, names)) => (names, *path),
+        None => (&[], ""),
+    }
+}
+
+/// Returns the path of `get`, or an empty text for `check`.
+fn path_of<'w>(matches: &ArgMatches<'w>) -> &'w str
+    ensures { result.now ≡ spec.path_of (rows_of (found_of matches.now)) }
+{
+    last_of(matches.get_strs("PATH").unwrap_or(&[])).1
+}
+
+/// Returns the names of files.
+fn names_of<'w>(alloc: Global, matches: &ArgMatches<'w>) -> Result<Vec<&'w str>, AllocError>
+    ensures { IfOk result (λ names. map (λ name. name.now) names.items
+        ≡ spec.names_of (rows_of (found_of matches.now))) }
+{
+    let mut names = Vec::from_slice(alloc, matches.get_strs("FILE").unwrap_or(&[]))?;
+    names.extend_from_slice(last_of(matches.get_strs("PATH").unwrap_or(&[])).0)?;
+    Ok(names)
 }
 
 /// Returns whether each of the texts contains an `=`.
@@ -412,9 +453,13 @@ fn task_of(query: Query, matches: &ArgMatches<'_>) -> Result<Task, Mistake>
             Some(version) => Ok(Task::Check(version, chooser_of(matches))),
             None => Err(Mistake::Version),
         },
-        Query::Get if is_bytes(value_of(matches, "PATH")) => Err(Mistake::Path),
+        Query::Get if is_bytes(path_of(matches)) => Err(Mistake::Path),
         Query::Get => match form_of(matches) {
-            Ok(form) => Ok(Task::Show(form.unwrap_or(Form::Plain))),
+            Ok(form) => Ok(Task::Show(Printing {
+                form: form.unwrap_or(Form::Plain),
+                is_sorted: is_given(matches, "sort-keys"),
+                is_named: false,
+            })),
             Err(mistake) => Err(mistake),
         },
     }
@@ -447,6 +492,16 @@ fn asked(
     match task_of(query, matches) {
         Ok(task) => with_task(format, task),
         Err(mistake) => Err(mistake),
+    }
+}
+
+/// Returns whether reports have colors with `--color auto`. Those of `get` are on standard error.
+fn coloured(query: Query, screen: Screen) -> bool
+    ensures { result ≡ spec.coloured query screen }
+{
+    match query {
+        Query::Check => screen.is_coloured,
+        Query::Get => screen.has_coloured_errors,
     }
 }
 
@@ -489,18 +544,20 @@ pub(crate) fn options_of<'w>(
 ) -> Result<Options<'w>, Error>
     ensures ok { IfOk result (λ o.
         spec.Asks query (map (λ w. string_bytes w) words.entry.now) screen o.request o.fixing) }
-    ensures fails { FailsBy (spec.faults query (map (λ w. string_bytes w) words.entry.now) screen.is_coloured) result }
+    ensures denies { IfOk result (λ o. o.denies_warnings
+        ≡ spec.is_given (spec.options query (map (λ w. string_bytes w) words.entry.now)) (codes "deny-warnings")) }
+    ensures fails { FailsBy (spec.faults query (map (λ w. string_bytes w) words.entry.now) (spec.coloured query screen)) result }
 {
     let mut command = command(alloc, query)?;
     let matches = command.try_get_matches_from_mut(words)?;
-    match asked(query, &matches, screen.is_coloured) {
+    match asked(query, &matches, coloured(query, screen)) {
         Ok((format, task)) => Ok(Options {
             request: Request {
                 format,
                 task,
-                pointer: value_of(&matches, "PATH"),
+                pointer: path_of(&matches),
                 excludes: Vec::from_slice(alloc, matches.get_strs("exclude").unwrap_or(&[]))?,
-                names: Vec::from_slice(alloc, matches.get_strs("FILE").unwrap_or(&[]))?,
+                names: names_of(alloc, &matches)?,
                 is_watched: screen.is_watched,
                 is_quiet: is_given(&matches, "quiet"),
             },
@@ -516,6 +573,7 @@ pub(crate) fn options_of<'w>(
             config: value_of(&matches, "config"),
             has_no_config: is_given(&matches, "no-config"),
             forces_exclude: is_given(&matches, "force-exclude"),
+            denies_warnings: is_given(&matches, "deny-warnings"),
         }),
         Err(mistake) => Err(command.error(kind_of(mistake), message_of(mistake))?),
     }

@@ -55,6 +55,14 @@ fn problem_of(message: &str) -> &str {
     }
 }
 
+/// Returns the text without the dots that clap writes after `<PATH>`, since files may come before the path.
+fn without_dots(alloc: Global, problem: &str) -> Result<String, AllocError> {
+    match problem.split_once("<PATH>...") {
+        Some((front, rest)) => format!(in alloc; "{front}<PATH>{rest}"),
+        None => String::from_str(alloc, problem),
+    }
+}
+
 /// Returns the message about wrong arguments. `words` are the arguments, escaped for a terminal. If the escaped
 /// arguments are right, the mistake is that the path is not valid UTF-8.
 fn message_of(alloc: Global, query: Query, words: &[String]) -> Result<String, AllocError> {
@@ -68,7 +76,8 @@ fn message_of(alloc: Global, query: Query, words: &[String]) -> Result<String, A
                 return Err(AllocError);
             }
             let message = error.to_string(alloc)?;
-            usage_text(alloc, command_of(query), problem_of(message.as_str()))
+            let problem = without_dots(alloc, problem_of(message.as_str()))?;
+            usage_text(alloc, command_of(query), problem.as_str())
         }
     }
 }

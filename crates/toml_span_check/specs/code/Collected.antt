@@ -37,7 +37,7 @@ abbrev pub CollectsBytes : Says → Format → Task → List ℕ → List ℕ �
     → Option (List ℕ) → Bool → List ℕ → List ℕ → Type 0
 CollectsBytes says format task pointer name bytes (Ok verdict) old new failed held held' =
     (failed ≡ false) × ((new ≡ old) ⊎ Shows task)
-    × ((text : List ℕ) × IsAnswer says format task pointer name bytes (verdict.count, text, string_bytes verdict.complaint)
+    × ((text : List ℕ) × IsAnswer says format task pointer name bytes (verdict.count, text, string_bytes verdict.stderr)
     × Holds task old new (held ++ text) held')
 CollectsBytes says format task pointer name bytes (Err Memory) old new failed held held' =
     (failed ≡ false) × ((new ≡ old) ⊎ Begun says format task pointer name bytes old new held)
@@ -55,7 +55,7 @@ abbrev pub AddsFile : Says → Format → Task → List ℕ → List ℕ → Res
 AddsFile says format task pointer name (Ok bytes) old new =
     (answer : Answer) × IsAnswer says format task pointer name bytes answer
     × (new.0 ≡ old.0 ++ answer.1) × (new.1 ≡ old.1 ++ answer.2)
-    × (new.2 ≡ max old.2 (status_of answer.0.errors answer.2))
+    × (new.2 ≡ max old.2 (status_of task answer.0.errors answer.2))
     × (new.3 ≡ counted old.3 answer.0)
 AddsFile says format task pointer name (Err reason) old new =
     (new.0 ≡ old.0) × (new.1 ≡ old.1 ++ complaint (shown_word name) reason) × (new.2 ≡ 2)

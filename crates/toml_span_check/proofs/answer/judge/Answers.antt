@@ -13,14 +13,10 @@ use Rattle.toml_span_check.specs.declared.fixable.Count.{Count}
 use Rattle.toml_span_check.specs.code.Judged.{Judges, JudgesText}
 use Rattle.toml_span_check.proofs.answer.judge.Goals as goal
 
--- a text with one error and no complaint
-with_one : (errors : Count) (complaint out text : List ℕ) → let v : Count × List ℕ = (errors, complaint) in v ≡ (one_error, []) → out ≡ text → let a : Answer = (errors, out, complaint) in a ≡ (one_error, text, [])
-with_one errors complaint out text v h = grind (arith, nat_tests, common_steps)
-
-long : (says : Says) (format : Format) (task : Task) (pointer name bytes : List ℕ) (answer : Answer) → bound < length bytes → answer ≡ too_long format name → IsAnswer says format task pointer name bytes answer
+long : (says : Says) (format : Format) (task : Task) (pointer name bytes : List ℕ) (answer : Answer) → bound < length bytes → answer ≡ too_long format task name → IsAnswer says format task pointer name bytes answer
 long says format task pointer name bytes answer above h = grind (arith, nat_tests, common_steps)
 
-no_text : (says : Says) (format : Format) (task : Task) (pointer name bytes : List ℕ) (at : ℕ) (answer : Answer) → length bytes ≤ bound → ¬ (IsUtf8 bytes) → IsValidUpTo bytes at → answer ≡ not_utf8 format name bytes at → IsAnswer says format task pointer name bytes answer
+no_text : (says : Says) (format : Format) (task : Task) (pointer name bytes : List ℕ) (at : ℕ) (answer : Answer) → length bytes ≤ bound → ¬ (IsUtf8 bytes) → IsValidUpTo bytes at → answer ≡ not_utf8 format task name bytes at → IsAnswer says format task pointer name bytes answer
 no_text says format task pointer name bytes at answer small none front h = record {
   long = λ above. absurd (omega arith);
   no_text = λ _ _. (at, front, h);
@@ -38,19 +34,11 @@ judged : (r : Result Judged AllocError) (says : Says) (format : Format) (task : 
     IfOk r (λ a. (pointer : List ℕ) → JudgesText says format task pointer name text a) → IfOk r (λ a. (pointer : List ℕ) → Judges says format task pointer name bytes a)
 judged (Err e) says format task name bytes text small utf8 is h = tt
 judged (Ok (Text verdict out)) says format task name bytes text small utf8 is h = λ pointer. read says format task pointer name bytes text _ small utf8 is (h pointer)
-judged (Ok (Document form root)) says format task name bytes text small utf8 is h =
-    λ pointer. let both = h pointer in (both.0, λ place at. read says format task pointer name bytes text _ small utf8 is (both.1 place at))
+judged (Ok (Document document)) says format task name bytes text small utf8 is h =
+    λ pointer. let both = h pointer in (both.0, λ answer found. read says format task pointer name bytes text _ small utf8 is (both.1 answer found))
 
 pub returns-in-Ok : goal.returns-in-Ok
 returns-in-Ok g c = judged _ _ _ _ _ _ _ c.if-bytes-gt-BOUND.false c.in-Ok.ensures.cases.1 c.in-Ok.ensures.cases.0 c.judge_text.ensures
 
 pub not_utf8_fault-requires : goal.not_utf8_fault-requires
 not_utf8_fault-requires g c = subst (IsValidUpTo c.args.bytes.now) (sym c.valid_up_to-at.ensures) c.in-Err.ensures.cases.1
-
-pub returns-in_ok-text-in-Err : goal.returns-in_ok-text-in-Err
-returns-in_ok-text-in-Err g c =
-    let front = subst (IsValidUpTo c.args.bytes.now) (sym c.valid_up_to-at.ensures) c.in-Err.ensures.cases.1 in
-    let v : Count × List ℕ = (c.plain-in-Err.result.count, string_bytes c.plain-in-Err.result.complaint) in
-    let one = subst (λ (n : Count). v ≡ (n, [])) c.one-in-Err.ensures c.plain-in-Err.ensures in
-    λ pointer. no_text _ _ c.args.task pointer _ _ _ _ c.if-bytes-gt-BOUND.false c.in-Err.ensures.cases.0 front
-    (with_one _ _ _ _ one c.in_ok-text-in-Err.ensures)

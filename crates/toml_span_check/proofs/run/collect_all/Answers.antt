@@ -7,7 +7,12 @@ pub returns-in_err-found : goal.returns-in_err-found
 returns-in_err-found g c = stops-finding g.S.Schemas.says c.args.request.now.format c.args.request.now.task c.args.request.now.pointer.now _ _ _ _ _ _ _ _ c.from_residual.result refl c.requires c.from_residual.ensures.1
 
 pub returns-in_err-collected : goal.returns-in_err-collected
-returns-in_err-collected g c = grind (arith, nat_tests, common_steps)
+returns-in_err-collected g c =
+    let files = c.in_ok-found.found.items in
+    let stdout = c.in_err-collected.ensures in
+    let finds = c.in_ok-found.ensures in
+    stops-collecting g.S.Schemas.says c.args.request.now.format c.args.request.now.task c.args.request.now.pointer.now _ _ (map (λ file. string_bytes file) files) _ _ (g.I.Inputs.log c.find_all.new.inputs) _ _ _ _ _ _
+    (rw (c.as_slice-excludes.ensures.value, c.as_slice-names.ensures.value) at finds) (asked g c stdout) c.from_residual-in_err-collected.ensures.1
 
 pub returns-in_err-push_summary : goal.returns-in_err-push_summary
 returns-in_err-push_summary g c =
