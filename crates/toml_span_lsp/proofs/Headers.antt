@@ -1,9 +1,9 @@
 -- The headers of a frame, and where they end.
-use Rattle.toml_span_lex.proofs.Common.{◌≡◌, ◌≢◌, ℕ, zero, suc, ◌+◌, ◌-◌, ◌<◌, ◌≤◌, ◌^◌, Bool, true, false, not, List, [], ◌∷◌, ◌++◌, Option, None, Some, length, take, drop, codes, decimal, sym, ap, ap₂, ◌∙◌, refl, subst, arith, nat_tests, append_assoc, length-append, length-drop, Decides-eqb, ⊎_elim, cases_lt, true≢false, none-some, same_Some, list_all, ltb-true, digit_value, AllByRecursion, IsUtf8}
+use Rattle.toml_span_lex.proofs.Common.{◌≡◌, ◌≢◌, ℕ, zero, suc, ◌+◌, ◌-◌, ◌<◌, ◌≤◌, ◌^◌, Bool, true, false, not, List, [], ◌∷◌, ◌++◌, Option, None, Some, length, take, drop, codes, decimal, sym, ap, ap₂, ◌∙◌, refl, subst, arith, nat_tests, append-nil, append_assoc, length-append, length-drop, length-take-le, nil_from_length, take-append-drop, Decides-eqb, ⊎_elim, cases_lt, true≢false, none-some, same_Some, list_all, ltb-true, digit_value, AllByRecursion, IsUtf8}
 use Rattle.std.specs.List.{All, starts_with}
 use Rattle.std.specs.Str.Parse.{AllDigits}
 use Rattle.std.proofs.Math.Dec.{eqb, ltb}
-use Rattle.std.proofs.Math.Seq.{drop-append_seam, take-append_seam}
+use Rattle.std.proofs.Math.Seq.{drop-append_seam, take-add, take-append_seam}
 use Rattle.std.proofs.lemmas.Bool.{cond_above, cond_below}
 use Rattle.std.proofs.lemmas.Fmt.{IsAscii-decimal, decimal_is_IsNumeral, length-decimal-le}
 use Rattle.std.proofs.lemmas.List.Elements.{All-append, All-from_recursion, All-head, All-tail}
@@ -12,6 +12,9 @@ use Rattle.std.proofs.lemmas.Slice.Eq.{starts_is}
 use Rattle.std.proofs.lemmas.Str.{IsAscii-append, IsUtf8-from_ascii}
 use Rattle.std.proofs.lemmas.Str.Ascii.{IsAscii-from_all}
 use Rattle.toml_span_lsp.specs.Frames.{end_of_headers, frame_of, framed, framed_at, head_of, limit}
+use Rattle.toml_span_lsp.specs.Served.{AreHeaders, AreHeadersOf, Fits, IsFramed}
+use Rattle.toml_span_lsp.specs.declared.frames.Framed.{Framed}
+use Rattle.toml_span_lsp.specs.declared.frames.Framed.TheVariants.{Whole, TooLong, Part, Fault}
 
 -- A list that begins as xs does, as far as both go, begins with xs if it is as long.
 pub front : (xs ys bytes more : List ℕ) → bytes ++ more ≡ xs ++ ys → length xs ≤ length bytes →
@@ -56,6 +59,24 @@ ends_at head rest bytes more s at r lacks is slice tested found from low =
     let size : length bytes - (at - 3) ≡ 4 + length tail = sym (length-drop (at - 3) bytes) ∙ ap length here ∙ length-append (codes "\r\n\r\n") tail in
     let same : at + 1 ≡ length head + 4 = omega arith in
     cond_above (length bytes) (length head + 4) None (Some (length head + 4)) (Some (at + 1)) (omega arith) (ap (λ n. Some n) same)
+
+-- headers up to there
+pub headers_at : (bytes tail : List ℕ) (at : ℕ) → 3 ≤ at → at < length bytes → drop (at - 3) bytes ≡ codes "\r\n\r\n" ++ tail
+    → ((head more rest : List ℕ) → bytes ++ more ≡ head ++ (codes "\r\n\r\n" ++ rest) → at ≤ length head + 3) → AreHeaders (take (at + 1) bytes)
+headers_at bytes tail at from within here first =
+    let stop = codes "\r\n\r\n" in
+    let lines = take (at - 3) bytes in
+    let more = drop (at + 1) bytes in
+    let four : at + 1 ≡ (at - 3) + length stop = let four : length stop ≡ 4 = refl in omega arith in
+    let is : take (at + 1) bytes ≡ lines ++ stop =
+    ap (λ k. take k bytes) four ∙ take-add (at - 3) (length stop) bytes ∙ ap (λ xs. lines ++ take (length stop) xs) here ∙ ap (λ xs. lines ++ xs) (take-append_seam stop tail) in
+    (lines, is, λ before after other.
+    let whole : bytes ++ [] ≡ before ++ (stop ++ (after ++ more)) =
+    append-nil bytes ∙ sym (take-append-drop (at + 1) bytes) ∙ ap (λ xs. xs ++ more) other ∙ append_assoc before (stop ++ after) more ∙ ap (λ xs. before ++ xs) (append_assoc stop after more) in
+    let low = first before [] (after ++ more) whole in
+    let long = sym (length-take-le (at + 1) bytes (omega arith)) ∙ ap length other ∙ length-append before (stop ++ after) in
+    let four : length (stop ++ after) ≡ 4 + length after = length-append stop after in
+    nil_from_length after (omega arith))
 
 -- no empty line ends here
 pub ends_later : (head rest bytes more s : List ℕ) (at : ℕ) (r : Bool) → bytes ++ more ≡ head ++ (codes "\r\n\r\n" ++ rest)
@@ -146,3 +167,12 @@ pub same_frame : (content : List ℕ) (start count len : ℕ) → start ≡ leng
 same_frame content start count len at size =
     let end : start + count ≡ length (frame_of content) = omega (arith, length_frame content) in
     ap₂ (λ a b. framed_at a b len) at end
+
+-- what begins with these headers
+pub framed_from : (bytes : List ℕ) (start count : ℕ) (found : Framed) → Fits start count (length bytes) found → start ≤ length bytes → AreHeadersOf count (take start bytes) → IsFramed bytes found
+framed_from bytes start count (Whole from end) (at, size, within, short) low heads =
+    let same : count ≡ end - from = omega arith in
+    (omega arith, within, omega arith, subst (λ n. AreHeadersOf n (take from bytes)) same (subst (λ k. AreHeadersOf count (take k bytes)) (sym at) heads))
+framed_from bytes start count (TooLong end) (is, long) low heads = (start, count, low, long, is, heads)
+framed_from bytes start count Part fits low heads = tt
+framed_from bytes start count (Fault fault) fits low heads = tt

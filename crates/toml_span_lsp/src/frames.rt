@@ -1,8 +1,9 @@
 //! Frames: headers, an empty line, and the content (LSP 3.17, Base Protocol).
-ghost use Rattle.std.specs.Prelude.{◌≡◌, ◌≢◌, ◌+◌, ◌<◌, ◌^◌, ◌++◌, ◌≤◌, IfSome, List, OnOk, Some, codes, length, ℕ};
+ghost use Rattle.std.specs.Prelude.{◌≡◌, ◌≢◌, ◌+◌, ◌<◌, ◌^◌, ◌++◌, ◌≤◌, IfSome, List, OnOk, Some, codes, length, take, ℕ};
 ghost use Rattle.std.specs.List.{All};
 ghost use Rattle.toml_span_lsp.specs.Frames as spec;
 ghost use Rattle.toml_span_lsp.specs.Frames.{IsShort};
+ghost use Rattle.toml_span_lsp.specs.Served.{AreHeaders, Fits, IsFramed};
 
 use std::alloc::AllocError;
 use std::fmt::Write;
@@ -42,6 +43,7 @@ fn headers_end(bytes: &[u8]) -> Option<usize>
     ensures first { (head more rest : List ℕ) → All (λ b. b ≢ 13) head → length head + 4 ≤ 8192
         → bytes.now ++ more ≡ head ++ (codes "\r\n\r\n" ++ rest)
         → result ≡ spec.end_of_headers (length head + 4) (length bytes.now) }
+    ensures headers { IfSome result (λ end. AreHeaders (take end bytes.now)) }
 {
     let most = bytes.len().min(HEADERS);
     for at in 3..most {
@@ -87,11 +89,15 @@ fn length_in(headers: &str) -> Option<usize>
 }
 
 /// Returns the frame whose content begins at `start` and has `count` bytes. Returns `Part` if the bytes end before the
-/// content does.
+/// content does, and a fault if no offset is that large.
 fn content(bytes: &[u8], start: usize, count: usize) -> Framed
-    ensures { count ≤ spec.limit → start ≤ 8192 → result ≡ spec.framed_at start (start + count) (length bytes.now) }
+    ensures frame { count ≤ spec.limit → start ≤ 8192
+        → result ≡ spec.framed_at start (start + count) (length bytes.now) }
+    ensures fits { Fits start count (length bytes.now) result }
 {
-    let end = start.saturating_add(count);
+    let Some(end) = start.checked_add(count) else {
+        return Framed::Fault(FrameFault::Length);
+    };
     if count > LIMIT {
         return Framed::TooLong { end };
     }
@@ -104,9 +110,11 @@ fn content(bytes: &[u8], start: usize, count: usize) -> Framed
 
 /// Reads the frame at the start of the bytes, whose headers end at `start`.
 fn frame_after(bytes: &[u8], start: usize) -> Framed
-    requires { start ≤ length bytes.now }
-    ensures { (content more rest : List ℕ) → IsShort content → bytes.now ++ more ≡ spec.frame_of content ++ rest
+    requires within { start ≤ length bytes.now }
+    requires headers { AreHeaders (take start bytes.now) }
+    ensures frame { (content more rest : List ℕ) → IsShort content → bytes.now ++ more ≡ spec.frame_of content ++ rest
         → start ≡ length (spec.head_of (length content)) → result ≡ spec.framed content (length bytes.now) }
+    ensures framed { IsFramed bytes.now result }
 {
     let headers = &bytes[..start];
     let Ok(headers) = str::from_utf8(headers) else {
@@ -120,8 +128,9 @@ fn frame_after(bytes: &[u8], start: usize) -> Framed
 
 /// Reads the frame at the start of the bytes.
 pub fn frame(bytes: &[u8]) -> Framed
-    ensures { (content more rest : List ℕ) → IsShort content → bytes.now ++ more ≡ spec.frame_of content ++ rest
+    ensures frame { (content more rest : List ℕ) → IsShort content → bytes.now ++ more ≡ spec.frame_of content ++ rest
         → result ≡ spec.framed content (length bytes.now) }
+    ensures framed { IsFramed bytes.now result }
 {
     match headers_end(bytes) {
         Some(start) => frame_after(bytes, start),

@@ -5,6 +5,7 @@ ghost use Rattle.json.specs.Token.{Token};
 ghost use Rattle.json.specs.Value.{value_view};
 ghost use Rattle.toml_span_lsp.specs.Messages as spec;
 ghost use Rattle.toml_span_lsp.specs.Messages.{HasId, IsNotification, IsRequest};
+ghost use Rattle.toml_span_lsp.specs.Phases.{IsReadAs};
 
 use json::Value;
 use toml_span_editor::positions::{Position, Range};
@@ -41,6 +42,7 @@ pub(crate) enum Message<'v, 'j> {
 fn id_of<'v, 'j>(message: &'v Value<'j>) -> Result<Option<Id<'v>>, ()>
     ensures none { get (codes "id") (value_view message.now) ≡ None → result ≡ Ok None }
     ensures some { (id : Token) → HasId (value_view message.now) id → spec.read_id result ≡ Some id }
+    ensures absent { result ≡ Ok None → get (codes "id") (value_view message.now) ≡ None }
 {
     match message.get("id") {
         None => Ok(None),
@@ -57,6 +59,7 @@ fn id_of<'v, 'j>(message: &'v Value<'j>) -> Result<Option<Id<'v>>, ()>
 pub(crate) fn message_of<'v, 'j>(value: &'v Value<'j>) -> Message<'v, 'j>
     ensures request { (id : Token) → IsRequest (value_view value.now) id → spec.awaited result ≡ Some id }
     ensures notification { IsNotification (value_view value.now) → spec.awaited result ≡ None }
+    ensures read { IsReadAs (value_view value.now) result }
 {
     let Ok(id) = id_of(value) else {
         return Message::Invalid(Id::Null);

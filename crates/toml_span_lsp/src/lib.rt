@@ -33,5 +33,5 @@ mod waiting;
 
 pub use frames::{FrameFault, Framed, LIMIT, frame, push_frame};
 pub use server::{Ended, serve};
-pub use state::State;
+pub use state::Server;
 pub use steps::step;

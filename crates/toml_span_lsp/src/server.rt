@@ -1,18 +1,22 @@
 //! The loop of the server, which reads frames and writes the answers.
-ghost use Rattle.std.specs.Prelude.{◌≡◌, ◌≤◌, IfNone, IfOk, IfSome, false};
+ghost use Rattle.std.specs.Prelude.{◌≡◌, ◌-◌, ◌≤◌, Bool, IfNone, IfOk, List, None, Option, Some, [], drop, false, length, take, ℕ};
 ghost use Rattle.std.specs.List.{flat_map};
 ghost use Rattle.toml_span_lsp.specs.Frames as spec;
-ghost use Rattle.toml_span_lsp.specs.Frames.{AreFrames, Writes, WritesFront};
+ghost use Rattle.toml_span_lsp.specs.Frames.{WritesFront};
+ghost use Rattle.toml_span_lsp.specs.Phases.{exit_status};
+ghost use Rattle.toml_span_lsp.specs.Served.{BeginsNoFrame, Discards, Ends, Finishes, Handles, IsFramed, Refuses, Serves, streams};
+ghost use Rattle.toml_span_lsp.specs.declared.frames.Framed.TheVariants.{TooLong, Whole};
+ghost use Rattle.toml_span_lsp.specs.declared.state.Phase.{Phase};
+ghost use Rattle.toml_span_lsp.specs.declared.state.Phase.TheVariants.{New};
 
 use crate::frames::{FrameFault, Framed, frame, push_frame};
 use crate::incoming::Id;
 use crate::reading::{Around, Reading, TextName, kept_of, reading_of, text_of};
 use crate::refusal::INVALID_REQUEST;
-use crate::state::State;
+use crate::state::Server;
 use crate::steps::{refuse, step_around};
 use crate::waiting::next_text;
 use std::alloc::{AllocError, Global};
-use std::slice;
 use toml_span_editor::document::read;
 use toml_span_lex::span::Span;
 use toml_span_lines::run::write_bytes;
@@ -24,7 +28,8 @@ use toml_span_lookup::disk::Disk;
 #[derive(Clone, Copy, Debug, PartialEq, Eq)]
 pub struct Ended {
     /// The exit status: 0 after `shutdown` and `exit`, 1 if the client left without one of them, 2 if the input is not
-    /// a sequence of whole frames, 3 if a read or a write failed, or 4 if an allocation failed.
+    /// a sequence of whole frames, 3 if a read or a write failed, or 4 if an allocation failed or no number was left to
+    /// count messages with.
     pub status: u8,
     /// What was wrong, or an empty text.
     pub reason: &'static str,
@@ -60,44 +65,52 @@ fn frames_of(alloc: Global, contents: &[Vec<u8>]) -> Result<Vec<u8>, AllocError>
 /// the frames to write.
 fn answer<D: Disk>(
     alloc: Global,
-    state: &mut State,
+    server: &mut Server,
     disk: &mut D,
     bytes: &[u8],
     span: Span,
     reading: Option<&Reading<'_>>,
 ) -> Result<Vec<u8>, AllocError>
-    ensures { IfOk result (λ out. AreFrames out.items) }
+    requires start { span.start ≤ span.end }
+    requires end { span.end ≤ length bytes.now }
+    ensures { IfOk result (λ out. Handles (take (span.end - span.start) (drop span.start bytes.now))
+        server.old.phase out.items server.new.phase) }
 {
     let around = Around {
-        waiting: bytes.get(span.end..).unwrap_or(&[]),
+        waiting: &bytes[span.end..],
         reading,
     };
-    let content = bytes.get(span.start..span.end).unwrap_or(&[]);
-    let contents = step_around(alloc, state, disk, content, around)?;
+    let content = &bytes[span.start..span.end];
+    let contents = step_around(alloc, server, disk, content, around)?;
     let out = frames_of(alloc, contents.as_slice())?;
     Ok(out)
 }
 
 /// Returns the frame that answers a message which is too long.
 fn refusal_frame(alloc: Global) -> Result<Vec<u8>, AllocError>
-    ensures { IfOk result (λ out. AreFrames out.items) }
+    ensures { IfOk result (λ out. Refuses out.items) }
 {
     let message = "the message is longer than 64 MiB";
-    let content = refuse(alloc, Id::Null, INVALID_REQUEST, message)?;
-    let out = frames_of(alloc, slice::from_ref(&content))?;
+    let refusal = refuse(alloc, Id::Null, INVALID_REQUEST, message)?;
+    let mut out = Vec::new(alloc);
+    push_frame(&mut out, refusal.as_slice())?;
     Ok(out)
 }
 
 /// Reads more bytes, and appends them to `bytes`. Returns how the server ends if the input has ended, or if a read or
 /// an allocation fails. Otherwise returns `None`.
 fn read_more<R: Source>(reader: &mut R, bytes: &mut Vec<u8>) -> Option<Ended>
-    ensures { IfSome result (λ end. end.status ≤ 4) }
+    requires { BeginsNoFrame bytes.old.items (Some []) }
+    ensures { (phase : Phase) (written : Option (List ℕ)) (unwritten : Bool) → exit_status phase ≡ None
+        → unwritten ≡ false → Serves result
+        phase bytes.old.items (streams (R.remaining reader.old) (R.failed reader.old) written unwritten)
+        phase bytes.new.items (streams (R.remaining reader.new) (R.failed reader.new) written unwritten) }
 {
     let mut buffer = [0u8; 65536];
     match reader.read(&mut buffer) {
         Ok(0) if bytes.is_empty() => Some(end_with(1, "")),
         Ok(0) => Some(end_with(2, "the input ends within a message")),
-        Ok(count) => match bytes.extend_from_slice(buffer.get(..count).unwrap_or(&[])) {
+        Ok(count) => match bytes.extend_from_slice(&buffer[..count]) {
             Ok(()) => None,
             Err(_) => Some(end_with(4, "")),
         },
@@ -108,7 +121,7 @@ fn read_more<R: Source>(reader: &mut R, bytes: &mut Vec<u8>) -> Option<Ended>
 /// Reads `count` bytes, and discards them. Returns how the server ends if the input ends before, or if a read fails.
 /// Otherwise returns `None`.
 fn discard<R: Source>(reader: &mut R, count: usize) -> Option<Ended>
-    ensures { IfSome result (λ end. end.status ≤ 4) }
+    ensures { Discards result (R.remaining reader.old) (R.remaining reader.new) (R.failed reader.new) count }
 {
     let mut buffer = [0u8; 8192];
     let mut left = count;
@@ -132,11 +145,9 @@ fn finish_frame<W: Sink>(
     out: &[u8],
     writer: &mut W,
 ) -> Option<Ended>
-    requires failed { W.failed writer.old ≡ false }
-    requires frames { AreFrames out.now }
-    ensures status { IfSome result (λ end. end.status ≤ 4) }
-    ensures writer { IfNone result (W.failed writer.new ≡ false) }
-    ensures frames { Writes result (W.contents writer.old) (W.contents writer.new) }
+    requires { W.failed writer.old ≡ false }
+    ensures bytes { IfNone result (bytes.new.items ≡ drop end bytes.old.items) }
+    ensures writer { Finishes result (W.contents writer.old) (W.contents writer.new) (W.failed writer.new) out.now }
 {
     if !write_bytes(writer, out) {
         return Some(end_with(3, "the output can't be written"));
@@ -148,8 +159,8 @@ fn finish_frame<W: Sink>(
     None
 }
 
-/// Refuses the first frame in `bytes`, whose content is too long, and reads its content, which ends at the offset
-/// `end`, without carrying it out. Returns how the server ends, or `None` if the server continues.
+/// Reads the content of the first frame in `bytes`, which is too long and ends at the offset `end`, without carrying it
+/// out, and refuses it. Returns how the server ends, or `None` if the server continues.
 fn refuse_frame<R: Source, W: Sink>(
     alloc: Global,
     bytes: &mut Vec<u8>,
@@ -157,44 +168,48 @@ fn refuse_frame<R: Source, W: Sink>(
     reader: &mut R,
     writer: &mut W,
 ) -> Option<Ended>
-    requires { W.failed writer.old ≡ false }
-    ensures status { IfSome result (λ end. end.status ≤ 4) }
-    ensures writer { IfNone result (W.failed writer.new ≡ false) }
-    ensures frames { Writes result (W.contents writer.old) (W.contents writer.new) }
+    requires frame { IsFramed bytes.old.items (TooLong end) }
+    requires long { (more : List ℕ) → BeginsNoFrame bytes.old.items (Some more) }
+    requires writer { W.failed writer.old ≡ false }
+    ensures { (phase : Phase) → exit_status phase ≡ None → Serves result
+        phase bytes.old.items (streams (R.remaining reader.old) (R.failed reader.old) (W.contents writer.old) (W.failed writer.old))
+        phase bytes.new.items (streams (R.remaining reader.new) (R.failed reader.new) (W.contents writer.new) (W.failed writer.new)) }
 {
     let Ok(out) = refusal_frame(alloc) else {
         return Some(end_with(4, ""));
     };
     let left = end.saturating_sub(bytes.len());
-    if let Some(end) = finish_frame(alloc, bytes, end, out.as_slice(), writer) {
-        return Some(end);
+    if let Some(ended) = discard(reader, left) {
+        return Some(ended);
     }
-    discard(reader, left)
+    finish_frame(alloc, bytes, end, out.as_slice(), writer)
 }
 
 /// Answers the first frame in `bytes`, whose content is at `span`, and removes the frame from `bytes`. `reading` is a
 /// document that has been read. Returns how the server ends, or `None` if the server continues.
 fn take_frame<D: Disk, W: Sink>(
     alloc: Global,
-    state: &mut State,
+    server: &mut Server,
     disk: &mut D,
     bytes: &mut Vec<u8>,
     span: Span,
     reading: Option<&Reading<'_>>,
     writer: &mut W,
 ) -> Option<Ended>
-    requires { W.failed writer.old ≡ false }
-    ensures status { IfSome result (λ end. end.status ≤ 4) }
-    ensures writer { IfNone result (W.failed writer.new ≡ false) }
-    ensures frames { Writes result (W.contents writer.old) (W.contents writer.new) }
+    requires phase { exit_status server.old.phase ≡ None }
+    requires frame { IsFramed bytes.old.items (Whole span.start span.end) }
+    requires writer { W.failed writer.old ≡ false }
+    ensures { (left : Option (List ℕ)) (unread : Bool) → Serves result
+        server.old.phase bytes.old.items (streams left unread (W.contents writer.old) (W.failed writer.old))
+        server.new.phase bytes.new.items (streams left unread (W.contents writer.new) (W.failed writer.new)) }
 {
-    let Ok(out) = answer(alloc, state, disk, bytes.as_slice(), span, reading) else {
+    let Ok(out) = answer(alloc, server, disk, bytes.as_slice(), span, reading) else {
         return Some(end_with(4, ""));
     };
     if let Some(end) = finish_frame(alloc, bytes, span.end, out.as_slice(), writer) {
         return Some(end);
     }
-    match state.exit_status() {
+    match server.exit_status() {
         Some(status) => Some(end_with(status, "")),
         None => None,
     }
@@ -204,17 +219,18 @@ fn take_frame<D: Disk, W: Sink>(
 /// document that has been read. Returns how the server ends, or `None` if the server continues.
 fn next<D: Disk, R: Source, W: Sink>(
     alloc: Global,
-    state: &mut State,
+    server: &mut Server,
     disk: &mut D,
     bytes: &mut Vec<u8>,
     reader: &mut R,
     reading: Option<&Reading<'_>>,
     writer: &mut W,
 ) -> Option<Ended>
-    requires { W.failed writer.old ≡ false }
-    ensures status { IfSome result (λ end. end.status ≤ 4) }
-    ensures writer { IfNone result (W.failed writer.new ≡ false) }
-    ensures frames { Writes result (W.contents writer.old) (W.contents writer.new) }
+    requires phase { exit_status server.old.phase ≡ None }
+    requires writer { W.failed writer.old ≡ false }
+    ensures { Serves result
+        server.old.phase bytes.old.items (streams (R.remaining reader.old) (R.failed reader.old) (W.contents writer.old) (W.failed writer.old))
+        server.new.phase bytes.new.items (streams (R.remaining reader.new) (R.failed reader.new) (W.contents writer.new) (W.failed writer.new)) }
 {
     match frame(bytes.as_slice()) {
         Framed::Part => read_more(reader, bytes),
@@ -222,19 +238,19 @@ fn next<D: Disk, R: Source, W: Sink>(
         Framed::Fault(fault) => Some(end_with(2, reason_of(fault))),
         Framed::Whole { start, end } => {
             let span = Span { start, end };
-            take_frame(alloc, state, disk, bytes, span, reading, writer)
+            take_frame(alloc, server, disk, bytes, span, reading, writer)
         }
     }
 }
 
 /// Returns whether the text `name` is no longer that of its document, or whether the first request in `bytes` is about
 /// another text. Returns true if an allocation fails.
-fn is_over(alloc: Global, state: &State, name: &TextName, bytes: &[u8]) -> bool {
-    let is_same = match state.documents.get(name.uri.as_str()) {
+fn is_over(alloc: Global, server: &Server, name: &TextName, bytes: &[u8]) -> bool {
+    let is_same = match server.state.documents.get(name.uri.as_str()) {
         Some(open) => open.revision == name.revision,
         None => false,
     };
-    match next_text(alloc, state, bytes) {
+    match next_text(alloc, server, bytes) {
         Ok(Some(next)) => !is_same || next.revision != name.revision,
         Ok(None) => !is_same,
         Err(_) => true,
@@ -245,23 +261,24 @@ fn is_over(alloc: Global, state: &State, name: &TextName, bytes: &[u8]) -> bool 
 /// Returns how the server ends, or `None` if the server continues.
 fn answer_all<D: Disk, R: Source, W: Sink>(
     alloc: Global,
-    state: &mut State,
+    server: &mut Server,
     disk: &mut D,
     bytes: &mut Vec<u8>,
     reader: &mut R,
     reading: &Reading<'_>,
     writer: &mut W,
 ) -> Option<Ended>
-    requires { W.failed writer.old ≡ false }
-    ensures status { IfSome result (λ end. end.status ≤ 4) }
-    ensures writer { IfNone result (W.failed writer.new ≡ false) }
-    ensures frames { Writes result (W.contents writer.old) (W.contents writer.new) }
+    requires phase { exit_status server.old.phase ≡ None }
+    requires writer { W.failed writer.old ≡ false }
+    ensures { Serves result
+        server.old.phase bytes.old.items (streams (R.remaining reader.old) (R.failed reader.old) (W.contents writer.old) (W.failed writer.old))
+        server.new.phase bytes.new.items (streams (R.remaining reader.new) (R.failed reader.new) (W.contents writer.new) (W.failed writer.new)) }
 {
     'messages: for _ in 0..u64::MAX {
-        if is_over(alloc, state, &reading.name, bytes.as_slice()) {
+        if is_over(alloc, server, &reading.name, bytes.as_slice()) {
             return None;
         }
-        match next(alloc, state, disk, bytes, reader, Some(reading), writer) {
+        match next(alloc, server, disk, bytes, reader, Some(reading), writer) {
             Some(end) => return Some(end),
             None => {}
         }
@@ -273,19 +290,20 @@ fn answer_all<D: Disk, R: Source, W: Sink>(
 /// it, as `answer_all` does. Returns how the server ends, or `None` if the server continues.
 fn read_and_answer<D: Disk, R: Source, W: Sink>(
     alloc: Global,
-    state: &mut State,
+    server: &mut Server,
     disk: &mut D,
     bytes: &mut Vec<u8>,
     reader: &mut R,
     name: TextName,
     writer: &mut W,
 ) -> Option<Ended>
-    requires { W.failed writer.old ≡ false }
-    ensures status { IfSome result (λ end. end.status ≤ 4) }
-    ensures writer { IfNone result (W.failed writer.new ≡ false) }
-    ensures frames { Writes result (W.contents writer.old) (W.contents writer.new) }
+    requires phase { exit_status server.old.phase ≡ None }
+    requires writer { W.failed writer.old ≡ false }
+    ensures { Serves result
+        server.old.phase bytes.old.items (streams (R.remaining reader.old) (R.failed reader.old) (W.contents writer.old) (W.failed writer.old))
+        server.new.phase bytes.new.items (streams (R.remaining reader.new) (R.failed reader.new) (W.contents writer.new) (W.failed writer.new)) }
 {
-    let Ok(Some(text)) = text_of(state, &name) else {
+    let Ok(Some(text)) = text_of(&server.state, &name) else {
         return Some(end_with(4, ""));
     };
     let Ok(document) = read(alloc, text.as_str()) else {
@@ -294,11 +312,11 @@ fn read_and_answer<D: Disk, R: Source, W: Sink>(
     let Ok(kept) = kept_of(alloc, document.as_ref(), text.as_str()) else {
         return Some(end_with(4, ""));
     };
-    let (encoding, whole, part) = (state.encoding, text.as_str(), kept.as_str());
+    let (encoding, whole, part) = (server.state.encoding, text.as_str(), kept.as_str());
     let Ok(reading) = reading_of(alloc, encoding, name, whole, document, part) else {
         return Some(end_with(4, ""));
     };
-    answer_all(alloc, state, disk, bytes, reader, &reading, writer)
+    answer_all(alloc, server, disk, bytes, reader, &reading, writer)
 }
 
 /// Answers the frame at the start of `bytes` or, if the frame is not complete, reads more bytes. If the frame asks
@@ -306,23 +324,24 @@ fn read_and_answer<D: Disk, R: Source, W: Sink>(
 /// ends, or `None` if the server continues.
 fn next_reading<D: Disk, R: Source, W: Sink>(
     alloc: Global,
-    state: &mut State,
+    server: &mut Server,
     disk: &mut D,
     bytes: &mut Vec<u8>,
     reader: &mut R,
     writer: &mut W,
 ) -> Option<Ended>
-    requires { W.failed writer.old ≡ false }
-    ensures status { IfSome result (λ end. end.status ≤ 4) }
-    ensures writer { IfNone result (W.failed writer.new ≡ false) }
-    ensures frames { Writes result (W.contents writer.old) (W.contents writer.new) }
+    requires phase { exit_status server.old.phase ≡ None }
+    requires writer { W.failed writer.old ≡ false }
+    ensures { Serves result
+        server.old.phase bytes.old.items (streams (R.remaining reader.old) (R.failed reader.old) (W.contents writer.old) (W.failed writer.old))
+        server.new.phase bytes.new.items (streams (R.remaining reader.new) (R.failed reader.new) (W.contents writer.new) (W.failed writer.new)) }
 {
-    let Ok(text) = next_text(alloc, state, bytes.as_slice()) else {
+    let Ok(text) = next_text(alloc, server, bytes.as_slice()) else {
         return Some(end_with(4, ""));
     };
     match text {
-        Some(name) => read_and_answer(alloc, state, disk, bytes, reader, name, writer),
-        None => next(alloc, state, disk, bytes, reader, None, writer),
+        Some(name) => read_and_answer(alloc, server, disk, bytes, reader, name, writer),
+        None => next(alloc, server, disk, bytes, reader, None, writer),
     }
 }
 
@@ -337,14 +356,17 @@ pub fn serve<D: Disk, R: Source, W: Sink>(
     requires { W.failed writer.old ≡ false }
     ensures status { result.status ≤ 4 }
     ensures frames { WritesFront (W.contents writer.old) (W.contents writer.new) }
+    ensures served { Ends New []
+        (streams (R.remaining reader.old) (R.failed reader.old) (W.contents writer.old) (W.failed writer.old))
+        (streams (R.remaining reader.new) (R.failed reader.new) (W.contents writer.new) (W.failed writer.new)) result.status }
 {
-    let mut state = State::new(alloc);
+    let mut server = Server::new(alloc);
     let mut bytes = Vec::new(alloc);
     'messages: for _ in 0..u64::MAX {
-        match next_reading(alloc, &mut state, disk, &mut bytes, reader, writer) {
+        match next_reading(alloc, &mut server, disk, &mut bytes, reader, writer) {
             Some(end) => return end,
             None => {}
         }
     }
-    end_with(3, "")
+    end_with(4, "")
 }

@@ -1,5 +1,7 @@
 //! The state of the server between messages.
-ghost use Rattle.std.specs.Prelude.{◌≤◌, IfSome};
+ghost use Rattle.std.specs.Prelude.{◌≡◌};
+ghost use Rattle.toml_span_lsp.specs.Phases as spec;
+ghost use Rattle.toml_span_lsp.specs.declared.state.Phase.TheVariants.{New};
 
 use crate::folders::Folders;
 use crate::projects::Projects;
@@ -107,11 +109,9 @@ pub(crate) struct Open {
     pub tokens: Option<SentTokens>,
 }
 
-/// The state of the server: its phase, the capabilities of the client, the settings, the schemas and the open
-/// documents.
+/// What the server knows: the capabilities of the client, the settings, the schemas and the open documents.
 #[derive(Drop)]
-pub struct State {
-    pub(crate) phase: Phase,
+pub(crate) struct State {
     pub(crate) encoding: Encoding,
     pub(crate) client: Client,
     /// The paths of the folders that are open in the editor, each with a slash at the end.
@@ -138,10 +138,8 @@ pub struct State {
 }
 
 impl State {
-    /// Returns the state of a server that has just been started.
-    pub fn new(alloc: Global) -> Self {
+    fn new(alloc: Global) -> Self {
         State {
-            phase: Phase::New,
             encoding: Encoding::Utf16,
             client: Client::PLAIN,
             roots: Vec::new(alloc),
@@ -172,10 +170,29 @@ impl State {
         self.count = self.count.wrapping_add(1);
         self.count
     }
+}
+
+/// The state of the server between messages.
+#[derive(Drop)]
+pub struct Server {
+    pub(crate) phase: Phase,
+    pub(crate) state: State,
+}
+
+impl Server {
+    /// Returns the state of a server that has just been started.
+    pub fn new(alloc: Global) -> Self
+        ensures { result.phase ≡ New }
+    {
+        Server {
+            phase: Phase::New,
+            state: State::new(alloc),
+        }
+    }
 
     /// Returns the exit status: 0 if `shutdown` came before `exit`, otherwise 1. Returns `None` before `exit`.
     pub fn exit_status(&self) -> Option<u8>
-        ensures { IfSome result (λ status. status ≤ 1) }
+        ensures { result ≡ spec.exit_status self.now.phase }
     {
         match self.phase {
             Phase::Ended {

@@ -1,7 +1,10 @@
 //! One step of the server: takes a message, and returns the messages to send.
-ghost use Rattle.std.specs.Prelude.{IfOk, map, option_map};
+ghost use Rattle.std.specs.Prelude.{◌≡◌, IfOk, map, option_map};
 ghost use Rattle.toml_span_lsp.specs.Messages as spec;
 ghost use Rattle.toml_span_lsp.specs.Messages.{Answers, IsAnswer, IsResponse, Responds};
+ghost use Rattle.toml_span_lsp.specs.Phases as phases;
+ghost use Rattle.toml_span_lsp.specs.Phases.{AfterContent, AfterMessage, AfterNotification, AfterRequest};
+ghost use Rattle.toml_span_lsp.specs.declared.state.Phase.TheVariants.{Running};
 
 use crate::capabilities::{store_client, write_capabilities};
 use crate::configuration::{
@@ -17,7 +20,7 @@ use crate::refusal::{
 };
 use crate::requests::write_result;
 use crate::schemas::{follow, settle};
-use crate::state::{Phase, State};
+use crate::state::{Phase, Server, State};
 use crate::surrogates::without_lone;
 use crate::sync::{change, close, open, save};
 use crate::waiting::{has_frame, is_cancelled};
@@ -31,18 +34,23 @@ use toml_span_lookup::disk::Disk;
 /// `Refusal` if the request is refused.
 fn write_request(
     alloc: Global,
-    state: &mut State,
+    server: &mut Server,
     call: Call<'_, '_>,
     known: Option<&Reading<'_>>,
     out: &mut Json,
-) -> Result<(), Stop<Refusal>> {
+) -> Result<(), Stop<Refusal>>
+    requires { server.old.phase ≡ Running }
+    ensures { AfterRequest call.entry.method.now server.old.phase server.new.phase }
+{
     if call.method == "shutdown" {
-        state.phase = Phase::Shut;
+        server.phase = Phase::Shut;
         out.null();
         return Ok(());
     }
     match method_named(call.method) {
-        Some(method) => write_result(alloc, state, method, call.params, known, out),
+        Some(method) => {
+            write_result(alloc, &mut server.state, method, call.params, known, out)
+        }
         None => Err(refused(alloc, METHOD_NOT_FOUND, "the method is not known")),
     }
 }
@@ -51,23 +59,25 @@ fn write_request(
 /// for example in the wrong phase.
 fn write_phased(
     alloc: Global,
-    state: &mut State,
+    server: &mut Server,
     call: Call<'_, '_>,
     known: Option<&Reading<'_>>,
     out: &mut Json,
-) -> Result<(), Stop<Refusal>> {
-    match (state.phase, call.method) {
+) -> Result<(), Stop<Refusal>>
+    ensures { AfterRequest call.entry.method.now server.old.phase server.new.phase }
+{
+    match (server.phase, call.method) {
         (Phase::New, "initialize") => {
-            store_client(alloc, state, call.params)?;
-            write_capabilities(out, state.encoding);
-            state.phase = Phase::Running;
+            store_client(alloc, &mut server.state, call.params)?;
+            write_capabilities(out, server.state.encoding);
+            server.phase = Phase::Running;
             Ok(())
         }
         (Phase::New, _) => Err(refused(alloc, NOT_INITIALIZED, "`initialize` must be first")),
         (Phase::Running, "initialize") => {
             Err(refused(alloc, INVALID_REQUEST, "`initialize` must not be repeated"))
         }
-        (Phase::Running, _) => write_request(alloc, state, call, known, out),
+        (Phase::Running, _) => write_request(alloc, server, call, known, out),
         (Phase::Shut | Phase::Ended { .. }, _) => {
             Err(refused(alloc, INVALID_REQUEST, "the server is shut down"))
         }
@@ -77,15 +87,16 @@ fn write_phased(
 /// Returns the response to a request. `known` is as for `write_result`.
 fn answered(
     alloc: Global,
-    state: &mut State,
+    server: &mut Server,
     id: Id<'_>,
     call: Call<'_, '_>,
     known: Option<&Reading<'_>>,
 ) -> Result<Vec<u8>, AllocError>
-    ensures { IfOk result (λ message. IsResponse (spec.id_token id.entry) message.items) }
+    ensures response { IfOk result (λ message. IsResponse (spec.id_token id.entry) message.items) }
+    ensures phase { AfterRequest call.entry.method.now server.old.phase server.new.phase }
 {
     let mut value = Json::new(alloc);
-    match write_phased(alloc, state, call, known, &mut value) {
+    match write_phased(alloc, server, call, known, &mut value) {
         Ok(()) => response(alloc, id, value),
         Err(stop) => {
             let refusal = stop.fault()?;
@@ -94,48 +105,70 @@ fn answered(
     }
 }
 
-/// Carries out a notification, and appends the messages to send. Ignores an unknown notification, and a notification in
-/// the wrong phase.
-fn note<D: Disk>(
+/// Carries out a notification between `initialize` and `shutdown`, and appends the messages to send. Ignores an unknown
+/// notification.
+fn note_running<D: Disk>(
     alloc: Global,
     state: &mut State,
     disk: &mut D,
     call: Call<'_, '_>,
     out: &mut Outbox,
 ) -> Result<(), AllocError> {
-    match (state.phase, call.method) {
-        (Phase::Shut, "exit") => {
-            state.phase = Phase::Ended {
-                after_shutdown: true,
-            };
-            Ok(())
-        }
-        (_, "exit") => {
-            state.phase = Phase::Ended {
-                after_shutdown: false,
-            };
-            Ok(())
-        }
-        (Phase::Running, "initialized") => {
+    match call.method {
+        "initialized" => {
             initialized(alloc, state, out);
             Ok(())
         }
-        (Phase::Running, "workspace/didChangeConfiguration") => {
+        "workspace/didChangeConfiguration" => {
             settings_changed(alloc, state, disk, call.params, out)
         }
-        (Phase::Running, "workspace/didChangeWorkspaceFolders") => {
+        "workspace/didChangeWorkspaceFolders" => {
             folders_changed(alloc, state, disk, call.params, out)
         }
-        (Phase::Running, "workspace/didChangeWatchedFiles") => check_all(alloc, state, disk, out),
-        (Phase::Running, "textDocument/didOpen") => open(alloc, state, disk, call.params, out),
-        (Phase::Running, "textDocument/didChange") => change(alloc, state, call.params, out),
-        (Phase::Running, "textDocument/didSave") => save(alloc, state, disk, call.params, out),
-        (Phase::Running, "textDocument/didClose") => {
+        "workspace/didChangeWatchedFiles" => check_all(alloc, state, disk, out),
+        "textDocument/didOpen" => open(alloc, state, disk, call.params, out),
+        "textDocument/didChange" => change(alloc, state, call.params, out),
+        "textDocument/didSave" => save(alloc, state, disk, call.params, out),
+        "textDocument/didClose" => {
             close(alloc, state, call.params, out);
             Ok(())
         }
         _ => Ok(()),
     }
+}
+
+/// Returns the phase after `exit`.
+fn ended(phase: Phase) -> Phase
+    ensures { result ≡ phases.ended phase }
+{
+    match phase {
+        Phase::Shut => Phase::Ended {
+            after_shutdown: true,
+        },
+        Phase::New | Phase::Running | Phase::Ended { .. } => Phase::Ended {
+            after_shutdown: false,
+        },
+    }
+}
+
+/// Carries out a notification, and appends the messages to send. Ignores a notification in the wrong phase.
+fn note<D: Disk>(
+    alloc: Global,
+    server: &mut Server,
+    disk: &mut D,
+    call: Call<'_, '_>,
+    out: &mut Outbox,
+) -> Result<(), AllocError>
+    ensures { IfOk result (λ _. AfterNotification call.entry.method.now server.old.phase server.new.phase) }
+{
+    if call.method == "exit" {
+        server.phase = ended(server.phase);
+        return Ok(());
+    }
+    if server.phase == Phase::Running {
+        note_running(alloc, &mut server.state, disk, call, out)?;
+    }
+    Ok(())
 }
 
 /// Returns the response that refuses a message.
@@ -155,38 +188,40 @@ pub(crate) fn refuse(
 /// schemas that changed documents name before it answers.
 fn taken<D: Disk>(
     alloc: Global,
-    state: &mut State,
+    server: &mut Server,
     disk: &mut D,
     id: Id<'_>,
     call: Call<'_, '_>,
     around: Around<'_, '_, '_>,
 ) -> Result<Vec<u8>, AllocError>
-    ensures { IfOk result (λ message. IsResponse (spec.id_token id.entry) message.items) }
+    ensures response { IfOk result (λ message. IsResponse (spec.id_token id.entry) message.items) }
+    ensures phase { AfterRequest call.entry.method.now server.old.phase server.new.phase }
 {
     if is_cancelled(alloc, around.waiting, id)? {
         return refuse(alloc, id, REQUEST_CANCELLED, "the request was cancelled");
     }
-    follow(alloc, state, disk)?;
-    answered(alloc, state, id, call, around.reading)
+    follow(alloc, &mut server.state, disk)?;
+    answered(alloc, server, id, call, around.reading)
 }
 
 /// Carries out a message, and appends the notifications and requests to send. Returns the response to a request, or
 /// `None` for another message.
 fn take<D: Disk>(
     alloc: Global,
-    state: &mut State,
+    server: &mut Server,
     disk: &mut D,
     message: Message<'_, '_>,
     around: Around<'_, '_, '_>,
     out: &mut Outbox,
 ) -> Result<Option<Vec<u8>>, AllocError>
-    ensures { IfOk result (λ response. IsAnswer (spec.awaited message.entry)
+    ensures response { IfOk result (λ response. IsAnswer (spec.awaited message.entry)
         (option_map (λ text. text.items) response)) }
+    ensures phase { IfOk result (λ _. AfterMessage message.entry server.old.phase server.new.phase) }
 {
     match message {
         Message::Response(id, result) => {
-            if state.phase == Phase::Running {
-                settings_came(alloc, state, disk, id, result, out)?;
+            if server.phase == Phase::Running {
+                settings_came(alloc, &mut server.state, disk, id, result, out)?;
             }
             Ok(None)
         }
@@ -196,11 +231,11 @@ fn take<D: Disk>(
         }
         Message::Call(call) => match call.id {
             Some(id) => {
-                let response = taken(alloc, state, disk, id, call, around)?;
+                let response = taken(alloc, server, disk, id, call, around)?;
                 Ok(Some(response))
             }
             None => {
-                note(alloc, state, disk, call, out)?;
+                note(alloc, server, disk, call, out)?;
                 Ok(None)
             }
         },
@@ -211,7 +246,7 @@ fn take<D: Disk>(
 /// returns a response that says so. Otherwise, does the same as `take`.
 fn take_repaired<D: Disk>(
     alloc: Global,
-    state: &mut State,
+    server: &mut Server,
     disk: &mut D,
     content: &[u8],
     around: Around<'_, '_, '_>,
@@ -220,7 +255,7 @@ fn take_repaired<D: Disk>(
     let repaired = without_lone(alloc, content)?;
     let mut scratch = Scratch::new(alloc);
     match Value::from_slice(alloc, repaired.as_slice(), &mut scratch) {
-        Ok(value) => take(alloc, state, disk, message_of(&value), around, out),
+        Ok(value) => take(alloc, server, disk, message_of(&value), around, out),
         Err(Error::OutOfMemory) => Err(AllocError),
         Err(_) => {
             let response = refuse(alloc, Id::Null, PARSE_ERROR, "the content is not JSON")?;
@@ -233,19 +268,20 @@ fn take_repaired<D: Disk>(
 /// there is one.
 fn respond<D: Disk>(
     alloc: Global,
-    state: &mut State,
+    server: &mut Server,
     disk: &mut D,
     content: &[u8],
     around: Around<'_, '_, '_>,
     out: &mut Outbox,
 ) -> Result<Option<Vec<u8>>, AllocError>
-    ensures { IfOk result (λ response. Responds content.now (option_map (λ text. text.items) response)) }
+    ensures response { IfOk result (λ response. Responds content.now (option_map (λ text. text.items) response)) }
+    ensures phase { IfOk result (λ _. AfterContent content.now server.old.phase server.new.phase) }
 {
     let mut scratch = Scratch::new(alloc);
     match Value::from_slice(alloc, content, &mut scratch) {
-        Ok(value) => take(alloc, state, disk, message_of(&value), around, out),
+        Ok(value) => take(alloc, server, disk, message_of(&value), around, out),
         Err(Error::OutOfMemory) => Err(AllocError),
-        Err(_) => take_repaired(alloc, state, disk, content, around, out),
+        Err(_) => take_repaired(alloc, server, disk, content, around, out),
     }
 }
 
@@ -265,19 +301,20 @@ fn push_notices(alloc: Global, state: &mut State, out: &mut Outbox) {
 /// messages in `around`.
 pub(crate) fn step_around<D: Disk>(
     alloc: Global,
-    state: &mut State,
+    server: &mut Server,
     disk: &mut D,
     content: &[u8],
     around: Around<'_, '_, '_>,
 ) -> Result<Vec<Vec<u8>>, AllocError>
-    ensures { IfOk result (λ messages. Answers content.now (map (λ text. text.items) messages.items)) }
+    ensures answers { IfOk result (λ messages. Answers content.now (map (λ text. text.items) messages.items)) }
+    ensures phase { IfOk result (λ _. AfterContent content.now server.old.phase server.new.phase) }
 {
     let mut out = Outbox::new(alloc);
-    let response = respond(alloc, state, disk, content, around, &mut out)?;
+    let response = respond(alloc, server, disk, content, around, &mut out)?;
     if !has_frame(around.waiting) {
-        settle(alloc, state, disk, &mut out)?;
+        settle(alloc, &mut server.state, disk, &mut out)?;
     }
-    push_notices(alloc, state, &mut out);
+    push_notices(alloc, &mut server.state, &mut out);
     out.finish(alloc, response)
 }
 
@@ -287,15 +324,16 @@ pub(crate) fn step_around<D: Disk>(
 /// allocation fails; the message may have been carried out in part by then.
 pub fn step<D: Disk>(
     alloc: Global,
-    state: &mut State,
+    server: &mut Server,
     disk: &mut D,
     content: &[u8],
 ) -> Result<Vec<Vec<u8>>, AllocError>
-    ensures { IfOk result (λ messages. Answers content.now (map (λ text. text.items) messages.items)) }
+    ensures answers { IfOk result (λ messages. Answers content.now (map (λ text. text.items) messages.items)) }
+    ensures phase { IfOk result (λ _. AfterContent content.now server.old.phase server.new.phase) }
 {
     let around = Around {
         waiting: &[],
         reading: None,
     };
-    step_around(alloc, state, disk, content, around)
+    step_around(alloc, server, disk, content, around)
 }

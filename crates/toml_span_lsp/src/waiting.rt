@@ -3,7 +3,7 @@ use crate::frames::{Framed, frame};
 use crate::incoming::{Id, Message, message_of, text_in};
 use crate::methods::{Method, method_named};
 use crate::reading::{TextName, is_too_long};
-use crate::state::{Phase, State};
+use crate::state::{Phase, Server, State};
 use json::{Error, Scratch, Value};
 use std::alloc::{AllocError, Global};
 
@@ -92,18 +92,18 @@ fn text_asked(
 /// read for it. Returns `None` if there is no whole frame, or if the frame has another message or a very long one.
 pub(crate) fn next_text(
     alloc: Global,
-    state: &State,
+    server: &Server,
     bytes: &[u8],
 ) -> Result<Option<TextName>, AllocError> {
     let Framed::Whole { start, end } = frame(bytes) else {
         return Ok(None);
     };
-    if state.phase != Phase::Running || end.saturating_sub(start) > LONGEST_REQUEST {
+    if server.phase != Phase::Running || end.saturating_sub(start) > LONGEST_REQUEST {
         return Ok(None);
     }
     let mut scratch = Scratch::new(alloc);
     match Value::from_slice(alloc, bytes.get(start..end).unwrap_or(&[]), &mut scratch) {
-        Ok(value) => text_asked(alloc, state, message_of(&value)),
+        Ok(value) => text_asked(alloc, &server.state, message_of(&value)),
         Err(Error::OutOfMemory) => Err(AllocError),
         Err(_) => Ok(None),
     }
