@@ -94,12 +94,13 @@ dependent f no_members es = length es == 0
 dependent f (member n j ms) es =
     if is_array (Some j) then dependent f ms es else takes f n j es && dependent f ms (rest_of es)
 
--- the schemas for the first elements of an array, and the schema for the elements after them
-abbrev pub first_items : ℕ → Json → Items
-first_items d j = items_in (get (if d == 20 then codes "prefixItems" else codes "items") j)
+-- the keyword for the first elements of an array, and the one for the elements after them
+abbrev pub first_items : ℕ → List ℕ
+first_items d = if d == 20 then codes "prefixItems" else codes "items"
 
-abbrev pub later_items : ℕ → Json → Option Json
-later_items d j = get (if not (d == 20) && is_array (get (codes "items") j) then codes "additionalItems" else codes "items") j
+abbrev pub later_items : ℕ → Json → List ℕ
+later_items d j =
+    if not (d == 20) && is_array (get (codes "items") j) then codes "additionalItems" else codes "items"
 
 -- Whether a compiled keyword with subschemas may have this name.
 unfoldable pub fits_inner : Keyword → List ℕ → Bool
@@ -149,7 +150,7 @@ agrees f s d j n (keyword.If c t e) =
     same_one f (get n j) (Some c) && same_one f (get (codes "then") j) t && same_one f (get (codes "else") j) e
 agrees f s d j n (keyword.DependentSchemas es) = dependent f (members_in (get n j)) es.items
 agrees f s d j n (keyword.Items ks rest) =
-    each f (first_items d j) ks.items && same_one f (later_items d j) rest
+    each f (items_in (get (first_items d) j)) ks.items && same_one f (get (later_items d j) j) rest
 agrees f s d j n (keyword.Contains k least most evaluates) = same_one f (get n j) (Some k)
 agrees f s d j n (keyword.Properties ps es rest) =
     named f (get_by_text ps) (members_in (get (codes "properties") j))
@@ -203,26 +204,36 @@ is_dependent schemas _ = false
 abbrev pub is_one_kept : Bool → List Placed → List (List ℕ) → Bool
 is_one_kept present ps ns = not present || list_any (λ n. has ps n) ns
 
--- Whether the keywords that only some values bring, and those that share a compiled keyword, are kept.
+-- Whether the keywords that only some values bring are kept, and the limits of draft 4, which may have another name.
 unfoldable pub keeps_others : ℕ → Json → List Placed → Bool
 keeps_others d j ps =
     is_one_kept (is_true (get (codes "uniqueItems") j)) ps (codes "uniqueItems" ∷ [])
     && is_one_kept (is_format (get (codes "format") j)) ps (codes "format" ∷ [])
-    -- (in draft 4, the other keyword says whether the limit is excluded)
     && is_one_kept (d == 4 && is_some (get (codes "minimum") j)) ps (codes "minimum" ∷ codes "exclusiveMinimum" ∷ [])
     && is_one_kept (d == 4 && is_some (get (codes "maximum") j)) ps (codes "maximum" ∷ codes "exclusiveMaximum" ∷ [])
-    && is_one_kept (is_some (get (codes "items") j) || (d == 20 && is_some (get (codes "prefixItems") j))) ps
+
+abbrev pub is_filled_in : List ℕ → Json → Bool
+is_filled_in n j = is_filled (members_in (get n j))
+
+-- Whether the keywords that share a compiled keyword are kept.
+unfoldable pub keeps_shared : ℕ → Json → List Placed → Bool
+keeps_shared d j ps =
+    is_one_kept (is_some (get (codes "items") j) || (d == 20 && is_some (get (codes "prefixItems") j))) ps
     (codes "items" ∷ codes "prefixItems" ∷ codes "additionalItems" ∷ [])
-    && is_one_kept (is_filled (members_in (get (codes "properties") j)) || is_filled (members_in (get (codes "patternProperties") j))
+    && is_one_kept (is_filled_in (codes "properties") j || is_filled_in (codes "patternProperties") j
     || is_some (get (codes "additionalProperties") j)) ps (codes "properties" ∷ codes "additionalProperties" ∷ [])
-    && is_one_kept (nat_lt 18 d && is_filled (members_in (get (codes "dependentSchemas") j))) ps (codes "dependentSchemas" ∷ [])
-    && (nat_lt 18 d || not (is_some (get (codes "dependencies") j))
-    || (list_any (λ p. is_dependent true p.keyword) ps && list_any (λ p. is_dependent false p.keyword) ps))
+
+-- Whether `dependentSchemas` or `dependencies` is kept, the latter as two keywords.
+unfoldable pub keeps_dependent : ℕ → Json → List Placed → Bool
+keeps_dependent d j ps =
+    if nat_lt 18 d then is_one_kept (is_filled_in (codes "dependentSchemas") j) ps (codes "dependentSchemas" ∷ [])
+    else (if is_some (get (codes "dependencies") j)
+    then list_any (λ p. is_dependent true p.keyword) ps && list_any (λ p. is_dependent false p.keyword) ps else true)
 
 abbrev pub ordinary : Compile → Schema → ℕ → Json → List Placed → Bool
 ordinary f s d j ps =
     list_all (λ p. fits p.keyword p.name.now && agrees f s d j p.name.now p.keyword) ps
-    && keeps_single d j ps && keeps_later d j ps && keeps_others d j ps
+    && keeps_single d j ps && keeps_later d j ps && keeps_others d j ps && keeps_shared d j ps && keeps_dependent d j ps
 
 -- the node with the other keywords of a schema with `unevaluatedItems` or `unevaluatedProperties`
 abbrev pub base : List Placed → Option ℕ

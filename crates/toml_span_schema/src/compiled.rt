@@ -145,6 +145,24 @@ fn is_filled(value: &Json<'_>, name: &str) -> bool
     }
 }
 
+/// Returns the keyword for the first elements of an array.
+fn first_items(draft: u8) -> &'static str
+    ensures { result.now ≡ spec.first_items draft }
+{
+    if draft == 20 { "prefixItems" } else { "items" }
+}
+
+/// Returns the keyword for the elements after those of `first_items`.
+fn later_items(draft: u8, value: &Json<'_>) -> &'static str
+    ensures { result.now ≡ spec.later_items draft (value_view value.now) }
+{
+    if draft != 20 && is_array(value, "items") {
+        "additionalItems"
+    } else {
+        "items"
+    }
+}
+
 /// Returns whether one of the members has this name.
 fn has_member(members: &[(&str, Json<'_>)], name: &str) -> bool
     ensures { result ≡ is_some (get_member name.now (members_view members.now)) }
@@ -359,45 +377,55 @@ fn has_dependent(schemas: bool, keywords: &[Placed]) -> bool
     false
 }
 
-/// Returns whether the keywords that only some values bring, and those that share a compiled keyword, are compiled.
+/// Returns whether the keywords that only some values bring, and the limits of draft 4, are compiled.
 #[tactic(auto, unfolding(crate::specs::Compiled::keeps_others))]
 fn keeps_others(draft: u8, value: &Json<'_>, keywords: &[Placed]) -> bool
     ensures { result ≡ spec.keeps_others draft (value_view value.now) keywords.now }
+{
+    let least = draft == 4 && is_present(value, "minimum");
+    let most = draft == 4 && is_present(value, "maximum");
+    is_one_kept(is_unique(value), keywords, &["uniqueItems"])
+        && is_one_kept(is_format(value), keywords, &["format"])
+        && is_one_kept(least, keywords, &["minimum", "exclusiveMinimum"])
+        && is_one_kept(most, keywords, &["maximum", "exclusiveMaximum"])
+}
+
+/// Returns whether the keywords that share a compiled keyword are compiled.
+#[tactic(auto, unfolding(crate::specs::Compiled::keeps_shared))]
+fn keeps_shared(draft: u8, value: &Json<'_>, keywords: &[Placed]) -> bool
+    ensures { result ≡ spec.keeps_shared draft (value_view value.now) keywords.now }
 {
     let items = is_present(value, "items") || draft == 20 && is_present(value, "prefixItems");
     let properties = is_filled(value, "properties")
         || is_filled(value, "patternProperties")
         || is_present(value, "additionalProperties");
-    is_one_kept(is_unique(value), keywords, &["uniqueItems"])
-        && is_one_kept(is_format(value), keywords, &["format"])
-        && is_one_kept(
-            draft == 4 && is_present(value, "minimum"),
-            keywords,
-            &["minimum", "exclusiveMinimum"],
-        )
-        && is_one_kept(
-            draft == 4 && is_present(value, "maximum"),
-            keywords,
-            &["maximum", "exclusiveMaximum"],
-        )
-        && is_one_kept(
-            items,
-            keywords,
-            &["items", "prefixItems", "additionalItems"],
-        )
-        && is_one_kept(
-            properties,
-            keywords,
-            &["properties", "additionalProperties"],
-        )
-        && is_one_kept(
-            draft > 18 && is_filled(value, "dependentSchemas"),
+    is_one_kept(
+        items,
+        keywords,
+        &["items", "prefixItems", "additionalItems"],
+    ) && is_one_kept(
+        properties,
+        keywords,
+        &["properties", "additionalProperties"],
+    )
+}
+
+/// Returns whether `dependentSchemas` and `dependencies` are compiled.
+#[tactic(auto, unfolding(crate::specs::Compiled::keeps_dependent))]
+fn keeps_dependent(draft: u8, value: &Json<'_>, keywords: &[Placed]) -> bool
+    ensures { result ≡ spec.keeps_dependent draft (value_view value.now) keywords.now }
+{
+    if draft > 18 {
+        is_one_kept(
+            is_filled(value, "dependentSchemas"),
             keywords,
             &["dependentSchemas"],
         )
-        && (draft > 18
-            || !is_present(value, "dependencies")
-            || has_dependent(true, keywords) && has_dependent(false, keywords))
+    } else if is_present(value, "dependencies") {
+        has_dependent(true, keywords) && has_dependent(false, keywords)
+    } else {
+        true
+    }
 }
 
 /// Returns the node with the other keywords of a schema with `unevaluatedItems` or `unevaluatedProperties`.
@@ -459,7 +487,10 @@ impl Schema {
     ) -> bool
         ensures { result ≡ spec.compiled self.now draft left is_base (value_view value.now) node }
     {
-        left > 0 && self.agrees_all(draft, left - 1, is_base, value, self.keywords(node))
+        if left == 0 {
+            return false;
+        }
+        self.agrees_all(draft, left - 1, is_base, value, self.keywords(node))
     }
 
     /// Returns whether the compiled keywords are those of a JSON schema. `is_base` is as for `is_compiled`.
@@ -509,6 +540,8 @@ impl Schema {
         keeps_single(draft, value, keywords)
             && keeps_later(draft, value, keywords)
             && keeps_others(draft, value, keywords)
+            && keeps_shared(draft, value, keywords)
+            && keeps_dependent(draft, value, keywords)
     }
 
     /// Returns whether the compiled keywords are those of a JSON object with `unevaluatedItems` or
@@ -590,13 +623,14 @@ impl Schema {
             Keyword::DependentSchemas(entries) => {
                 self.same_dependent(draft, left, value.get(name), entries.as_slice())
             }
-            Keyword::Items(nodes, rest) => self.same_items(
-                draft,
-                left,
-                value,
-                nodes.as_slice(),
-                *rest,
-            ),
+            Keyword::Items(nodes, rest) => {
+                let (first, later) = (
+                    value.get(first_items(draft)),
+                    value.get(later_items(draft, value)),
+                );
+                self.same_each(draft, left, first, nodes.as_slice())
+                    && self.same_one(draft, left, later, *rest)
+            }
             Keyword::Properties(properties, matching, rest) => {
                 self.same_named(draft, left, value.get("properties"), properties)
                     && self.same_patterned(
@@ -659,28 +693,6 @@ impl Schema {
         rest.is_empty()
     }
 
-    /// Returns whether `items`, `prefixItems` and `additionalItems` are compiled to these nodes.
-    #[cycle(compiled)]
-    fn same_items(
-        &self,
-        draft: u8,
-        left: usize,
-        value: &Json<'_>,
-        nodes: &[usize],
-        rest: Option<usize>,
-    ) -> bool
-        ensures { result ≡ (spec.each (inner (spec.compiled self.now draft left))
-            (spec.first_items draft (value_view value.now)) nodes.now
-            && spec.same_one (inner (spec.compiled self.now draft left))
-            (spec.later_items draft (value_view value.now)) rest) }
-    {
-        let first = if draft == 20 { "prefixItems" } else { "items" };
-        let is_old = draft != 20 && is_array(value, "items");
-        let later = if is_old { "additionalItems" } else { "items" };
-        self.same_each(draft, left, value.get(first), nodes)
-            && self.same_one(draft, left, value.get(later), rest)
-    }
-
     /// Returns whether the members of `properties` are compiled to the nodes with their names. If a name occurs twice,
     /// its last schema counts.
     #[cycle(compiled)]
@@ -700,13 +712,27 @@ impl Schema {
         let members = members_in(value);
         for (at, member) in members.iter().enumerate() {
             let node = nodes.get(member.0).copied();
-            if !self.same_one(draft, left, Some(&member.1), node)
-                && !has_member(&members[at + 1..], member.0)
-            {
+            if !self.same_member(draft, left, member, &members[at + 1..], node) {
                 return false;
             }
         }
         true
+    }
+
+    /// Returns whether the schema of a member is compiled to `node`, or one of the members `later` has the same name.
+    #[cycle(compiled)]
+    fn same_member(
+        &self,
+        draft: u8,
+        left: usize,
+        member: &(&str, Json<'_>),
+        later: &[(&str, Json<'_>)],
+        node: Option<usize>,
+    ) -> bool
+        ensures { result ≡ (spec.same_one (inner (spec.compiled self.now draft left)) (Some (value_view member.now.1)) node
+            || is_some (get_member member.now.0.now (members_view later.now))) }
+    {
+        self.same_one(draft, left, Some(&member.1), node) || has_member(later, member.0)
     }
 
     /// Returns whether the members of `patternProperties` are compiled to `entries`, in this order. A regular

@@ -23,11 +23,11 @@ decreases-is_one_around l = 8 * l.left + 5
 abbrev pub decreases-agrees : goal.decreases-agrees
 decreases-agrees l = 8 * l.left + 5
 
-abbrev pub decreases-same_items : goal.decreases-same_items
-decreases-same_items l = 8 * l.left + 4
-
 abbrev pub decreases-same_named : goal.decreases-same_named
 decreases-same_named l = 8 * l.left + 4
+
+abbrev pub decreases-same_member : goal.decreases-same_member
+decreases-same_member l = 8 * l.left + 3
 
 abbrev pub decreases-same_patterned : goal.decreases-same_patterned
 decreases-same_patterned l = 8 * l.left + 3
