@@ -1,3 +1,4 @@
+pub mod Compiles
 pub mod DateSteps
 pub mod Differ
 pub mod Expressions

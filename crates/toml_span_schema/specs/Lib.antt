@@ -1,6 +1,7 @@
 pub mod Applied
 pub mod Asserted
 pub mod Canonical
+pub mod Compiled
 pub mod Dates
 pub mod Formats
 pub mod Numbers

@@ -1,8 +1,11 @@
 //! Compiles a schema, and the schemas that it reaches by references and keywords. In this module, a *place* is a JSON
 //! pointer (`pointer`) in the document at the position `source` of `Sources::documents`. A *scope* is the position of a
 //! set of dynamic anchors in `Compiler::scopes`.
+ghost use Rattle.std.specs.Prelude.{IfOk};
+ghost use Rattle.toml_span_schema.specs.Compiled.{IsCompiled};
 
 use crate::canonical::LEVELS;
+use crate::compiled::ensure_compiled;
 use crate::cycles::{Longest, longest_chain};
 use crate::documents::Document;
 use crate::error::SchemaError;
@@ -133,7 +136,9 @@ pub(crate) fn compile(
     alloc: Global,
     root: Document<'_>,
     others: &[Document<'_>],
-) -> Result<Guide, SchemaError> {
+) -> Result<Guide, SchemaError>
+    ensures { IfOk result (λ guide. IsCompiled root.text.now guide.schema) }
+{
     let mut documents = Vec::new(alloc);
     documents.push(root)?;
     documents.extend_from_slice(others)?;
@@ -147,7 +152,9 @@ pub(crate) fn compile(
     let values = parsed(alloc, text.as_str(), &mut scratch)?;
     let made = compile_all(alloc, &values, documents.as_slice());
     drop(values);
-    made
+    let guide = made?;
+    ensure_compiled(alloc, root.text, &guide.schema)?;
+    Ok(guide)
 }
 
 /// Parses the text of a JSON array of documents. Fails with `TooLarge` if the array nests too deep.

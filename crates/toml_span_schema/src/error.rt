@@ -39,6 +39,8 @@ pub enum SchemaError {
     TooLarge {
         limit: &'static str,
     },
+    /// A bug: the compiled schema lacks a keyword or a subschema.
+    Internal,
 }
 
 /// Returns a JSON pointer as messages show it: unchanged, except that the empty pointer becomes `the root`.
@@ -62,6 +64,12 @@ impl SchemaError {
                 Ok(out)
             }
             SchemaError::TooLarge { limit } => String::from_str(alloc, *limit),
+            SchemaError::Internal => {
+                String::from_str(
+                    alloc,
+                    "internal error: the schema is not compiled completely; please report it",
+                )
+            }
         }
     }
 }

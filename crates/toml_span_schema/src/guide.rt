@@ -1,4 +1,6 @@
 //! A compiled schema with its notes for people.
+ghost use Rattle.std.specs.Prelude.{IfOk};
+ghost use Rattle.toml_span_schema.specs.Compiled.{IsCompiled};
 
 use crate::compile::compile;
 use crate::documents::Document;
@@ -25,7 +27,9 @@ impl Guide {
         alloc: Global,
         text: &str,
         others: &[Document<'_>],
-    ) -> Result<Guide, SchemaError> {
+    ) -> Result<Guide, SchemaError>
+        ensures { IfOk result (λ guide. IsCompiled text.now guide.schema) }
+    {
         let root = Document {
             address: "file:///schema.json",
             text,

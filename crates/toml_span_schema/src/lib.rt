@@ -25,6 +25,7 @@ mod applied;
 mod asserted;
 mod canonical;
 mod compile;
+mod compiled;
 mod cycles;
 mod dates;
 mod decimal;

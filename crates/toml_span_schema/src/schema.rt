@@ -22,7 +22,8 @@ pub struct Schema {
 }
 
 impl Schema {
-    ghost use Rattle.std.specs.Prelude.{◌≡◌};
+    ghost use Rattle.std.specs.Prelude.{◌≡◌, IfOk};
+    ghost use Rattle.toml_span_schema.specs.Compiled.{IsCompiled};
     ghost use Rattle.toml_span_schema.specs.Valid.{keywords};
 
     /// Compiles a schema from its JSON text. `others` are the documents that references in the schema may name; nothing
@@ -32,7 +33,9 @@ impl Schema {
         alloc: Global,
         text: &str,
         others: &[Document<'_>],
-    ) -> Result<Schema, SchemaError> {
+    ) -> Result<Schema, SchemaError>
+        ensures { IfOk result (λ schema. IsCompiled text.now schema) }
+    {
         let root = Document {
             address: "file:///schema.json",
             text,
