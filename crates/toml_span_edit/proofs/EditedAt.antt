@@ -1,10 +1,10 @@
 -- Edits at paths that are written as text.
-use Rattle.toml_span_lex.proofs.Common.{◌≡◌, ℕ, List, Result, Ok, Err, IfErr, IfOk, String, Global, string_bytes, map, inl, inr}
+use Rattle.toml_span_lex.proofs.Common.{◌≡◌, ℕ, List, Result, Ok, Err, IfErr, IfOk, String, Global, string_bytes, map, inr}
 use Rattle.std.specs.Borrow.{Bor}
 use Rattle.toml_span_read.specs.Again.{ReadsAsString}
 use Rattle.toml_span_lex.specs.declared.stop.Stop.{Stop}
 use Rattle.toml_span_lex.specs.declared.stop.Stop.TheVariants as stops
-use Rattle.toml_span_edit.specs.Drafts.{AreSegments, IsEditedAt, IsRefusedAfter, IsSetToString, IsStringRefused, IsUnreadPath}
+use Rattle.toml_span_edit.specs.Drafts.{AreSegments, IsEditedAt, IsRefusedAfter, IsSetToString, IsStringRefused}
 use Rattle.toml_span_edit.specs.Edited.{EditMade}
 use Rattle.toml_span_edit.specs.Refused.{IsRefusedAt}
 use Rattle.toml_span_edit.specs.declared.edits.Change.{Change}
@@ -31,13 +31,9 @@ refused count path change text e (Ok new) segments same is = tt
 refused count path change text e (Err (stops.Memory x)) segments same is = tt
 refused count path change text e (Err (stops.Fault x)) segments same (at, edit) = (at, inr (e, segments, same, edit))
 
-pub unread : (count : ℕ) (path : List ℕ) (change : Change) (text : List ℕ) (stop : Stop EditError) →
-    IsUnreadPath count path stop → IsRefusedAfter count path change text stop
-unread count path change text (stops.Memory x) is = tt
-unread count path change text (stops.Fault x) (at, reason) = (at, inl reason)
-
-pub string_refused : (count : ℕ) (path string text : List ℕ) (value : Bor (List ℕ)) (stop : Stop EditError) →
-    ReadsAsString string value.now → IsRefusedAfter count path (changes.Set value) text stop →
-    IsStringRefused count path string text stop
-string_refused count path string text value (stops.Memory x) reads is = tt
-string_refused count path string text value (stops.Fault x) reads is = (value, reads, is)
+pub string_refused : {T : Type 0} (count : ℕ) (path string text : List ℕ) (value : Bor (List ℕ)) (r : Result T (Stop EditError)) →
+    ReadsAsString string value.now → IfErr r (IsRefusedAfter count path (changes.Set value) text) →
+    IfErr r (IsStringRefused count path string text)
+string_refused count path string text value (Ok new) reads is = tt
+string_refused count path string text value (Err (stops.Memory x)) reads is = tt
+string_refused count path string text value (Err (stops.Fault x)) reads is = (value, reads, is)
