@@ -5,7 +5,7 @@ use Rattle.toml_span_check.specs.Schemas.{Says}
 use Rattle.toml_span_check.specs.declared.answer.Task.{Task}
 use Rattle.toml_span_check.specs.declared.answer.Task.TheVariants.{Check, Show}
 use Rattle.toml_span_check.specs.declared.formats.Format.{Format}
-use Rattle.toml_span_check.specs.Run.{Asked, Reading, Gathered, LogsSearch, FindsAll, no_name, one_more, Logs, Shows, Collects, CollectsFirst, named_task, nothing, answered, unread, none_wrong, together, whole}
+use Rattle.toml_span_check.specs.Run.{Asked, Reading, Gathered, LogsSearch, FindsAll, no_name, one_more, Logs, Shows, Collects, CollectsFirst, IsOutput, named_task, nothing, answered, unread, none_wrong, summary, together, whole}
 use Rattle.toml_span_check.specs.code.Collected.{AddsFile, BegunOne, Holds, CollectsAll, CollectsFiles, CollectsOne, TextsOf}
 use Rattle.toml_span_check.specs.declared.run.Tally.{Tally}
 use Rattle.toml_span_check.specs.declared.run.Collected.{Collected}
@@ -196,14 +196,47 @@ stops-all says format task pointer excludes names files watched old mid new a b 
 stops-all says format task pointer excludes names files watched old mid new a b failed Memory found (good, inr (shows, (last, first))) =
     (good, inr (shows-named task (length files) shows, (last, record { aloud = refl; files = files; mid = mid; found = found; prints = first })))
 
-pub stops-collecting : (says : Says) (format : Format) (task : Task) (pointer : List ℕ) (excludes names files : List (List ℕ)) (watched : Bool) (old mid new : Option Asked) (a b : Option (List ℕ)) (failed : Bool) (e : Unwritten) (r : Result Collected Unwritten) →
-    FindsAll excludes names old mid files → CollectsFiles says format (named_task task (length files)) pointer files (Err e) mid new a b failed → IsErrAnd r (λ y. y ≡ e) → CollectsAll says format task pointer excludes names watched r old new a b failed
-stops-collecting says format task pointer excludes names files watched old mid new a b failed e r found h err = grind (arith, nat_tests, common_steps, stops-all says format task pointer excludes names files watched old mid new a b failed e found h)
+pub stops-collecting : (says : Says) (format : Format) (task asked : Task) (pointer : List ℕ) (excludes names files read : List (List ℕ)) (watched : Bool) (old mid new : Option Asked) (a b : Option (List ℕ)) (failed : Bool) (e : Unwritten) (r : Result Collected Unwritten) →
+    asked ≡ named_task task (length files) → read ≡ files → FindsAll excludes names old mid files → CollectsFiles says format asked pointer read (Err e) mid new a b failed → IsErrAnd r (λ y. y ≡ e) → CollectsAll says format task pointer excludes names watched r old new a b failed
+stops-collecting says format task asked pointer excludes names files read watched old mid new a b failed e r is same found h err =
+    let all = subst (λ (fs : List (List ℕ)). CollectsFiles says format asked pointer fs (Err e) mid new a b failed) same h in
+    let named = subst (λ (t : Task). CollectsFiles says format t pointer files (Err e) mid new a b failed) is all in
+    grind (arith, nat_tests, common_steps, stops-all says format task pointer excludes names files watched old mid new a b failed e found named)
 
 -- memory runs out after the files
-pub stops-counting : (says : Says) (format : Format) (task : Task) (pointer : List ℕ) (excludes names files : List (List ℕ)) (watched : Bool) (old mid new : Option Asked) (a b : Option (List ℕ)) (failed : Bool) (t : Collected) (r : Result Collected Unwritten) →
-    FindsAll excludes names old mid files → CollectsFiles says format (named_task task (length files)) pointer files (Ok t) mid new a b failed → IsErrAnd r (λ y. y ≡ Memory) → CollectsAll says format task pointer excludes names watched r old new a b failed
-stops-counting says format task pointer excludes names files watched old mid new a b failed t r found stdout err =
+pub stops-counting : (says : Says) (format : Format) (task asked : Task) (pointer : List ℕ) (excludes names files : List (List ℕ)) (watched : Bool) (old mid new : Option Asked) (a b : Option (List ℕ)) (failed : Bool) (t : Collected) (r : Result Collected Unwritten) →
+    asked ≡ named_task task (length files) → FindsAll excludes names old mid files → CollectsFiles says format asked pointer files (Ok t) mid new a b failed → IsErrAnd r (λ y. y ≡ Memory) → CollectsAll says format task pointer excludes names watched r old new a b failed
+stops-counting says format task asked pointer excludes names files watched old mid new a b failed t r is found h err =
+    let stdout = subst (λ (k : Task). CollectsFiles says format k pointer files (Ok t) mid new a b failed) is h in
     let text : TextsOf = (t.held.items, string_bytes t.errors, t.status, t.wrong) in
     let first = first-upto says format (named_task task (length files)) pointer files [] files mid new a b text (stdout.1, stdout.2) (sym (append-nil files)) in
     grind (arith, nat_tests, common_steps, stops-all says format task pointer excludes names files watched old mid new a b failed Memory found (stdout.0, first))
+
+-- all files have been looked at
+pub collects-all : (says : Says) (format : Format) (task asked : Task) (pointer : List ℕ) (excludes names files : List (List ℕ)) (watched : Bool) (old mid new : Option Asked) (a b : Option (List ℕ)) (failed : Bool) (t : Collected) (errors kept : List ℕ) →
+    asked ≡ named_task task (length files) → FindsAll excludes names old mid files → CollectsFiles says format asked pointer files (Ok t) mid new a b failed →
+    kept ≡ whole format task t.held.items → errors ≡ string_bytes t.errors ++ summary format task watched (length files) t.wrong →
+    (failed ≡ false) × ((b ≡ a) ⊎ Shows task) × ((out : List ℕ) × IsOutput says format task pointer excludes names watched false old new out errors t.status × HoldsRest a b out kept)
+collects-all says format task asked pointer excludes names files watched old mid new a b failed t errors kept is found h held_is errors_are =
+    let k = length files in
+    let stdout = subst (λ (u : Task). CollectsFiles says format u pointer files (Ok t) mid new a b failed) is h in
+    let all = stdout.2.0 in
+    let rest = whole-held format (named_task task k) a b all t.held.items kept stdout.2.2 (held_is ∙ sym (whole-named format task k t.held.items)) in (
+      stdout.0,
+      or-shows (b ≡ a) task k stdout.1,
+      (
+        whole format task all,
+        record {
+          files = files;
+          mid = mid;
+          found = found;
+          all = all;
+          complaints = string_bytes t.errors;
+          wrong = t.wrong;
+          prints = stdout.2.1;
+          shown = refl;
+          stderr = errors_are;
+        },
+        subst (λ (text : List ℕ). HoldsRest a b text kept) (whole-named format task k all) rest,
+      ),
+    )

@@ -1,5 +1,5 @@
 -- How runs end.
-use Rattle.toml_span_lex.proofs.Common.{◌≡◌, ◌∙◌, ℕ, Bool, true, false, List, [], Option, Err, refl, sym, subst, inr, arith, Appends-trans, Appends, nat_tests, common_steps}
+use Rattle.toml_span_lex.proofs.Common.{◌≡◌, ◌∙◌, ℕ, Bool, true, false, List, [], length, Option, Err, refl, sym, subst, inr, arith, Appends-trans, Appends, nat_tests, common_steps}
 use Rattle.std.proofs.lemmas.List.{append-nil}
 use Rattle.toml_span_lines.specs.Held.{HoldsRest}
 use Rattle.toml_span_lines.specs.Run.{HasWritten}

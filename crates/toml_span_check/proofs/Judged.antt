@@ -29,7 +29,7 @@ pub shows-text : (says : Says) (format : Format) (task : Task) (pointer name tex
 shows-text says format task pointer name text document is same tree = (
   is,
   λ answer found_is. subst (λ (t : Task). IsRead says format t pointer name text answer) (sym is)
-      (inl (document.root, tree, (found_is.0, found_is.1.0, found_is.1.1 ∙ ap (λ (x : List ℕ). found format document.printing pointer name x found_is.0 (view document.root)) same))),
+      (inl (document.root, tree, (found_is.0, found_is.1, found_is.2 ∙ ap (λ (x : List ℕ). found format document.printing pointer name x found_is.0 (view document.root)) same))),
 )
 
 -- an answer, with a verdict that has its counts and its text for standard error

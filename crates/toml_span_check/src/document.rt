@@ -122,10 +122,10 @@ pub(crate) fn show<W: Sink>(
 ) -> Result<Verdict, Unwritten>
     requires { W.failed writer.old ≡ false }
     ensures verdict { IfOk result (λ verdict. told verdict
-        ≡ (let answer = found question.format document.now.printing question.entry.pointer.now name.now
+        ≡ (let answer = found question.entry.format document.now.printing question.entry.pointer.now name.now
         document.now.text.now (names_of segments.entry) (view document.now.root) in (answer.0, answer.2))) }
     ensures out { Streams result (W.contents writer.old) (W.contents writer.new) (W.failed writer.new)
-        (held.old.items ++ (found question.format document.now.printing question.entry.pointer.now name.now
+        (held.old.items ++ (found question.entry.format document.now.printing question.entry.pointer.now name.now
         document.now.text.now (names_of segments.entry) (view document.now.root)).1) held.new.items }
 {
     let Document {

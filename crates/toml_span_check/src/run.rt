@@ -95,7 +95,7 @@ fn collect_bytes<S: Schemas, O: Sink>(
     out: &mut O,
 ) -> Result<Verdict, Unwritten>
     requires { O.failed out.old ≡ false }
-    ensures { CollectsBytes S.says question.format question.task question.entry.pointer.now name.now bytes.now result
+    ensures { CollectsBytes S.says question.entry.format question.entry.task question.entry.pointer.now name.now bytes.now result
         (O.contents out.old) (O.contents out.new) (O.failed out.new) held.old.items held.new.items }
 {
     match judge(alloc, question.format, question.task, name, bytes, schemas)? {
@@ -104,12 +104,13 @@ fn collect_bytes<S: Schemas, O: Sink>(
             Ok(verdict)
         }
         Judged::Document(document) => {
-            let segments = segments_of(alloc, question.pointer)?;
-            let segments = match &segments {
-                Some(segments) => Some(segments.as_slice()),
-                None => None,
-            };
-            show(alloc, question, name, &document, segments, held, out)
+            match segments_of(alloc, question.pointer)? {
+                Some(segments) => {
+                    let segments = Some(segments.as_slice());
+                    show(alloc, question, name, &document, segments, held, out)
+                }
+                None => show(alloc, question, name, &document, None, held, out),
+            }
         }
     }
 }
@@ -127,7 +128,7 @@ fn collect_one<S: Schemas, O: Sink>(
     out: &mut O,
 ) -> Result<(), Unwritten>
     requires { O.failed out.old ≡ false }
-    ensures { CollectsOne S.says question.format question.task question.entry.pointer.now name.now
+    ensures { CollectsOne S.says question.entry.format question.entry.task question.entry.pointer.now name.now
         (spec.read_of reading) result
         (O.contents out.old) (O.contents out.new) (O.failed out.new)
         (collected.old.held.items, string_bytes collected.old.errors, collected.old.status, collected.old.wrong)
@@ -184,7 +185,7 @@ fn collect<I: Inputs, S: Schemas, O: Sink>(
     out: &mut O,
 ) -> Result<Collected, Unwritten>
     requires { O.failed out.old ≡ false }
-    ensures { CollectsFiles S.says question.format question.task question.entry.pointer.now
+    ensures { CollectsFiles S.says question.entry.format question.entry.task question.entry.pointer.now
         (map (λ name. string_bytes name) names.now) result
         (I.log inputs.old) (I.log inputs.new) (O.contents out.old) (O.contents out.new) (O.failed out.new) }
 {

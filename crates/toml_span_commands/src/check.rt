@@ -83,7 +83,8 @@ impl Fixes {
         let changes = unified(alloc, shown.as_str(), text, new)?;
         self.changes.push_str(changes.as_str())?;
         self.status = self.status.max(1);
-        self.texts.push(Some(Vec::from_slice(alloc, new.as_bytes())?))?;
+        self.texts
+            .push(Some(Vec::from_slice(alloc, new.as_bytes())?))?;
         Ok(())
     }
 

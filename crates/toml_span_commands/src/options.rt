@@ -285,23 +285,25 @@ fn value_of<'w>(matches: &ArgMatches<'w>, name: &str) -> &'w str
     matches.get_str(name).unwrap_or("")
 }
 
-/// Returns the names of files and the path among the last arguments of `get`: the path is the last one. Without
-/// arguments, as for `check`, the path is empty.
-fn last_of<'m, 'w>(arguments: &'m [&'w str]) -> (&'m [&'w str], &'w str)
-    ensures names { map (λ name. name.now) result.0.now ≡ spec.but_last (map (λ word. word.now) arguments.now) }
-    ensures path { result.1.now ≡ spec.last (map (λ word. word.now) arguments.now) }
+/// Returns the last of these arguments, or an empty text if there are none.
+fn last<'w>(arguments: &[&'w str]) -> &'w str
+    ensures { result.now ≡ spec.last (map (λ word. word.now) arguments.now) }
 {
-    match arguments.split_last() {
-        Some((path, names)) => (names, *path),
-        None => (&[], ""),
-    }
+    arguments.last().copied().unwrap_or("")
+}
+
+/// Returns these arguments without the last one.
+fn but_last<'m, 'w>(arguments: &'m [&'w str]) -> &'m [&'w str]
+    ensures { map (λ word. word.now) result.now ≡ spec.but_last (map (λ word. word.now) arguments.now) }
+{
+    &arguments[..arguments.len().saturating_sub(1)]
 }
 
 /// Returns the path of `get`, or an empty text for `check`.
 fn path_of<'w>(matches: &ArgMatches<'w>) -> &'w str
     ensures { result.now ≡ spec.path_of (rows_of (found_of matches.now)) }
 {
-    last_of(matches.get_strs("PATH").unwrap_or(&[])).1
+    last(matches.get_strs("PATH").unwrap_or(&[]))
 }
 
 /// Returns the names of files.
@@ -310,7 +312,7 @@ fn names_of<'w>(alloc: Global, matches: &ArgMatches<'w>) -> Result<Vec<&'w str>,
         ≡ spec.names_of (rows_of (found_of matches.now))) }
 {
     let mut names = Vec::from_slice(alloc, matches.get_strs("FILE").unwrap_or(&[]))?;
-    names.extend_from_slice(last_of(matches.get_strs("PATH").unwrap_or(&[])).0)?;
+    names.extend_from_slice(but_last(matches.get_strs("PATH").unwrap_or(&[])))?;
     Ok(names)
 }
 
@@ -546,7 +548,8 @@ pub(crate) fn options_of<'w>(
         spec.Asks query (map (λ w. string_bytes w) words.entry.now) screen o.request o.fixing) }
     ensures denies { IfOk result (λ o. o.denies_warnings
         ≡ spec.is_given (spec.options query (map (λ w. string_bytes w) words.entry.now)) (codes "deny-warnings")) }
-    ensures fails { FailsBy (spec.faults query (map (λ w. string_bytes w) words.entry.now) (spec.coloured query screen)) result }
+    ensures fails { FailsBy
+        (spec.faults query (map (λ w. string_bytes w) words.entry.now) (spec.coloured query screen)) result }
 {
     let mut command = command(alloc, query)?;
     let matches = command.try_get_matches_from_mut(words)?;

@@ -11,6 +11,6 @@ streams-nothing (Ok done) a failed text kept good err = absurd err
 streams-nothing (Err Memory) a failed text kept good err = (good, (0, omega arith, Appends-nil a))
 streams-nothing (Err Failed) a failed text kept good err = absurd (cc err)
 
-pub returns-in_err-append-in-None-clause-out : goal.returns-in_err-append-in-None-clause-out
-returns-in_err-append-in-None-clause-out g c =
-    streams-nothing c.from_residual-in_err-append-in-None.result _ _ _ _ c.requires c.from_residual-in_err-append-in-None.ensures.1
+pub returns-in_err-formatted_report-in-None-clause-out : goal.returns-in_err-formatted_report-in-None-clause-out
+returns-in_err-formatted_report-in-None-clause-out g c =
+    streams-nothing c.from_residual-in_err-formatted_report-in-None.result _ _ _ _ c.requires c.from_residual-in_err-formatted_report-in-None.ensures.1

@@ -10,4 +10,5 @@ returns c =
     let two = added _ _ _ _ _ c.in_ok-arg-2.ensures c.flag-2.ensures.own one c.flag-2.ensures.rule in
     let three = added _ _ _ _ _ c.in_ok-arg-3.ensures c.flag-3.ensures.own two c.flag-3.ensures.rule in
     let four = added _ _ _ _ _ c.in_ok-arg-4.ensures c.flag-4.ensures.own three c.flag-4.ensures.rule in
-    IfOk-weaker c.arg-5.result _ _ (λ r adds. added _ r _ _ _ adds c.flag-5.ensures.own four c.flag-5.ensures.rule) c.arg-5.ensures
+    let five = added _ _ _ _ _ c.in_ok-arg-5.ensures c.flag-5.ensures.own four c.flag-5.ensures.rule in
+    IfOk-weaker c.arg-6.result _ _ (λ r adds. added _ r _ _ _ adds c.flag-6.ensures.own five c.flag-6.ensures.rule) c.arg-6.ensures

@@ -1,10 +1,13 @@
-use Rattle.toml_span_lex.proofs.Common.{◌≡◌, ◌∙◌, ap, refl, sym, subst, inl, inr, ℕ, Bool, true, List, [], ◌∷◌, map, Err, Option, err_from_is_err_and, unwrap_or, arith, nat_tests, common_steps}
+use Rattle.toml_span_lex.proofs.Common.{◌≡◌, ◌∙◌, ap, refl, sym, subst, inl, inr, ℕ, Bool, true, List, [], ◌∷◌, map, Result, Err, Option, err_from_is_err_and, unwrap_or, arith, nat_tests, common_steps}
 use Rattle.clap.specs.Kinds.{HasKind, Kinds, or_else}
 use Rattle.clap.specs.Values as clap
-use Rattle.clap.specs.Words.{App, HasMatchesOf, all_of, fault_of, found_of, is_simple, is_simple_and_free, matches_of, rows_of}
+use Rattle.clap.specs.Words.{App, HasMatchesOf, Row, all_of, fault_of, found_of, is_simple, is_simple_and_free, matches_of, rows_of}
 use Rattle.clap.specs.declared.error.Error.{Error}
 use Rattle.clap.specs.declared.parser.matches.ArgMatches.{ArgMatches}
-use Rattle.toml_span_commands.specs.Options.{asked, check, common, configured, faults, fixing, fixing_of, forms, get, is_given, kind_of, options, program, refusals, schemas, value_of}
+use Rattle.toml_span_check.specs.declared.answer.Task.{Task}
+use Rattle.toml_span_check.specs.declared.formats.Format.{Format}
+use Rattle.toml_span_commands.specs.Options.{asked, check, coloured, common, configured, faults, fixing, fixing_of, forms, get, is_given, kind_of, names_of, options, path_of, program, refusals, schemas}
+use Rattle.toml_span_commands.specs.declared.colours.Screen.{Screen}
 use Rattle.toml_span_commands.specs.declared.options.Mistake.{Mistake}
 use Rattle.toml_span_commands.specs.declared.options.Query.{Query}
 use Rattle.toml_span_commands.specs.declared.options.Query.TheVariants as queries
@@ -46,6 +49,13 @@ mistaken : (query : Query) (words : List (List ℕ)) (t : Bool) (m : Mistake) (e
     asked query (options query words) t ≡ Err m → clap.kind_of e ≡ kind_of m → HasKind (faults query words t) e
 mistaken query words t m e fine is kind = rw (fine, is) (inr (inl kind))
 
+-- what the arguments mean, by their rows
+meant : (query : Query) (screen : Screen) (is_coloured : Bool) (rs : List Row) (words : List (List ℕ)) (result other : Result (Format × Task) Mistake) →
+    rs ≡ options query words → is_coloured ≡ coloured query screen → result ≡ asked query rs is_coloured → result ≡ other →
+    asked query (options query words) (coloured query screen) ≡ other
+meant query screen is_coloured rs words result other these same is found =
+    ap (λ r. asked query r (coloured query screen)) (sym these) ∙ ap (asked query rs) (sym same) ∙ sym is ∙ found
+
 pub returns-in_err-command-clause-fails : goal.returns-in_err-command-clause-fails
 returns-in_err-command-clause-fails c = grind (arith, nat_tests, common_steps)
 
@@ -58,30 +68,32 @@ pub returns-in-Ok-clause-ok : goal.returns-in-Ok-clause-ok
 returns-in-Ok-clause-ok c =
     let these = rows _ _ _ c.in_ok-matches.matches c.in_ok-command.ensures c.in_ok-matches.ensures.ok.2 in
     record {
-      what = ap (λ rs. asked c.args.query rs c.args.screen.is_coloured) (sym these) ∙ sym c.asked.ensures ∙ c.in-Ok.is;
-      place = c.value_of.ensures ∙ ap (λ rs. value_of rs (80 ∷ 65 ∷ 84 ∷ 72 ∷ [])) these;
+      what = meant _ _ _ _ _ _ _ these c.coloured.ensures c.asked.ensures c.in-Ok.is;
+      place = c.path_of.ensures ∙ ap path_of these;
       left_out =
           ap (map (λ name. name.now)) (c.in_ok-from_slice-in-Ok.ensures.items ∙ ap (λ s. s.now) c.unwrap_or.ensures)
           ∙ or-none c.get_strs.result _ refl
           ∙ ap (λ (o : Option (List (List ℕ))). unwrap_or o []) (c.get_strs.ensures ∙ all-row c.in_ok-matches.matches _ ∙ ap (all_of (101 ∷ 120 ∷ 99 ∷ 108 ∷ 117 ∷ 100 ∷ 101 ∷ [])) these);
-      files =
-          ap (map (λ name. name.now)) (c.in_ok-from_slice-in-Ok-2.ensures.items ∙ ap (λ s. s.now) c.unwrap_or-in-Ok.ensures)
-          ∙ or-none c.get_strs-in-Ok.result _ refl
-          ∙ ap (λ (o : Option (List (List ℕ))). unwrap_or o []) (c.get_strs-in-Ok.ensures ∙ all-row c.in_ok-matches.matches _ ∙ ap (all_of (70 ∷ 73 ∷ 76 ∷ 69 ∷ [])) these);
+      files = c.in_ok-names_of-in-Ok.ensures ∙ ap names_of these;
       watched = refl;
       quiet = c.is_given.ensures ∙ ap (λ rs. is_given rs (113 ∷ 117 ∷ 105 ∷ 101 ∷ 116 ∷ [])) these;
       fixes = c.fixing_of.ensures ∙ ap fixing_of these;
     }
 
+pub returns-in-Ok-clause-denies : goal.returns-in-Ok-clause-denies
+returns-in-Ok-clause-denies c =
+    let these = rows _ _ _ c.in_ok-matches.matches c.in_ok-command.ensures c.in_ok-matches.ensures.ok.2 in
+    c.is_given-in-Ok-4.ensures ∙ ap (λ rs. is_given rs (100 ∷ 101 ∷ 110 ∷ 121 ∷ 45 ∷ 119 ∷ 97 ∷ 114 ∷ 110 ∷ 105 ∷ 110 ∷ 103 ∷ 115 ∷ [])) these
+
 pub returns-in-Ok-clause-fails : goal.returns-in-Ok-clause-fails
 returns-in-Ok-clause-fails c =
     let these = rows _ _ _ c.in_ok-matches.matches c.in_ok-command.ensures c.in_ok-matches.ensures.ok.2 in
     let fine = taken _ _ _ c.in_ok-command.ensures c.in_ok-matches.ensures.kinds in
-    rw (fine, ap (λ rs. asked c.args.query rs c.args.screen.is_coloured) (sym these) ∙ sym c.asked.ensures ∙ c.in-Ok.is) refl
+    rw (fine, meant _ _ _ _ _ _ _ these c.coloured.ensures c.asked.ensures c.in-Ok.is) refl
 
 pub returns-clause-fails : goal.returns-clause-fails
 returns-clause-fails c =
     let these = rows _ _ _ c.in_ok-matches.matches c.in_ok-command.ensures c.in_ok-matches.ensures.ok.2 in
     let fine = taken _ _ _ c.in_ok-command.ensures c.in_ok-matches.ensures.kinds in
-    mistaken _ _ _ c.in-Err.mistake c.in_ok-error-in-Err.field-0 fine (ap (λ rs. asked c.args.query rs c.args.screen.is_coloured) (sym these) ∙ sym c.asked.ensures ∙ c.in-Err.is)
+    mistaken _ _ _ c.in-Err.mistake c.in_ok-error-in-Err.field-0 fine (meant _ _ _ _ _ _ _ these c.coloured.ensures c.asked.ensures c.in-Err.is)
     (c.in_ok-error-in-Err.ensures.kind ∙ c.kind_of.ensures)
