@@ -1,5 +1,5 @@
 -- Where texts with spaces may be cut.
-use Rattle.toml_span_lex.proofs.Common.{◌≡◌, ◌<◌, ◌≤◌, ◌≢◌, ◌∙◌, ℕ, ◌+◌, ◌-◌, max, List, [], ◌∷◌, ◌++◌, length, take, drop, get_or, replicate, ap, sym, subst, refl, arith, inl, inr, cases_lt}
+use Rattle.toml_span_lex.proofs.Common.{◌≡◌, ◌<◌, ◌≤◌, ◌∙◌, ℕ, ◌-◌, max, List, [], ◌∷◌, ◌++◌, length, take, drop, get_or, replicate, ap, sym, subst, refl, arith, inl, inr, cases_lt}
 use Prim.Native.Nat.{suc, zero}
 use Rattle.std.specs.List.{repeat, slice_get}
 use Rattle.std.specs.Str.{IsCharBoundary, IsUtf8}

@@ -1,5 +1,5 @@
 -- The entries of a table in order, as plain data.
-use Rattle.toml_span_lex.proofs.Common.{◌≡◌, ℕ, ◌+◌, Bool, true, false, List, [], ◌∷◌, map, refl, sym, ap, ◌∙◌, cow_str_bytes, arith, nat_tests, common_steps}
+use Rattle.toml_span_lex.proofs.Common.{◌≡◌, ℕ, Bool, true, false, List, [], ◌∷◌, map, refl, sym, ap, ◌∙◌, cow_str_bytes, arith, nat_tests, common_steps}
 use Rattle.toml_span_lex.specs.declared.span.Span.{Span}
 use Rattle.toml_span_tree.specs.Node.{Node, Members, no_members, member}
 use Rattle.toml_span_tree.specs.Value.{members_of, members_view, view}

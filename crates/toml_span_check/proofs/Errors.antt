@@ -16,7 +16,7 @@ use Rattle.toml_span_syntax.specs.declared.pieces.Piece.{Piece}
 use Rattle.toml_span_syntax.specs.declared.statements.Statement.{Statement}
 use Rattle.toml_span_check.specs.Fixable.{IsSettled}
 use Rattle.toml_span_check.specs.Statements.{extent_of}
-use Rattle.toml_span_check.specs.Every.{Adds, AddsError, Checks, Finds, IsRead, Progress, Source, all, clash, extent, is_clash, many, most, none, nothing, reading, rest, too_many, valid}
+use Rattle.toml_span_check.specs.Every.{Adds, AddsError, Checks, Finds, IsRead, Progress, Source, all, clash, extent, is_clash, many, most, none, reading, rest, too_many, valid}
 use Rattle.toml_span_check.specs.code.Every.{IsErrorOf, IsNextError}
 use Rattle.toml_span_check.specs.declared.every.ErrorAt.{ErrorAt}
 use Rattle.toml_span_check.specs.declared.statements.Extent.{Extent}

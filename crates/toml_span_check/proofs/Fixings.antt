@@ -1,5 +1,5 @@
 -- One more fix, and one more statement.
-use Rattle.toml_span_lex.proofs.Common.{◌≡◌, ◌<◌, ℕ, List, [], ◌∷◌, ◌++◌, length, drop, get_or, ◌+◌, Option, Some, None, Result, Ok, Err, IfOk, AllocError, Global, String, string_bytes, option_map, subst, sym, refl, inl, inr, Bool, true, false}
+use Rattle.toml_span_lex.proofs.Common.{◌≡◌, ◌<◌, ℕ, List, length, drop, get_or, ◌+◌, Option, Some, None, Result, Ok, Err, IfOk, AllocError, Global, String, string_bytes, option_map, subst, sym, refl, inl, inr, Bool, true, false}
 use Rattle.toml_span_lex.specs.declared.stop.Stop.TheVariants as stops
 use Rattle.toml_span_read.specs.Data.{depth_limit}
 use Rattle.toml_span_tree.specs.declared.error.Error.{Error}

@@ -1,22 +1,20 @@
 -- The report on one file.
-use Rattle.toml_span_lex.proofs.Common.{◌≡◌, ◌+◌, ◌++◌, ℕ, Bool, max, List, [], Option, Some, None, string_bytes, Vec, Result, Ok, Err, IfOk, IsErrAnd, refl, sym, ap, ◌∙◌, subst, inl, inr, Global, AllocError, arith, nat_tests, common_steps}
+use Rattle.toml_span_lex.proofs.Common.{◌≡◌, ◌++◌, ℕ, Bool, max, List, Option, string_bytes, Result, Ok, Err, IfOk, IsErrAnd, refl, sym, ap, ◌∙◌, subst, inl, inr, arith, nat_tests, common_steps}
 use Rattle.toml_span_lines.specs.Held.{Streams}
 use Rattle.toml_span_lines.specs.declared.held.Unwritten.{Unwritten}
 use Rattle.toml_span_lines.specs.declared.held.Unwritten.TheVariants.{Failed, Memory}
 use Rattle.toml_span_lines.proofs.Fronts.{front-written}
 use Rattle.toml_span.specs.Parsing.{IsParseResult}
 use Rattle.toml_span_read.specs.Data.{depth_limit}
-use Rattle.toml_span_tree.specs.declared.value.Value.{Value}
 use Rattle.toml_span_tree.specs.Value.{view}
-use Rattle.toml_span_check.specs.Answer.{Answer, IsAnswer, IsRead, IsNames, found}
-use Rattle.toml_span_check.specs.code.Judged.{IsFound, JudgesText, told}
+use Rattle.toml_span_check.specs.Answer.{Answer, IsAnswer, IsRead, found}
+use Rattle.toml_span_check.specs.code.Judged.{JudgesText, told}
 use Rattle.toml_span_check.specs.declared.answer.Document.{Document as ToPrint}
 use Rattle.toml_span_check.specs.declared.answer.Judged.TheVariants.{Document}
 use Rattle.toml_span_check.specs.Run.{counted, status_of, Shows}
 use Rattle.toml_span_check.specs.code.Collected.{Begun, BegunOne, CollectsBytes, CollectsOne, TextsOf}
 use Rattle.toml_span_check.specs.declared.answer.Printing.{Printing}
 use Rattle.toml_span_check.specs.declared.answer.Verdict.{Verdict}
-use Rattle.toml_span_check.specs.declared.fixable.Count.{Count}
 use Rattle.toml_span_check.specs.Schemas.{Says}
 use Rattle.toml_span_check.specs.declared.answer.Task.{Task}
 use Rattle.toml_span_check.specs.declared.answer.Task.TheVariants.{Show}

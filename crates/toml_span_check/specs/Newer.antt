@@ -1,5 +1,5 @@
 -- The reports on newer forms, which are syntax that TOML 1.0 lacks, and the replacements of these reports.
-use Rattle.std.specs.Prelude.{◌≡◌, ◌⊎◌, ℕ, ◌+◌, ◌-◌, min, Bool, true, false, ◌==◌, ◌||◌, List, [], ◌++◌, map, drop, length, codes}
+use Rattle.std.specs.Prelude.{◌≡◌, ◌⊎◌, ℕ, ◌+◌, ◌-◌, min, Bool, true, false, ◌||◌, List, [], ◌++◌, map, drop, length, codes}
 use Rattle.std.specs.Prelude.{encode_utf8, slice_index, if◌then◌else◌, None, Ok, Err}
 use Rattle.std.specs.List.{flat_map}
 use Rattle.std.specs.Str.{bytes_eq}

@@ -1,5 +1,5 @@
 -- What a fix must keep.
-use Rattle.std.specs.Prelude.{◌≡◌, ℕ, ◌+◌, ◌-◌, Bool, true, false, ◌&&◌, ◌||◌, ◌==◌, List, [], ◌∷◌, map, length}
+use Rattle.std.specs.Prelude.{ℕ, ◌+◌, ◌-◌, Bool, true, false, ◌&&◌, ◌||◌, ◌==◌, List, [], ◌∷◌, map, length}
 use Rattle.std.specs.Prelude.{Option, Some, None, if◌then◌else◌, min, nat_le, not, position, slice_get, slice_index}
 use Rattle.std.specs.Prelude.{drop, is_some, unwrap_or}
 use Rattle.std.specs.List.{list_all}

@@ -62,7 +62,8 @@ fn push_step(
 
 /// Returns the names of the keys of a table.
 fn names_of<'v>(alloc: Global, table: &'v Table<'_>) -> Result<Vec<&'v str>, AllocError>
-    ensures { IfOk result (λ names. map (λ name. name.now) names.items ≡ spec.names_of (members_view table.now.entries)) }
+    ensures { IfOk result (λ names. map (λ name. name.now) names.items
+        ≡ spec.names_of (members_view table.now.entries)) }
 {
     let mut names = Vec::with_capacity(alloc, table.len())?;
     for (key, _value) in table.iter() {

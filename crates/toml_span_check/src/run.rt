@@ -95,8 +95,8 @@ fn collect_bytes<S: Schemas, O: Sink>(
     out: &mut O,
 ) -> Result<Verdict, Unwritten>
     requires { O.failed out.old ≡ false }
-    ensures { CollectsBytes S.says question.entry.format question.entry.task question.entry.pointer.now name.now bytes.now result
-        (O.contents out.old) (O.contents out.new) (O.failed out.new) held.old.items held.new.items }
+    ensures { CollectsBytes S.says question.entry.format question.entry.task question.entry.pointer.now name.now
+        bytes.now result (O.contents out.old) (O.contents out.new) (O.failed out.new) held.old.items held.new.items }
 {
     match judge(alloc, question.format, question.task, name, bytes, schemas)? {
         Judged::Text(verdict, text) => {

@@ -1,5 +1,4 @@
-use Rattle.toml_span_lex.proofs.Common.{nat_tests, common_steps, ◌≡◌, ◌≤◌, ◌<◌, ℕ, List, [], Result, Ok, Err, IfOk, IsUtf8, length, ap, subst, sym, arith, AllocError}
-use Rattle.std.specs.Prelude.{string_bytes}
+use Rattle.toml_span_lex.proofs.Common.{nat_tests, common_steps, ◌≡◌, ◌≤◌, ◌<◌, ℕ, List, Result, Ok, Err, IfOk, IsUtf8, length, subst, sym, arith, AllocError}
 use Rattle.std.specs.Str.{IsValidUpTo}
 use Rattle.toml_span_check.specs.declared.answer.Judged.{Judged}
 use Rattle.toml_span_check.specs.declared.answer.Judged.TheVariants.{Text, Document}
@@ -7,9 +6,7 @@ use Rattle.toml_span_check.specs.declared.answer.Task.{Task}
 use Rattle.toml_span_check.specs.declared.formats.Format.{Format}
 use Rattle.toml_span_lines.specs.Run.{bound}
 use Rattle.toml_span_check.specs.Answer.{Answer, too_long, not_utf8, IsRead, IsAnswer}
-use Rattle.toml_span_check.specs.Fixable.{one_error}
 use Rattle.toml_span_check.specs.Schemas.{Says}
-use Rattle.toml_span_check.specs.declared.fixable.Count.{Count}
 use Rattle.toml_span_check.specs.code.Judged.{Judges, JudgesText}
 use Rattle.toml_span_check.proofs.answer.judge.Goals as goal
 

@@ -1,6 +1,6 @@
 use Rattle.toml_span_lex.proofs.Common.{ap, map, refl}
 use Rattle.toml_span_report.specs.Report.{report_content}
-use Rattle.toml_span_check.specs.code.Every.{progress, source_of}
+use Rattle.toml_span_check.specs.code.Every.{source_of}
 use Rattle.toml_span_check.proofs.Errors.{begins, finds_first}
 use Rattle.toml_span_check.proofs.every.errors_from.Goals as goal
 

@@ -1,7 +1,7 @@
-use Rattle.toml_span_lex.proofs.Common.{◌∙◌, ap, sym, option_map, string_bytes, refl}
+use Rattle.toml_span_lex.proofs.Common.{◌∙◌, ap, sym, option_map, string_bytes}
 use Rattle.toml_span_report.specs.Report.{report_content}
 use Rattle.toml_span_tree.specs.Value.{view}
-use Rattle.toml_span_check.proofs.Missings.{explains-end, explains-more}
+use Rattle.toml_span_check.proofs.Missings.{explains-end}
 use Rattle.toml_span_check.proofs.missing.+explained.Goals as goal
 
 pub returns-in-None : goal.returns-in-None

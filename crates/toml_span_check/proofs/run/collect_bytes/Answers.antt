@@ -1,4 +1,4 @@
-use Rattle.toml_span_lex.proofs.Common.{◌∙◌, ◌++◌, ap, ap₂, [], inl, map, None, Some, option_map, refl, string_bytes, subst, sym, cow_str_bytes, Appends-nil}
+use Rattle.toml_span_lex.proofs.Common.{◌∙◌, ◌++◌, ap, [], inl, map, None, Some, option_map, refl, string_bytes, subst, sym, cow_str_bytes, Appends-nil}
 use Rattle.toml_span_tree.specs.Value.{view}
 use Rattle.toml_span_check.specs.Answer.{IsNames, found}
 use Rattle.toml_span_check.specs.code.Judged.{Judges}
