@@ -1,7 +1,7 @@
 -- When a compiled schema has lost no keyword of its JSON: each keyword of the draft is there, by its name, and each
 -- subschema is compiled likewise. Drafts are numbered 4, 6, 7, 19 and 20.
-use Rattle.std.specs.Prelude.{◌≡◌, ℕ, zero, suc, ◌+◌, ◌==◌, nat_lt, List, [], ◌∷◌, length, Bool, true, false, ◌&&◌, ◌||◌, not}
-use Rattle.std.specs.Prelude.{Option, Some, None, option_map, if◌then◌else◌, codes, slice_get, IsTrue, ⊤}
+use Rattle.std.specs.Prelude.{◌≡◌, ℕ, zero, suc, ◌+◌, ◌==◌, nat_lt, List, [], ◌∷◌, length, Bool, true, false, ◌&&◌}
+use Rattle.std.specs.Prelude.{◌||◌, not, Option, Some, None, option_map, if◌then◌else◌, codes, slice_get, IsTrue, ⊤}
 use Rattle.std.specs.BTreeMap.{get_by_text}
 use Rattle.std.specs.List.{list_all, list_any}
 use Rattle.std.specs.Option.{is_some}
@@ -16,12 +16,12 @@ use Rattle.toml_span_schema.specs.declared.keyword.Keyword.TheVariants as keywor
 use Rattle.toml_span_schema.specs.declared.keyword.Placed.{Placed}
 use Rattle.toml_span_schema.specs.declared.schema.Schema.{Schema}
 
--- the draft that `$schema` names, or None for another metaschema
+-- the draft whose address `$schema` is, or None for another metaschema
 unfoldable pub draft_named : List ℕ → Option ℕ
 draft_named t =
-    if bytes_eq t (codes "http://json-schema.org/draft-04/schema#") || bytes_eq t (codes "http://json-schema.org/draft-04/schema") then Some 4
-    else (if bytes_eq t (codes "http://json-schema.org/draft-06/schema#") || bytes_eq t (codes "http://json-schema.org/draft-06/schema") then Some 6
-    else (if bytes_eq t (codes "http://json-schema.org/draft-07/schema#") || bytes_eq t (codes "http://json-schema.org/draft-07/schema") then Some 7
+    if bytes_eq t (codes "http://json-schema.org/draft-04/schema#") then Some 4
+    else (if bytes_eq t (codes "http://json-schema.org/draft-06/schema#") then Some 6
+    else (if bytes_eq t (codes "http://json-schema.org/draft-07/schema#") then Some 7
     else (if bytes_eq t (codes "https://json-schema.org/draft/2019-09/schema") then Some 19
     else (if bytes_eq t (codes "https://json-schema.org/draft/2020-12/schema") then Some 20 else None))))
 
@@ -40,7 +40,8 @@ node_for n i key m (keyword.AnyOf ks) = only (bytes_eq n (codes "anyOf")) (slice
 node_for n i key m (keyword.OneOf ks) = only (bytes_eq n (codes "oneOf")) (slice_get ks.items i)
 node_for n i key m (keyword.Not k) = only (bytes_eq n (codes "not")) (Some k)
 node_for n i key m (keyword.If c t e) =
-    if bytes_eq n (codes "if") then Some c else (if bytes_eq n (codes "then") then t else only (bytes_eq n (codes "else")) e)
+    if bytes_eq n (codes "if") then Some c
+    else (if bytes_eq n (codes "then") then t else only (bytes_eq n (codes "else")) e)
 node_for n i key m (keyword.DependentSchemas es) =
     only (bytes_eq n (codes "dependentSchemas")) (option_map (λ e. e.1) (slice_get es.items i))
 node_for n i key m (keyword.Items ks rest) =
@@ -79,7 +80,7 @@ abbrev pub members_lead : Compile → List ℕ → List Placed → ℕ → Membe
 members_lead f n ps i no_members = true
 members_lead f n ps i (member key j ms) = leads f n j (node_among n i key ps) && members_lead f n ps (i + 1) ms
 
--- Whether a value of the keyword `n` is compiled: a schema, an array of schemas or, with `by_key`, an object of schemas.
+-- Whether a value of the keyword `n` is compiled: a schema, an array of schemas or, with `by_key`, an object of them.
 abbrev pub is_led : Compile → List ℕ → Bool → List Placed → Option Json → Bool
 is_led f n by_key ps None = true
 is_led f n by_key ps (Some (array js)) = items_lead f n ps 0 js
@@ -98,7 +99,8 @@ unfoldable pub items_led : Compile → ℕ → List Placed → Json → Bool
 items_led f d ps j =
     if d == 20 then are_led f (codes "prefixItems" ∷ codes "items" ∷ []) ps j
     else (if is_array (get (codes "items") j)
-    then is_led f (codes "prefixItems") false ps (get (codes "items") j) && is_led f (codes "items") false ps (get (codes "additionalItems") j)
+    then is_led f (codes "prefixItems") false ps (get (codes "items") j)
+    && is_led f (codes "items") false ps (get (codes "additionalItems") j)
     else is_led f (codes "items") false ps (get (codes "items") j))
 
 -- Whether all subschemas are compiled, except for those of `dependencies`.
@@ -106,7 +108,8 @@ unfoldable pub keeps_schemas : Compile → ℕ → List Placed → Json → Bool
 keeps_schemas f d ps j =
     are_led f (codes "allOf" ∷ codes "anyOf" ∷ codes "oneOf" ∷ codes "not" ∷ codes "additionalProperties" ∷ []) ps j
     && (nat_lt d 6 || are_led f (codes "contains" ∷ codes "propertyNames" ∷ []) ps j)
-    && (nat_lt d 7 || not (is_some (get (codes "if") j)) || are_led f (codes "if" ∷ codes "then" ∷ codes "else" ∷ []) ps j)
+    && (nat_lt d 7 || not (is_some (get (codes "if") j))
+    || are_led f (codes "if" ∷ codes "then" ∷ codes "else" ∷ []) ps j)
 
 unfoldable pub keeps_members : Compile → ℕ → List Placed → Json → Bool
 keeps_members f d ps j =
@@ -150,7 +153,8 @@ keeps_later d ps j =
     && (not (d == 19) || is_kept j ps (codes "$recursiveRef")) && (not (d == 20) || is_kept j ps (codes "$dynamicRef"))
 
 abbrev pub keeps_all : Compile → ℕ → List Placed → Json → Bool
-keeps_all f d ps j = keeps_names d ps j && keeps_later d ps j && keeps_schemas f d ps j && keeps_members f d ps j && items_led f d ps j
+keeps_all f d ps j =
+    keeps_names d ps j && keeps_later d ps j && keeps_schemas f d ps j && keeps_members f d ps j && items_led f d ps j
 
 abbrev pub is_string : Option Json → Bool
 is_string (Some (string t)) = true
@@ -171,7 +175,8 @@ step f s d (boolean true) ps = length ps == 0
 step f s d (boolean false) ps = has ps (codes "false")
 step f s d (object ms) ps =
     if nat_lt d 19 && is_string (get (codes "$ref") (object ms)) then has ps (codes "$ref")
-    else (if nat_lt 18 d && is_unevaluated (object ms) then is_around f s d ps (object ms) (node_among (codes "allOf") 0 [] ps)
+    else (if nat_lt 18 d && is_unevaluated (object ms)
+    then is_around f s d ps (object ms) (node_among (codes "allOf") 0 [] ps)
     else keeps_all f d ps (object ms))
 step f s d _ ps = false
 

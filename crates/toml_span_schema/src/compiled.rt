@@ -1,5 +1,5 @@
-//! Checks that a compiled schema has lost no keyword of its JSON. Drafts are numbered 4, 6, 7, 19 and 20. In the methods
-//! of a schema, `left` is the number of subschemas that may still be nested.
+//! Checks that a compiled schema has lost no keyword of its JSON. Drafts are numbered 4, 6, 7, 19 and 20. In the
+//! methods of a schema, `left` is the number of subschemas that may still be nested.
 ghost use Rattle.std.specs.Prelude.{◌≡◌, [], IsSomeAnd, OnOk, Some, codes, map, option_map, slice_get, true};
 ghost use Rattle.std.specs.Option.{is_some};
 ghost use Rattle.json.specs.Find.{get};
@@ -23,17 +23,11 @@ const MOST_LEVELS: usize = 130;
 fn draft_named(address: &str) -> Option<u8>
     ensures { result ≡ spec.draft_named address.now }
 {
-    if address == "http://json-schema.org/draft-04/schema#"
-        || address == "http://json-schema.org/draft-04/schema"
-    {
+    if address == "http://json-schema.org/draft-04/schema#" {
         Some(4)
-    } else if address == "http://json-schema.org/draft-06/schema#"
-        || address == "http://json-schema.org/draft-06/schema"
-    {
+    } else if address == "http://json-schema.org/draft-06/schema#" {
         Some(6)
-    } else if address == "http://json-schema.org/draft-07/schema#"
-        || address == "http://json-schema.org/draft-07/schema"
-    {
+    } else if address == "http://json-schema.org/draft-07/schema#" {
         Some(7)
     } else if address == "https://json-schema.org/draft/2019-09/schema" {
         Some(19)
@@ -86,8 +80,8 @@ fn second<T>(entries: &[(T, usize)], at: usize) -> Option<usize>
     }
 }
 
-/// Returns the node that a compiled keyword has for a subschema of the keyword `name`: the one at position `at`, or with
-/// the name `key`, if there are several.
+/// Returns the node that a compiled keyword has for a subschema of the keyword `name`: the one at position `at`, or
+/// with the name `key`, if there are several.
 #[tactic(auto, unfolding(crate::specs::Compiled::node_for))]
 fn node_for(name: &str, at: usize, key: &str, placed: &Placed) -> Option<usize>
     ensures { result ≡ spec.node_for name.now at key.now placed.now.name.now placed.now.keyword }
@@ -191,7 +185,7 @@ fn dependencies(draft: u8) -> &'static str
     }
 }
 
-/// Returns whether the keywords that are not compared by their subschemas are compiled, except for those of `keeps_later`.
+/// Returns whether the keywords without subschemas are compiled, except for those of `keeps_later`.
 #[tactic(auto, unfolding(crate::specs::Compiled::keeps_names))]
 fn keeps_names(draft: u8, keywords: &[Placed], value: &Json<'_>) -> bool
     ensures { result ≡ spec.keeps_names draft keywords.now (value_view value.now) }
@@ -220,7 +214,7 @@ fn keeps_names(draft: u8, keywords: &[Placed], value: &Json<'_>) -> bool
         && is_limit_kept(draft, value, keywords, ("maximum", "exclusiveMaximum"))
 }
 
-/// Returns whether the keywords without subschemas that only some drafts have are compiled.
+/// Returns whether `uniqueItems`, and the keywords for required keys and references of only some drafts, are compiled.
 #[tactic(auto, unfolding(crate::specs::Compiled::keeps_later))]
 fn keeps_later(draft: u8, keywords: &[Placed], value: &Json<'_>) -> bool
     ensures { result ≡ spec.keeps_later draft keywords.now (value_view value.now) }
@@ -294,8 +288,8 @@ impl Schema {
             && self.items_led(draft, left, keywords, value)
     }
 
-    /// Returns whether the subschemas of keywords with a schema or an array of schemas are compiled, except for those of
-    /// `items_led`.
+    /// Returns whether the subschemas of keywords with a schema or an array of schemas are compiled, except for those
+    /// of `items_led`.
     #[cycle(compiled)]
     #[tactic(auto, unfolding(crate::specs::Compiled::keeps_schemas))]
     fn keeps_schemas(&self, draft: u8, left: usize, keywords: &[Placed], value: &Json<'_>) -> bool

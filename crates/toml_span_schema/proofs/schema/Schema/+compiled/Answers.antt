@@ -11,5 +11,6 @@ is_compiled-returns-then-left-eq0 t c =
 pub is_compiled-returns : goal.is_compiled-returns
 is_compiled-returns t c =
     c.keeps.ensures
-    ∙ ap (step (inner c.args.self.now (compiled c.args.self.now c.args.draft (c.args.left - 1))) c.args.self.now c.args.draft (value_view c.args.value.now)) c.keywords.ensures
+    ∙ ap (step (inner c.args.self.now (compiled c.args.self.now c.args.draft (c.args.left - 1)))
+    c.args.self.now c.args.draft (value_view c.args.value.now)) c.keywords.ensures
     ∙ compiled_more c.args.self.now c.args.draft c.args.left (value_view c.args.value.now) c.args.node (omega arith)

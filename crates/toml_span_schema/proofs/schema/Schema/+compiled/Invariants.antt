@@ -44,7 +44,8 @@ decreases-leads l = 9 * l.left + 1
 
 abbrev pub invariant-are_led-loop-name : goal.invariant-are_led-loop-name
 invariant-are_led-loop-name l =
-    are_led (inner l.self (compiled l.self l.draft l.left)) (map (λ n. n.now) (drop l.name-index l.names)) l.keywords (value_view l.value)
+    are_led (inner l.self (compiled l.self l.draft l.left)) (map (λ n. n.now) (drop l.name-index l.names)) l.keywords
+    (value_view l.value)
     ≡ are_led (inner l.self (compiled l.self l.draft l.left)) (map (λ n. n.now) l.names) l.keywords (value_view l.value)
 
 abbrev pub invariant-items_lead-loop-at : goal.invariant-items_lead-loop-at
@@ -54,5 +55,6 @@ invariant-items_lead-loop-at l =
 
 abbrev pub invariant-members_lead-loop-at : goal.invariant-members_lead-loop-at
 invariant-members_lead-loop-at l =
-    members_lead (inner l.self (compiled l.self l.draft l.left)) l.name l.keywords l.at (members_view (drop l.at l.members))
+    members_lead (inner l.self (compiled l.self l.draft l.left)) l.name l.keywords l.at
+    (members_view (drop l.at l.members))
     ≡ members_lead (inner l.self (compiled l.self l.draft l.left)) l.name l.keywords 0 (members_view l.members)
