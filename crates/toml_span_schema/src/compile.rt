@@ -137,7 +137,7 @@ pub(crate) fn compile(
     root: Document<'_>,
     others: &[Document<'_>],
 ) -> Result<Guide, SchemaError>
-    ensures { IfOk result (λ guide. IsCompiled root.text.now guide.schema) }
+    ensures { IfOk result (λ guide. IsCompiled root.entry.text.now guide.schema) }
 {
     let mut documents = Vec::new(alloc);
     documents.push(root)?;

@@ -1,75 +1,60 @@
-use Rattle.std.proofs.Common.{◌≡◌, ◌+◌, ◌*◌, ◌&&◌, drop}
-use Rattle.std.specs.BTreeMap.{get_by_text}
-use Rattle.std.specs.List.{list_all}
+use Rattle.std.proofs.Common.{◌≡◌, ◌+◌, ◌*◌, drop, map}
 use Rattle.json.specs.Value.{items_view, members_view, value_view}
-use Rattle.toml_span_schema.specs.Compiled.{agrees, compiled, dependent, each, fits, inner, is_around, named, patterned}
+use Rattle.toml_span_schema.specs.Compiled.{are_led, compiled, inner, items_lead, members_lead}
 use Rattle.toml_span_schema.proofs.schema.Schema.+compiled.Given as goal
 
 abbrev pub decreases-is_compiled : goal.decreases-is_compiled
-decreases-is_compiled l = 8 * l.left
+decreases-is_compiled l = 9 * l.left
 
-abbrev pub decreases-agrees_all : goal.decreases-agrees_all
-decreases-agrees_all l = 8 * l.left + 7
-
-abbrev pub decreases-is_ordinary : goal.decreases-is_ordinary
-decreases-is_ordinary l = 8 * l.left + 6
+abbrev pub decreases-keeps : goal.decreases-keeps
+decreases-keeps l = 9 * l.left + 8
 
 abbrev pub decreases-is_around : goal.decreases-is_around
-decreases-is_around l = 8 * l.left + 6
+decreases-is_around l = 9 * l.left + 7
 
-abbrev pub decreases-is_one_around : goal.decreases-is_one_around
-decreases-is_one_around l = 8 * l.left + 5
+abbrev pub decreases-keeps_all : goal.decreases-keeps_all
+decreases-keeps_all l = 9 * l.left + 6
 
-abbrev pub decreases-agrees : goal.decreases-agrees
-decreases-agrees l = 8 * l.left + 5
+abbrev pub decreases-keeps_schemas : goal.decreases-keeps_schemas
+decreases-keeps_schemas l = 9 * l.left + 5
 
-abbrev pub decreases-same_named : goal.decreases-same_named
-decreases-same_named l = 8 * l.left + 4
+abbrev pub decreases-keeps_members : goal.decreases-keeps_members
+decreases-keeps_members l = 9 * l.left + 5
 
-abbrev pub decreases-same_member : goal.decreases-same_member
-decreases-same_member l = 8 * l.left + 3
+abbrev pub decreases-items_led : goal.decreases-items_led
+decreases-items_led l = 9 * l.left + 5
 
-abbrev pub decreases-same_patterned : goal.decreases-same_patterned
-decreases-same_patterned l = 8 * l.left + 3
+abbrev pub decreases-are_led : goal.decreases-are_led
+decreases-are_led l = 9 * l.left + 4
 
-abbrev pub decreases-same_dependent : goal.decreases-same_dependent
-decreases-same_dependent l = 8 * l.left + 3
+abbrev pub decreases-member_led : goal.decreases-member_led
+decreases-member_led l = 9 * l.left + 4
 
-abbrev pub decreases-same_each : goal.decreases-same_each
-decreases-same_each l = 8 * l.left + 3
+abbrev pub decreases-is_led : goal.decreases-is_led
+decreases-is_led l = 9 * l.left + 3
 
-abbrev pub decreases-same_one : goal.decreases-same_one
-decreases-same_one l = 8 * l.left + 2
+abbrev pub decreases-items_lead : goal.decreases-items_lead
+decreases-items_lead l = 9 * l.left + 2
 
-abbrev pub decreases-is_inner : goal.decreases-is_inner
-decreases-is_inner l = 8 * l.left + 1
+abbrev pub decreases-members_lead : goal.decreases-members_lead
+decreases-members_lead l = 9 * l.left + 2
 
-abbrev pub invariant-is_ordinary-loop-placed : goal.invariant-is_ordinary-loop-placed
-invariant-is_ordinary-loop-placed l =
-    list_all (λ p. fits p.keyword p.name.now && agrees (inner (compiled l.self l.draft l.left)) l.self l.draft (value_view l.value) p.name.now p.keyword) (drop l.placed-index l.keywords)
-    ≡ list_all (λ p. fits p.keyword p.name.now && agrees (inner (compiled l.self l.draft l.left)) l.self l.draft (value_view l.value) p.name.now p.keyword) l.keywords
+abbrev pub decreases-leads : goal.decreases-leads
+decreases-leads l = 9 * l.left + 1
 
-abbrev pub invariant-is_around-loop-placed : goal.invariant-is_around-loop-placed
-invariant-is_around-loop-placed l =
-    list_all (λ p. is_around (inner (compiled l.self l.draft l.left)) (value_view l.value) l.others p.name.now p.keyword) (drop l.placed-index l.keywords)
-    ≡ list_all (λ p. is_around (inner (compiled l.self l.draft l.left)) (value_view l.value) l.others p.name.now p.keyword) l.keywords
+abbrev pub invariant-are_led-loop-name : goal.invariant-are_led-loop-name
+invariant-are_led-loop-name l =
+    are_led (inner l.self (compiled l.self l.draft l.left)) (map (λ n. n.now) (drop l.name-index l.names)) l.keywords
+    (value_view l.value)
+    ≡ are_led (inner l.self (compiled l.self l.draft l.left)) (map (λ n. n.now) l.names) l.keywords (value_view l.value)
 
-abbrev pub invariant-same_each-loop-item : goal.invariant-same_each-loop-item
-invariant-same_each-loop-item l =
-    each (inner (compiled l.self l.draft l.left)) (items_view (drop l.item-index l.item-items)) l.rest
-    ≡ each (inner (compiled l.self l.draft l.left)) (items_view l.item-items) l.nodes
+abbrev pub invariant-items_lead-loop-at : goal.invariant-items_lead-loop-at
+invariant-items_lead-loop-at l =
+    items_lead (inner l.self (compiled l.self l.draft l.left)) l.name l.keywords l.at (items_view (drop l.at l.items))
+    ≡ items_lead (inner l.self (compiled l.self l.draft l.left)) l.name l.keywords 0 (items_view l.items)
 
-abbrev pub invariant-same_named-loop-at : goal.invariant-same_named-loop-at
-invariant-same_named-loop-at l =
-    named (inner (compiled l.self l.draft l.left)) (get_by_text l.nodes) (members_view (drop l.at l.members))
-    ≡ named (inner (compiled l.self l.draft l.left)) (get_by_text l.nodes) (members_view l.members)
-
-abbrev pub invariant-same_patterned-loop-member : goal.invariant-same_patterned-loop-member
-invariant-same_patterned-loop-member l =
-    patterned (inner (compiled l.self l.draft l.left)) l.self (members_view (drop l.member-index l.member-items)) l.rest
-    ≡ patterned (inner (compiled l.self l.draft l.left)) l.self (members_view l.member-items) l.entries
-
-abbrev pub invariant-same_dependent-loop-member : goal.invariant-same_dependent-loop-member
-invariant-same_dependent-loop-member l =
-    dependent (inner (compiled l.self l.draft l.left)) (members_view (drop l.member-index l.member-items)) l.rest
-    ≡ dependent (inner (compiled l.self l.draft l.left)) (members_view l.member-items) l.entries
+abbrev pub invariant-members_lead-loop-at : goal.invariant-members_lead-loop-at
+invariant-members_lead-loop-at l =
+    members_lead (inner l.self (compiled l.self l.draft l.left)) l.name l.keywords l.at
+    (members_view (drop l.at l.members))
+    ≡ members_lead (inner l.self (compiled l.self l.draft l.left)) l.name l.keywords 0 (members_view l.members)
