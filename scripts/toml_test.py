@@ -60,7 +60,9 @@ def passes_all(program, folder):
     """Runs the documents and prints how many pass. Returns whether all do, and there are some of each kind."""
     passed, count = [0, 0], [0, 0]
     for name, document, wanted in documents(folder):
-        ran = subprocess.run(program, input=document, stdout=subprocess.PIPE, timeout=60, check=False)
+        ran = subprocess.run(
+            program, input=document, stdout=subprocess.PIPE, stderr=subprocess.STDOUT, timeout=60, check=False
+        )
         is_valid = wanted is not None
         good = ran.returncode == 1 - is_valid and (not is_valid or same(json.loads(wanted), json.loads(ran.stdout)))
         count[is_valid] += 1
