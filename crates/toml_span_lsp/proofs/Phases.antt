@@ -1,12 +1,22 @@
 -- Which messages change the phase of the server.
-use Rattle.toml_span_lex.proofs.Common.{◌≡◌, ◌≢◌, ℕ, List, Option, None, Some, Result, Ok, Err, IfOk, MatchOption, codes, same_Some, subst, sym, refl, ◌∙◌, inl, inr}
+use Rattle.toml_span_lex.proofs.Common.{◌≡◌, ◌≢◌, ℕ, List, Option, None, Some, Bor, Global, rules, ap, Result, Ok, Err, IfOk, MatchOption, codes, same_Some, subst, sym, refl, ◌∙◌, inl, inr}
 use Rattle.json.specs.Find.{get}
 use Rattle.json.specs.Json.{Json, document}
+use Rattle.json.specs.Json as json
+use Rattle.json.specs.Value.{value_view}
+use Rattle.json.specs.declared.value.Value.{String, Value, the_lemmas}
 use Rattle.toml_span_lsp.specs.Phases.{AfterContent, AfterMessage, AfterNotification, AfterRequest, Follows, HasName, IsReadAs}
 use Rattle.toml_span_lsp.specs.declared.incoming.Id.{Id}
 use Rattle.toml_span_lsp.specs.declared.incoming.Message.{Message}
 use Rattle.toml_span_lsp.specs.declared.incoming.Message.TheVariants.{Call, Response, Invalid}
 use Rattle.toml_span_lsp.specs.declared.state.Phase.{Phase}
+
+-- a string of JSON
+value_view-String : (s : Bor (List ℕ)) → let v : Value Global = String s in value_view v ≡ json.string s.now
+value_view-String s = search (rules, the_lemmas)
+
+pub is_string : (v : Value Global) (s : Bor (List ℕ)) (found : Option Json) → v ≡ String s → Some (value_view v) ≡ found → found ≡ Some (json.string s.now)
+is_string v s found is e = sym e ∙ ap (λ (w : Value Global). Some (value_view w)) is ∙ ap (λ (j : Json). Some j) (value_view-String s)
 
 -- whether there is an id
 pub id_kind : (id : Option Id) (found : Option Json) → (id ≡ None → found ≡ None) → (found ≡ None → id ≡ None) → MatchOption id (found ≡ None) (λ _. found ≢ None)
