@@ -1,9 +1,11 @@
 -- Steps of the server, one after the other.
-use Rattle.toml_span_lex.proofs.Common.{◌≡◌, ◌≢◌, ℕ, zero, ◌+◌, ◌-◌, ◌<◌, ◌≤◌, Bool, true, false, true≢false, cond, List, [], ◌∷◌, ◌++◌, Option, None, Some, same_Some, none-some, length, nat_lt, take, drop, sym, ap, ◌∙◌, refl, subst, inl, inr, ⊎_elim, cases_lt, ◌⊎◌, arith, append-nil, append_assoc, length-append, length-drop, length-take-le, drop_all, nil_from_length, take-append-le, Appends, Appends-nil, Appends-trans, Consumes, IsAtEnd}
+use Rattle.toml_span_lex.proofs.Common.{◌≡◌, ◌≢◌, ℕ, zero, ◌+◌, ◌-◌, ◌<◌, ◌≤◌, Bool, true, false, true≢false, cond, IfNone, List, [], ◌∷◌, ◌++◌, Option, None, Some, same_Some, none-some, length, nat_lt, take, drop, sym, ap, ◌∙◌, refl, subst, inl, inr, ⊎_elim, cases_lt, ◌⊎◌, arith, append-nil, append_assoc, length-append, length-drop, length-take-le, drop_all, nil_from_length, take-append-le, Appends, Appends-nil, Appends-trans, Consumes, IsAtEnd}
 use Rattle.std.proofs.KnownBytes.{Consumes-nil, Consumes-trans}
 use Rattle.std.proofs.Math.Seq.{take-add}
 use Rattle.std.proofs.lemmas.Bool.{cond_above}
+use Rattle.json.specs.Token.{null}
 use Rattle.toml_span_lines.specs.Run.{HasWritten}
+use Rattle.toml_span_lsp.specs.Messages.{IsResponse}
 use Rattle.toml_span_lsp.specs.Frames.{AreFrames, IsShort, WritesFront, frame_of, framed, head_of}
 use Rattle.toml_span_lsp.specs.Phases.{exit_status}
 use Rattle.toml_span_lsp.specs.Served.{AreHeadersOf, BeginsNoFrame, Ends, Finishes, Goes, Handles, IsFramed, Reason, Refuses, Runs, stays, step, Serves, Step, Streams, streams}
@@ -85,6 +87,15 @@ goes_stay p held at alive good = record {
   goes_on = alive;
   good = good;
 }
+
+pub goes_start : (q : Phase) (held : List ℕ) (at : Streams) → q ≡ phases.New → held ≡ [] → at.unwritten ≡ false → Goes phases.New [] at q held at
+goes_start q held at new empty good =
+    let P : Phase → Type 0 = λ r. Goes phases.New [] at r held at in
+    let H : List ℕ → Type 0 = λ xs. Goes phases.New [] at phases.New xs at in
+    subst P (sym new) (subst H (sym empty) (goes_stay phases.New [] at refl good))
+
+pub consumes_none : (a b : Option (List ℕ)) (bytes : List ℕ) (n : ℕ) → n ≡ 0 → Consumes a b (take n bytes) → Consumes a b []
+consumes_none a b bytes n is h = subst (λ k. Consumes a b (take k bytes)) is h
 
 pub goes_read : (p : Phase) (held held' read : List ℕ) (left left' w : Option (List ℕ)) (u u' x : Bool) → Consumes left left' read → held' ≡ held ++ read → exit_status p ≡ None → x ≡ false
     → Goes p held (streams left u w x) p held' (streams left' u' w x)
@@ -168,9 +179,9 @@ framed_as bytes view found is same e framed = subst (λ xs. IsFramed xs is) same
 
 -- ---- a message is taken
 
-pub goes_step : (p q : Phase) (frame out held held' read : List ℕ) (a b : Streams) → Step p frame out q → held ++ read ≡ frame ++ held' → Consumes a.left b.left read
-    → Appends a.written b.written out → exit_status q ≡ None → b.unwritten ≡ false → Goes p held a q held' b
-goes_step p q frame out held held' read a b s parts consumes appends alive good = record {
+pub goes_step : (p q : Phase) (frame out held held' read : List ℕ) (a b : Streams) → Appends a.written b.written out → Step p frame out q → held ++ read ≡ frame ++ held'
+    → Consumes a.left b.left read → exit_status q ≡ None → b.unwritten ≡ false → Goes p held a q held' b
+goes_step p q frame out held held' read a b appends s parts consumes alive good = record {
   read = read;
   input = frame;
   output = out;
@@ -199,17 +210,25 @@ ends_step p q frame out held rest read a b s taken parts consumes written whole 
 }
 
 -- the answer is not written, or an allocation fails then
-pub ends_finish : (end : Ended) (p q : Phase) (frame out held rest read : List ℕ) (a b : Streams) → Step p frame out q → held ++ read ≡ frame ++ rest
-    → Consumes a.left b.left read → Finishes (Some end) a.written b.written b.unwritten out → Ends p held a b end.status
-ends_finish end p q frame out held rest read a b s parts consumes (inl (is, failed, written)) =
+pub ends_finish : (end : Ended) (p q : Phase) (frame out held rest read : List ℕ) (a b : Streams) → Finishes (Some end) a.written b.written b.unwritten out → Step p frame out q
+    → held ++ read ≡ frame ++ rest → Consumes a.left b.left read → Ends p held a b end.status
+ends_finish end p q frame out held rest read a b (inl (is, failed, written)) s parts consumes =
     ends_step p q frame out held rest read a b end.status s parts consumes written (λ good. absurd (true≢false (sym failed ∙ good))) (inr (inr (inr (inl (is, inr failed)))))
-ends_finish end p q frame out held rest read a b s parts consumes (inr (is, good, appends)) =
+ends_finish end p q frame out held rest read a b (inr (is, good, appends)) s parts consumes =
     ends_step p q frame out held rest read a b end.status s parts consumes (written_all a.written b.written out appends) (λ _. appends) (inr (inr (inr (inr is))))
 
+-- the server ends then, or goes on
+pub serves_finish : (result : Option Ended) (p q : Phase) (frame out held held' rest read : List ℕ) (a b : Streams) → Finishes result a.written b.written b.unwritten out → Step p frame out q
+    → held ++ read ≡ frame ++ rest → Consumes a.left b.left read → exit_status q ≡ None → IfNone result (held' ≡ rest) → Serves result p held a q held' b
+serves_finish None p q frame out held held' rest read a b (good, appends) s parts consumes alive same =
+    goes_step p q frame out held held' read a b appends s (parts ∙ ap (λ xs. frame ++ xs) (sym same)) consumes alive good
+serves_finish (Some end) p q frame out held held' rest read a b finishes s parts consumes alive same =
+    ends_finish end p q frame out held rest read a b finishes s parts consumes
+
 -- the message was `exit`
-pub ends_exit : (p q : Phase) (frame out held rest read : List ℕ) (a b : Streams) (s : ℕ) → Step p frame out q → held ++ read ≡ frame ++ rest
-    → Consumes a.left b.left read → Appends a.written b.written out → exit_status q ≡ Some s → Ends p held a b s
-ends_exit p q frame out held rest read a b s taken parts consumes appends is =
+pub ends_exit : (p q : Phase) (frame out held rest read : List ℕ) (a b : Streams) (s : ℕ) → Appends a.written b.written out → Step p frame out q
+    → held ++ read ≡ frame ++ rest → Consumes a.left b.left read → exit_status q ≡ Some s → Ends p held a b s
+ends_exit p q frame out held rest read a b s appends taken parts consumes is =
     ends_step p q frame out held rest read a b s taken parts consumes (written_all a.written b.written out appends) (λ _. appends) (inl is)
 
 -- the frame that `frame` finds, and its answer
@@ -247,13 +266,17 @@ long_step p bytes got out view end (start, n, within, long, is, heads) alive cou
       handled = inr (omega arith, subst Refuses (sym same) refuses, refl);
     }
 
+pub refuses_from : (new old view content : List ℕ) → new ≡ old ++ frame_of view → old ≡ [] → view ≡ content → IsResponse null content → Refuses new
+refuses_from new old view content is empty same response =
+    (content, is ∙ ap (λ xs. xs ++ frame_of view) empty ∙ ap frame_of same, response)
+
 pub drop_read : (bytes got : List ℕ) (end : ℕ) → length got ≡ end - length bytes → drop end (bytes ++ got) ≡ drop end bytes
 drop_read bytes got end count = ⊎_elim (λ below. drop_all end (bytes ++ got) (omega (arith, length-append bytes got)) ∙ sym (drop_all end bytes (omega arith)))
     (λ above. ap (λ xs. drop end (bytes ++ xs)) (nil_from_length got (omega arith)) ∙ ap (drop end) (append-nil bytes)) (cases_lt (length bytes) end)
 
 -- ---- the end
 
-pub status_bound : (p : Phase) (held : List ℕ) (end : Streams) (s : ℕ) → Reason p held end s → s ≤ 4
+status_bound : (p : Phase) (held : List ℕ) (end : Streams) (s : ℕ) → Reason p held end s → s ≤ 4
 status_bound phases.New held end s (inl is) = absurd (none-some _ is)
 status_bound phases.Running held end s (inl is) = absurd (none-some _ is)
 status_bound phases.Shut held end s (inl is) = absurd (none-some _ is)
@@ -263,6 +286,9 @@ status_bound p held end s (inr (inl is)) = omega (arith, is.0)
 status_bound p held end s (inr (inr (inl is))) = omega (arith, is.0)
 status_bound p held end s (inr (inr (inr (inl is)))) = omega (arith, is.0)
 status_bound p held end s (inr (inr (inr (inr is)))) = omega (arith, is)
+
+pub ends_status : (p : Phase) (held : List ℕ) (a b : Streams) (s : ℕ) → Ends p held a b s → s ≤ 4
+ends_status p held a b s e = status_bound e.last e.rest b s e.reason
 
 pub ends_front : (p : Phase) (held : List ℕ) (a b : Streams) (s : ℕ) → Ends p held a b s → WritesFront a.written b.written
 ends_front p held a b s e = (e.output, runs_frames e.runs, e.written)

@@ -5,10 +5,11 @@ use Rattle.toml_span_lines.specs.Run.{HasWritten}
 use Rattle.toml_span_lsp.specs.Frames.{AreFrames, frame_of}
 
 -- the frames of messages
-pub frames_are : (contents : List (Vec ℕ Global)) (out : List ℕ) → out ≡ flat_map (λ content. frame_of content.items) contents → out ≡ flat_map frame_of (map (λ content. content.items) contents)
-frames_are contents out is =
+pub frames_are : (contents view : List (Vec ℕ Global)) (out : List ℕ) → view ≡ contents → out ≡ flat_map (λ content. frame_of content.items) view → out ≡ flat_map frame_of (map (λ content. content.items) contents)
+frames_are contents view out same is =
     let bytes : Vec ℕ Global → List ℕ = λ content. content.items in
-    is ∙ sym (flat_map-map frame_of bytes contents)
+    let frame : Vec ℕ Global → List ℕ = λ content. frame_of content.items in
+    is ∙ ap (flat_map frame) same ∙ sym (flat_map-map frame_of bytes contents)
 
 -- frames after frames are frames
 pub both_frames : (xs ys : List ℕ) → AreFrames xs → AreFrames ys → AreFrames (xs ++ ys)

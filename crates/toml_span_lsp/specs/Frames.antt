@@ -1,6 +1,5 @@
 -- Frames (LSP 3.17, Base Protocol).
-use Rattle.std.specs.Prelude.{◌≡◌, ℕ, ◌≤◌, ◌++◌, List, Option, None, Some, MatchOption, codes, cond, decimal, length, nat_lt}
-use Rattle.std.specs.Io.KnownBytes.{Appends}
+use Rattle.std.specs.Prelude.{◌≡◌, ℕ, ◌≤◌, ◌++◌, List, Option, None, Some, codes, cond, decimal, length, nat_lt}
 use Rattle.std.specs.List.{flat_map}
 use Rattle.toml_span_lines.specs.Run.{HasWritten}
 use Rattle.toml_span_lsp.specs.declared.frames.Framed.{Framed}
@@ -37,14 +36,6 @@ framed content n = framed_at (length (head_of (length content))) (length (frame_
 abbrev pub AreFrames : List ℕ → Type 0
 AreFrames bytes = (contents : List (List ℕ)) × (bytes ≡ flat_map frame_of contents)
 
--- The contents `new` of the output are its earlier contents `old`, followed by whole frames.
-abbrev pub WritesFrames : Option (List ℕ) → Option (List ℕ) → Type 0
-WritesFrames old new = (bytes : List ℕ) × AreFrames bytes × Appends old new bytes
-
 -- The contents `new` of the output are its earlier contents `old`, followed by a prefix of a sequence of frames.
 abbrev pub WritesFront : Option (List ℕ) → Option (List ℕ) → Type 0
 WritesFront old new = (bytes : List ℕ) × AreFrames bytes × HasWritten old new bytes
-
--- If `result` is `None`, the server continues, and whole frames were written. Otherwise, a prefix of frames is enough.
-abbrev pub Writes : {A : Type 0} → Option A → Option (List ℕ) → Option (List ℕ) → Type 0
-Writes result old new = MatchOption result (WritesFrames old new) (λ _. WritesFront old new)

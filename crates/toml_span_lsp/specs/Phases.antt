@@ -48,19 +48,21 @@ AfterMessage (Invalid id) phase next = next ≡ phase
 abbrev pub HasName : Json → List ℕ → Type 0
 HasName message method = get (codes "method") message ≡ Some (json.string method)
 
--- A JSON value is read as a call only if it is one, and a notification always.
+-- A notification is read as a call without an id, and each such call has this method and no id.
 abbrev pub IsReadAs : Json → Message → Type 0
 IsReadAs value (Call call) = HasName value call.method.now
-    × MatchOption call.id (IsNotification value) (λ _. ¬ IsNotification value)
+    × MatchOption call.id (get (codes "id") value ≡ None) (λ _. get (codes "id") value ≢ None)
 IsReadAs value (Response id result) = ¬ IsNotification value
 IsReadAs value (Invalid id) = ¬ IsNotification value
 
+-- The message is `exit`. Other members than `id` and `method` are left open.
 abbrev pub IsExit : Json → Type 0
-IsExit message = IsNotification message × HasName message (codes "exit")
+IsExit message = (get (codes "id") message ≡ None) × HasName message (codes "exit")
 
--- The phase after a message: `exit` ends the server, and nothing else does.
+-- The phase after a message: the notification `exit` ends the server, and nothing else does.
 abbrev pub Follows : Json → Phase → Phase → Type 0
-Follows message phase next = (IsExit message × (next ≡ ended phase)) ⊎ ((¬ IsExit message)
+Follows message phase next = (IsExit message × (next ≡ ended phase))
+    ⊎ ((¬ (IsNotification message × IsExit message))
     × ((next ≡ phase) ⊎ ((method : List ℕ) × HasName message method × Moves method phase next)))
 
 -- the phase after this content of a frame, if it is JSON

@@ -72,11 +72,17 @@ pub record Streams : Type 0 where
   pub unwritten : Bool
 
 abbrev pub streams : Option (List ℕ) → Bool → Option (List ℕ) → Bool → Streams
-streams left unread written unwritten = record { left = left; unread = unread; written = written; unwritten = unwritten }
+streams left unread written unwritten = record {
+  left = left;
+  unread = unread;
+  written = written;
+  unwritten = unwritten;
+}
 
 -- The server goes on. It reads bytes, takes frames, and writes exactly what these steps send. `held` are the bytes that
 -- have been read but not taken.
-pub record Goes (phase : Phase) (held : List ℕ) (old : Streams) (next : Phase) (held' : List ℕ) (new : Streams) : Type 0 where
+pub record Goes (phase : Phase) (held : List ℕ) (old : Streams) (next : Phase) (held' : List ℕ) (new : Streams) :
+    Type 0 where
   pub read : List ℕ
   pub input : List ℕ
   pub output : List ℕ

@@ -4,7 +4,8 @@ ghost use Rattle.std.specs.List.{flat_map};
 ghost use Rattle.toml_span_lsp.specs.Frames as spec;
 ghost use Rattle.toml_span_lsp.specs.Frames.{WritesFront};
 ghost use Rattle.toml_span_lsp.specs.Phases.{exit_status};
-ghost use Rattle.toml_span_lsp.specs.Served.{BeginsNoFrame, Discards, Ends, Finishes, Handles, IsFramed, Refuses, Serves, streams};
+ghost use Rattle.toml_span_lsp.specs.Served.{BeginsNoFrame, Discards, Ends, Finishes, Handles, IsFramed, Refuses};
+ghost use Rattle.toml_span_lsp.specs.Served.{Serves, streams};
 ghost use Rattle.toml_span_lsp.specs.declared.frames.Framed.TheVariants.{TooLong, Whole};
 ghost use Rattle.toml_span_lsp.specs.declared.state.Phase.{Phase};
 ghost use Rattle.toml_span_lsp.specs.declared.state.Phase.TheVariants.{New};
@@ -102,9 +103,10 @@ fn refusal_frame(alloc: Global) -> Result<Vec<u8>, AllocError>
 fn read_more<R: Source>(reader: &mut R, bytes: &mut Vec<u8>) -> Option<Ended>
     requires { BeginsNoFrame bytes.old.items (Some []) }
     ensures { (phase : Phase) (written : Option (List ℕ)) (unwritten : Bool) → exit_status phase ≡ None
-        → unwritten ≡ false → Serves result
-        phase bytes.old.items (streams (R.remaining reader.old) (R.failed reader.old) written unwritten)
-        phase bytes.new.items (streams (R.remaining reader.new) (R.failed reader.new) written unwritten) }
+        → unwritten ≡ false → Serves result phase bytes.old.items
+        (streams (R.remaining reader.old) (R.failed reader.old) written unwritten)
+        phase bytes.new.items
+        (streams (R.remaining reader.new) (R.failed reader.new) written unwritten) }
 {
     let mut buffer = [0u8; 65536];
     match reader.read(&mut buffer) {
@@ -171,9 +173,10 @@ fn refuse_frame<R: Source, W: Sink>(
     requires frame { IsFramed bytes.old.items (TooLong end) }
     requires long { (more : List ℕ) → BeginsNoFrame bytes.old.items (Some more) }
     requires writer { W.failed writer.old ≡ false }
-    ensures { (phase : Phase) → exit_status phase ≡ None → Serves result
-        phase bytes.old.items (streams (R.remaining reader.old) (R.failed reader.old) (W.contents writer.old) (W.failed writer.old))
-        phase bytes.new.items (streams (R.remaining reader.new) (R.failed reader.new) (W.contents writer.new) (W.failed writer.new)) }
+    ensures { (phase : Phase) → exit_status phase ≡ None → Serves result phase bytes.old.items
+        (streams (R.remaining reader.old) (R.failed reader.old) (W.contents writer.old) (W.failed writer.old))
+        phase bytes.new.items
+        (streams (R.remaining reader.new) (R.failed reader.new) (W.contents writer.new) (W.failed writer.new)) }
 {
     let Ok(out) = refusal_frame(alloc) else {
         return Some(end_with(4, ""));
@@ -199,9 +202,10 @@ fn take_frame<D: Disk, W: Sink>(
     requires phase { exit_status server.old.phase ≡ None }
     requires frame { IsFramed bytes.old.items (Whole span.start span.end) }
     requires writer { W.failed writer.old ≡ false }
-    ensures { (left : Option (List ℕ)) (unread : Bool) → Serves result
-        server.old.phase bytes.old.items (streams left unread (W.contents writer.old) (W.failed writer.old))
-        server.new.phase bytes.new.items (streams left unread (W.contents writer.new) (W.failed writer.new)) }
+    ensures { (left : Option (List ℕ)) (unread : Bool) → Serves result server.old.phase bytes.old.items
+        (streams left unread (W.contents writer.old) (W.failed writer.old))
+        server.new.phase bytes.new.items
+        (streams left unread (W.contents writer.new) (W.failed writer.new)) }
 {
     let Ok(out) = answer(alloc, server, disk, bytes.as_slice(), span, reading) else {
         return Some(end_with(4, ""));
@@ -228,9 +232,10 @@ fn next<D: Disk, R: Source, W: Sink>(
 ) -> Option<Ended>
     requires phase { exit_status server.old.phase ≡ None }
     requires writer { W.failed writer.old ≡ false }
-    ensures { Serves result
-        server.old.phase bytes.old.items (streams (R.remaining reader.old) (R.failed reader.old) (W.contents writer.old) (W.failed writer.old))
-        server.new.phase bytes.new.items (streams (R.remaining reader.new) (R.failed reader.new) (W.contents writer.new) (W.failed writer.new)) }
+    ensures { Serves result server.old.phase bytes.old.items
+        (streams (R.remaining reader.old) (R.failed reader.old) (W.contents writer.old) (W.failed writer.old))
+        server.new.phase bytes.new.items
+        (streams (R.remaining reader.new) (R.failed reader.new) (W.contents writer.new) (W.failed writer.new)) }
 {
     match frame(bytes.as_slice()) {
         Framed::Part => read_more(reader, bytes),
@@ -270,9 +275,10 @@ fn answer_all<D: Disk, R: Source, W: Sink>(
 ) -> Option<Ended>
     requires phase { exit_status server.old.phase ≡ None }
     requires writer { W.failed writer.old ≡ false }
-    ensures { Serves result
-        server.old.phase bytes.old.items (streams (R.remaining reader.old) (R.failed reader.old) (W.contents writer.old) (W.failed writer.old))
-        server.new.phase bytes.new.items (streams (R.remaining reader.new) (R.failed reader.new) (W.contents writer.new) (W.failed writer.new)) }
+    ensures { Serves result server.old.phase bytes.old.items
+        (streams (R.remaining reader.old) (R.failed reader.old) (W.contents writer.old) (W.failed writer.old))
+        server.new.phase bytes.new.items
+        (streams (R.remaining reader.new) (R.failed reader.new) (W.contents writer.new) (W.failed writer.new)) }
 {
     'messages: for _ in 0..u64::MAX {
         if is_over(alloc, server, &reading.name, bytes.as_slice()) {
@@ -299,9 +305,10 @@ fn read_and_answer<D: Disk, R: Source, W: Sink>(
 ) -> Option<Ended>
     requires phase { exit_status server.old.phase ≡ None }
     requires writer { W.failed writer.old ≡ false }
-    ensures { Serves result
-        server.old.phase bytes.old.items (streams (R.remaining reader.old) (R.failed reader.old) (W.contents writer.old) (W.failed writer.old))
-        server.new.phase bytes.new.items (streams (R.remaining reader.new) (R.failed reader.new) (W.contents writer.new) (W.failed writer.new)) }
+    ensures { Serves result server.old.phase bytes.old.items
+        (streams (R.remaining reader.old) (R.failed reader.old) (W.contents writer.old) (W.failed writer.old))
+        server.new.phase bytes.new.items
+        (streams (R.remaining reader.new) (R.failed reader.new) (W.contents writer.new) (W.failed writer.new)) }
 {
     let Ok(Some(text)) = text_of(&server.state, &name) else {
         return Some(end_with(4, ""));
@@ -332,9 +339,10 @@ fn next_reading<D: Disk, R: Source, W: Sink>(
 ) -> Option<Ended>
     requires phase { exit_status server.old.phase ≡ None }
     requires writer { W.failed writer.old ≡ false }
-    ensures { Serves result
-        server.old.phase bytes.old.items (streams (R.remaining reader.old) (R.failed reader.old) (W.contents writer.old) (W.failed writer.old))
-        server.new.phase bytes.new.items (streams (R.remaining reader.new) (R.failed reader.new) (W.contents writer.new) (W.failed writer.new)) }
+    ensures { Serves result server.old.phase bytes.old.items
+        (streams (R.remaining reader.old) (R.failed reader.old) (W.contents writer.old) (W.failed writer.old))
+        server.new.phase bytes.new.items
+        (streams (R.remaining reader.new) (R.failed reader.new) (W.contents writer.new) (W.failed writer.new)) }
 {
     let Ok(text) = next_text(alloc, server, bytes.as_slice()) else {
         return Some(end_with(4, ""));
@@ -358,7 +366,8 @@ pub fn serve<D: Disk, R: Source, W: Sink>(
     ensures frames { WritesFront (W.contents writer.old) (W.contents writer.new) }
     ensures served { Ends New []
         (streams (R.remaining reader.old) (R.failed reader.old) (W.contents writer.old) (W.failed writer.old))
-        (streams (R.remaining reader.new) (R.failed reader.new) (W.contents writer.new) (W.failed writer.new)) result.status }
+        (streams (R.remaining reader.new) (R.failed reader.new) (W.contents writer.new) (W.failed writer.new))
+        result.status }
 {
     let mut server = Server::new(alloc);
     let mut bytes = Vec::new(alloc);

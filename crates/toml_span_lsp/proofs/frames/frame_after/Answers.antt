@@ -25,5 +25,5 @@ returns-in-Some-clause-frame c = λ content more rest short is at.
 
 pub returns-in-Some-clause-framed : goal.returns-in-Some-clause-framed
 returns-in-Some-clause-framed c =
-    let headers = (c.requires.headers, λ m small is. same_Some _ _ (c.in-Some.ensures m small (c.in-Ok.ensures.cases.0 ∙ is))) in
-    framed_from c.args.bytes.now c.args.start c.in-Some.length _ c.content.ensures.fits c.requires.within headers
+    framed_from c.args.bytes.now c.args.start c.in-Some.length _ c.content.ensures.fits c.requires.within
+    (c.requires.headers, λ m small is. same_Some _ _ (c.in-Some.ensures m small (c.in-Ok.ensures.cases.0 ∙ is)))

@@ -1,10 +1,8 @@
-use Rattle.toml_span_lex.proofs.Common.{◌∙◌, ap, refl, sym}
-use Rattle.toml_span_lsp.specs.Phases.{exit_status}
-use Rattle.toml_span_lsp.proofs.Served.{ends_front, ends_memory, ends_then, goes_stay, goes_then, status_bound}
+use Rattle.toml_span_lsp.proofs.Served.{ends_front, ends_memory, ends_status, ends_then, goes_start, goes_then}
 use Rattle.toml_span_lsp.proofs.server.serve.Goals as goal
 
 pub messages-init : goal.messages-init
-messages-init g c = goes_stay _ _ _ (ap exit_status c.new-server.ensures) c.requires
+messages-init g c = goes_start _ _ _ c.new-server.ensures c.new-bytes.ensures.items c.requires
 
 pub next_reading-requires-clause-phase : goal.next_reading-requires-clause-phase
 next_reading-requires-clause-phase g c = c.messages.invariant.goes_on
@@ -15,11 +13,18 @@ next_reading-requires-clause-writer g c = c.messages.invariant.good
 pub messages-preserved : goal.messages-preserved
 messages-preserved g c = goes_then _ _ _ _ _ _ _ _ _ c.messages.invariant c.in-None.ensures
 
-pub returns-in-Some-clause-served : goal.returns-in-Some-clause-served
-returns-in-Some-clause-served g c = ends_then _ _ _ _ _ _ _ _ c.messages.invariant c.in-Some.ensures
+pub returns-in-Some-clause-status : goal.returns-in-Some-clause-status
+returns-in-Some-clause-status g c = ends_status _ _ _ _ _ c.in-Some.ensures
 
 pub returns-in-Some-clause-frames : goal.returns-in-Some-clause-frames
 returns-in-Some-clause-frames g c = ends_front _ _ _ _ _ (ends_then _ _ _ _ _ _ _ _ c.messages.invariant c.in-Some.ensures)
 
-pub returns-in-Some-clause-status : goal.returns-in-Some-clause-status
-returns-in-Some-clause-status g c = let e = c.in-Some.ensures in status_bound e.last e.rest _ _ e.reason
+pub returns-in-Some-clause-served : goal.returns-in-Some-clause-served
+returns-in-Some-clause-served g c = ends_then _ _ _ _ _ _ _ _ c.messages.invariant c.in-Some.ensures
+
+pub returns-clause-frames : goal.returns-clause-frames
+returns-clause-frames g c =
+    ends_front _ _ _ _ _ (ends_then _ _ _ _ _ _ _ _ c.messages.invariant (ends_memory _ _ _ _ _ _ _ c.end_with.ensures))
+
+pub returns-clause-served : goal.returns-clause-served
+returns-clause-served g c = ends_then _ _ _ _ _ _ _ _ c.messages.invariant (ends_memory _ _ _ _ _ _ _ c.end_with.ensures)

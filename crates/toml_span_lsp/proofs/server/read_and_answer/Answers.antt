@@ -1,0 +1,14 @@
+use Rattle.toml_span_lsp.proofs.Served.{ends_memory}
+use Rattle.toml_span_lsp.proofs.server.read_and_answer.Goals as goal
+
+pub returns-in_default : goal.returns-in_default
+returns-in_default g c = ends_memory _ _ _ _ _ _ _ c.end_with.ensures
+
+pub returns-in_default-read : goal.returns-in_default-read
+returns-in_default-read g c = ends_memory _ _ _ _ _ _ _ c.end_with-in_default-read.ensures
+
+pub returns-in_default-kept_of : goal.returns-in_default-kept_of
+returns-in_default-kept_of g c = ends_memory _ _ _ _ _ _ _ c.end_with-in_default-kept_of.ensures
+
+pub returns-in_default-reading_of : goal.returns-in_default-reading_of
+returns-in_default-reading_of g c = ends_memory _ _ _ _ _ _ _ c.end_with-in_default-reading_of.ensures
