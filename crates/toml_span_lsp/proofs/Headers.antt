@@ -69,14 +69,17 @@ headers_at bytes tail at from within here first =
     let more = drop (at + 1) bytes in
     let four : at + 1 ≡ (at - 3) + length stop = let four : length stop ≡ 4 = refl in omega arith in
     let is : take (at + 1) bytes ≡ lines ++ stop =
-    ap (λ k. take k bytes) four ∙ take-add (at - 3) (length stop) bytes ∙ ap (λ xs. lines ++ take (length stop) xs) here ∙ ap (λ xs. lines ++ xs) (take-append_seam stop tail) in
-    (lines, is, λ before after other.
-    let whole : bytes ++ [] ≡ before ++ (stop ++ (after ++ more)) =
-    append-nil bytes ∙ sym (take-append-drop (at + 1) bytes) ∙ ap (λ xs. xs ++ more) other ∙ append_assoc before (stop ++ after) more ∙ ap (λ xs. before ++ xs) (append_assoc stop after more) in
-    let low = first before [] (after ++ more) whole in
-    let long = sym (length-take-le (at + 1) bytes (omega arith)) ∙ ap length other ∙ length-append before (stop ++ after) in
-    let four : length (stop ++ after) ≡ 4 + length after = length-append stop after in
-    nil_from_length after (omega arith))
+    ap (λ k. take k bytes) four ∙ take-add (at - 3) (length stop) bytes ∙ ap (λ xs. lines ++ take (length stop) xs) here ∙ ap (λ xs. lines ++ xs) (take-append_seam stop tail) in (
+      lines,
+      is,
+      λ before after other.
+          let whole : bytes ++ [] ≡ before ++ (stop ++ (after ++ more)) =
+          append-nil bytes ∙ sym (take-append-drop (at + 1) bytes) ∙ ap (λ xs. xs ++ more) other ∙ append_assoc before (stop ++ after) more ∙ ap (λ xs. before ++ xs) (append_assoc stop after more) in
+          let low = first before [] (after ++ more) whole in
+          let long = sym (length-take-le (at + 1) bytes (omega arith)) ∙ ap length other ∙ length-append before (stop ++ after) in
+          let four : length (stop ++ after) ≡ 4 + length after = length-append stop after in
+          nil_from_length after (omega arith),
+    )
 
 -- no empty line ends here
 pub ends_later : (head rest bytes more s : List ℕ) (at : ℕ) (r : Bool) → bytes ++ more ≡ head ++ (codes "\r\n\r\n" ++ rest)

@@ -48,9 +48,7 @@ fn write_request(
         return Ok(());
     }
     match method_named(call.method) {
-        Some(method) => {
-            write_result(alloc, &mut server.state, method, call.params, known, out)
-        }
+        Some(method) => { write_result(alloc, &mut server.state, method, call.params, known, out) }
         None => Err(refused(alloc, METHOD_NOT_FOUND, "the method is not known")),
     }
 }

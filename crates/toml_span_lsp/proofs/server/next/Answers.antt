@@ -19,5 +19,7 @@ take_frame-requires-clause-frame g c =
     framed_as _ c.as_slice.result.now _ _ c.as_slice.ensures.value c.in-Whole.is c.frame.ensures.framed
 
 pub returns-in-Fault : goal.returns-in-Fault
-returns-in-Fault g c = ends_stay _ c.args.bytes.now.items [] _ _ _ _ _ _ _ (Consumes-nil _) (inr (inr (inl (c.end_with.ensures,
-    no_frame_after _ [] _ (λ more. no_frame_fault _ c.as_slice.result.now more _ _ c.as_slice.ensures.value c.frame.ensures.frame c.in-Fault.is)))))
+returns-in-Fault g c = ends_stay _ c.args.bytes.now.items [] _ _ _ _ _ _ _ (Consumes-nil _) (inr (inr (inl (
+  c.end_with.ensures,
+  no_frame_after _ [] _ (λ more. no_frame_fault _ c.as_slice.result.now more _ _ c.as_slice.ensures.value c.frame.ensures.frame c.in-Fault.is),
+))))
