@@ -19,7 +19,7 @@ const HEADERS: usize = 8192;
 pub enum FrameFault {
     /// The headers are longer than 8 KiB, or are not valid UTF-8.
     Headers,
-    /// There is no header `Content-Length`, or its value is not a number.
+    /// There is no header `Content-Length`, or its value is not a number or too large.
     Length,
 }
 

@@ -29,8 +29,8 @@ use toml_span_lookup::disk::Disk;
 #[derive(Clone, Copy, Debug, PartialEq, Eq)]
 pub struct Ended {
     /// The exit status: 0 after `shutdown` and `exit`, 1 if the client left without one of them, 2 if the input is not
-    /// a sequence of whole frames, 3 if a read or a write failed, or 4 if an allocation failed or no number was left to
-    /// count messages with.
+    /// a sequence of whole frames, 3 if a read or a write failed, or 4 if an allocation failed or 2^64 - 1 steps were
+    /// made.
     pub status: u8,
     /// What was wrong, or an empty text.
     pub reason: &'static str,
