@@ -82,7 +82,7 @@ commit() { git -C "$repository" init -q && git -C "$repository" add . &&
     git -C "$repository" -c user.name=n -c user.email=e commit -qm one; }
 cli() { bash "$repository/scripts/toml-span.sh" "$@"; }
 tries() { [ "$(wc -l <"$TRIES")" -eq "$1" ]; }
-is_clean() { [ -z "$(find "$repository" "$HOME" -name '.build-*')" ]; }
+is_clean() { [ -z "$(find "$TMPDIR" -maxdepth 1 -name 'toml_span-build-*')" ]; }
 object() { mkdir -p "$crate/out" && cc -x c -c -o "$crate/out/toml_span_cli.o" "${1--}"; } # [FILE]: a proved build
 stays() { cp -r prefix before && ! "$@" && diff -r before prefix && rm -r before; } # COMMAND..: fails, changes nothing
 offers() { # WORD..: what bash completes the last one to
@@ -121,7 +121,8 @@ committed() { # TEXT: commits a file with the hook of the page
 if ! command -v node >/dev/null; then
     echo "SKIPPED: the extension of VS Code was not tested, since there is no node (Debian: nodejs)"
 fi
-mkdir "$work/real"
+export TMPDIR=$work/tmp
+mkdir "$work/real" "$TMPDIR"
 ln -s "$(HOME=$real_home PATH=$real_path bash "$top/scripts/native.sh" toml_span_cli)" "$work/real/toml-span"
 
 cd "$work" || exit
@@ -233,7 +234,7 @@ or is replaced, and what was proved stays|0||
     mkdir flat/toml_span/out; vendor --replace flat && cmp {"$repository/crates",flat}/toml_span/src/lib.rt &&
     ls flat/toml_span/out
 no such library|2|no library is named cli|vendor flat cli
-all that load, serde and places need|0||
+all that load, serde and places need|0|as in `app: toml_span_load toml_span_serde toml_span_places serde`|
     bash "$top/scripts/vendor.sh" all load serde places && for one in $(tr -d : <all/crates.txt | tr ' ' '\n' |
     grep toml_span); do ls -d "all/crates/$one" || exit; done
 the hook of docs/CI.md passes files without errors|0||committed 'a = 1'
@@ -241,7 +242,7 @@ and refuses others|1|^./a b/c.toml:2:1: duplicate-key|committed $'a = 1\na = 2'
 the command for CI|123|^a b/c.toml:2:1: duplicate-key|committed $'a = 1\na = 2'; page xargs | sh
 the main of docs/CALLING.md has no type error|0||
     PATH=$real_path; bash "$top/scripts/vendor.sh" calls toml_span toml_span_load && cd calls &&
-    echo 'app: toml_span toml_span_typed toml_span_load' >>crates.txt && mkdir -p crates/app/src &&
+    echo 'app: toml_span toml_span_load' >>crates.txt && mkdir -p crates/app/src &&
     cp "$top/examples/app/main.txt" crates/app/src/main.rt && cp "$top/crates/toml_span_example/stdin" settings.toml &&
     cp "$top/crates/toml_span_example/src/settings.rt" crates/app/src && python3 scripts/toml_span/check_types.py app
 and builds and runs|1|^duplicate name: `a`|
@@ -254,7 +255,7 @@ the main of docs/EDITING.md has no type error|0||
 a type error is reported|1|^src/main.rt:[0-9:]* error.unsatisfied-bound|
     PATH=$real_path; cd calls && sed -i 's/u8::from(!is_right)/is_right/' crates/app/src/main.rt &&
     python3 scripts/toml_span/check_types.py app
-a range of a float is refused, with what to write|1|give it a type of your own|
+the bounds of a range of floats are floats|1|help: write a float literal|
     PATH=$real_path; cd calls && sed -i 's/Option<u8>/Option<f64>/' crates/app/src/settings.rt &&
     python3 scripts/toml_span/check_types.py app
 the toolchain that is here builds|7||

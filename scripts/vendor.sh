@@ -100,4 +100,8 @@ mkdir -p -- "$destination/scripts/toml_span" &&
     cp -- "${script%/*}"/{{common,native,vendor}.sh,check_types.py} "$destination/scripts/toml_span" ||
     cannot "$destination/scripts"
 cp -- "$work/crates.txt" "$destination/crates.txt" || cannot "$destination/crates.txt"
+for name in "${names[@]}"; do
+    # (derives name it)
+    if [ "$name" = toml_span_serde ]; then names+=(serde); fi
+done
 echo "To use them, name them in the line of your crate in $destination/crates.txt, as in \`app: ${names[*]}\`."

@@ -1,12 +1,15 @@
 -- All errors of a text.
-use Rattle.toml_span_lex.proofs.Common.{◌≡◌, ◌≤◌, ◌++◌, ◌∷◌, ◌∙◌, ℕ, Bool, List, [], Option, Some, None, Result, Ok, Err, IfOk, AllocError, Global, Vec, map, length, refl, subst, sym, ap, arith, nat_tests, common_steps}
+use Rattle.toml_span_lex.proofs.Common.{◌≡◌, ◌≤◌, ◌++◌, ◌∷◌, ◌∙◌, ℕ, Bool, List, [], Option, Some, None, Result, Ok, Err, IfOk, AllocError, Global, Vec, map, length, inl, refl, subst, sym, ap, arith, nat_tests, common_steps}
 use Rattle.toml_span_lex.specs.Stop.{fault_of}
 use Rattle.toml_span_lex.specs.declared.stop.Stop.{Stop}
 use Rattle.toml_span_lex.specs.declared.stop.Stop.TheVariants as stops
 use Rattle.toml_span_tree.specs.declared.error.Error.{Error}
 use Rattle.toml_span_tree.specs.declared.value.Value.{Value}
-use Rattle.toml_span_tree.specs.Error.{content_of, kind_of}
+use Rattle.toml_span_lex.specs.declared.span.Span.{Span}
+use Rattle.toml_span_tree.specs.Error.{ErrorContent, content_of, kind_of}
 use Rattle.toml_span_read.specs.Data.{depth_limit}
+use Rattle.toml_span_read.specs.Faults.{StartsInside}
+use Rattle.toml_span_read.specs.Reading.{ReadsDocument, RefusedInside}
 use Rattle.toml_span.specs.Parsing.{IsParseResult, IsRefusal, IsTree}
 use Rattle.toml_span_report.specs.Report.{ReportContent, report_content}
 use Rattle.toml_span_report.specs.declared.report.Report.{Report}
@@ -17,7 +20,7 @@ use Rattle.toml_span_syntax.specs.declared.statements.Statement.{Statement}
 use Rattle.toml_span_check.specs.Fixable.{IsSettled}
 use Rattle.toml_span_check.specs.Statements.{extent_of}
 use Rattle.toml_span_check.specs.Every.{Adds, AddsError, Checks, Finds, IsRead, Progress, Source, all, clash, extent, is_clash, many, most, none, reading, rest, too_many, valid}
-use Rattle.toml_span_check.specs.code.Every.{IsErrorOf, IsNextError}
+use Rattle.toml_span_check.specs.code.Every.{IsErrorOf, IsNextError, IsRefusedAt}
 use Rattle.toml_span_check.specs.declared.every.ErrorAt.{ErrorAt}
 use Rattle.toml_span_check.specs.declared.statements.Extent.{Extent}
 
@@ -29,6 +32,15 @@ error_in other (Err x) = other
 pub refused : (text : List ℕ) (stop : Stop Error) (error : Error) → IsParseResult text depth_limit (Err stop) → Ok error ≡ fault_of stop → IsRefusal text depth_limit (stops.Fault error)
 refused text (stops.Fault e) error answers is = subst (λ (x : Error). IsParseResult text depth_limit (Err (stops.Fault x))) (sym (ap (error_in e) is)) answers
 refused text (stops.Memory e) error answers is = grind (arith, nat_tests, common_steps)
+
+-- `parse` fails with the fault with which `read_sections` fails
+pub refused_reading : (text : List ℕ) (stop : Stop Error) (error : Error) → ReadsDocument text depth_limit (Err stop) → RefusedInside text (Err stop) → Ok error ≡ fault_of stop →
+    IsRefusal text depth_limit (stops.Fault error)
+refused_reading text (stops.Fault e) error read inside is =
+    let span : inside.0.span ≡ read.0.span = ap (λ (c : ErrorContent). c.span) (sym inside.2 ∙ read.2) in
+    subst (λ (x : Error). IsRefusal text depth_limit (stops.Fault x)) (sym (ap (error_in e) is))
+    (inl (read.0, read.1, (subst (λ (s : Span). StartsInside text s) span inside.1, read.2)))
+refused_reading text (stops.Memory e) error read inside is = grind (arith, nat_tests, common_steps)
 
 -- what is found in a copy is one more error of it
 adds_error : (source : Source) (copy : List ℕ) (from : ℕ) (error : Error) (made : ErrorAt) (p q : Progress) → IsRefusal copy depth_limit (stops.Fault error) → IsErrorOf source copy from error made →
@@ -53,10 +65,9 @@ pub finds_first : (source : Source) (error : Error) (made : ErrorAt) (p q : Prog
 finds_first source error made p q refusal is found same adds =
     clash p q found (subst (λ (copy : List ℕ). AddsError source 0 copy p q) (sym same) (adds_error source source.text 0 error made p q refusal is adds))
 
-pub finds_reading : (source : Source) (copy : List ℕ) (field : Option ErrorAt) (made : ErrorAt) (p q : Progress) → Finds source p → copy ≡ rest source p.next → IsNextError source copy p.next field → field ≡ Some made →
+pub finds_reading : (source : Source) (copy : List ℕ) (made : ErrorAt) (p q : Progress) → Finds source p → copy ≡ rest source p.next → IsRefusedAt source copy p.next made →
     Adds source made.extent (report_content made.report) made.place p q → Finds source q
-finds_reading source copy field made p q found same judged is adds =
-    let j = subst (λ (f : Option ErrorAt). IsNextError source copy p.next f) is judged in
+finds_reading source copy made p q found same j adds =
     reading p q found (subst (λ (k : List ℕ). AddsError source p.next k p q) same (adds_error source copy p.next j.0 made p q j.1 j.2 adds))
 
 pub finds_clash : (source : Source) (copy : List ℕ) (field : Option ErrorAt) (made : ErrorAt) (p q : Progress) → Finds source p → copy ≡ p.blanked → IsNextError source copy 0 field → field ≡ Some made →

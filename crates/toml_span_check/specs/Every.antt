@@ -127,3 +127,7 @@ pub data Checks (text : List ℕ) : List ReportContent → Type 0 where
   many : (source : Source) (p : Progress) (error : Error) → source.text ≡ text → IsRead source → Finds source p
       → IsRefusal p.blanked depth_limit (Fault error) → most (length text) ≤ length p.places
       → Checks text (p.reports ++ too_many ∷ [])
+
+-- `parse` refuses the text, and these are the reports of its errors.
+abbrev pub HasErrors : List ℕ → List ReportContent → Type 0
+HasErrors text reports = ((error : Error) × IsRefusal text depth_limit (Fault error)) × Checks text reports

@@ -1,26 +1,31 @@
 //! Finds the errors of a text, not only the first.
-ghost use Rattle.std.specs.Prelude.{◌≡◌, ◌∷◌, ◌++◌, [], IfOk, OnOk, map, length, nat_le, string_bytes};
+ghost use Rattle.std.specs.Prelude.{◌≡◌, ◌∷◌, ◌++◌, [], IfErr, IfOk, IfSome, OnOk, map, length, nat_le, string_bytes};
 ghost use Rattle.std.specs.Str.{IsCharBoundary};
+ghost use Rattle.toml_span_lex.specs.Stop.{fault_of};
 ghost use Rattle.toml_span_lex.specs.declared.stop.Stop.TheVariants.{Fault};
-ghost use Rattle.toml_span.specs.Parsing.{IsRefusal};
+ghost use Rattle.toml_span.specs.Parsing.{IsRefusal, IsTree};
 ghost use Rattle.toml_span_read.specs.Data.{depth_limit};
 ghost use Rattle.toml_span_report.specs.Report.{report_content};
 ghost use Rattle.toml_span_tree.specs.Error.{kind_of};
 ghost use Rattle.toml_span_check.specs.Every as spec;
 ghost use Rattle.toml_span_check.specs.Every.{Adds, AddsReport, Checks, Finds, IsRead};
-ghost use Rattle.toml_span_check.specs.code.Every.{IsErrorOf, IsNextError, progress, source_of};
+ghost use Rattle.toml_span_check.specs.code.Every.{IsErrorOf, IsNextError, IsRefusedAt, progress, source_of};
 
 use crate::fixable::settled;
 use crate::statements::{Extent, extent_of, offset_of};
 use std::alloc::{AllocError, Global};
 use toml_span::de::parse;
-use toml_span::{Error, ErrorKind};
+use toml_span::{Error, ErrorKind, Stop, Value};
 use toml_span_mistakes::error_report;
+use toml_span_read::read_sections;
 use toml_span_report::Report;
 use toml_span_safety::drafts::{Reading, read};
 
 /// The maximum number of errors to look for.
 const MOST: usize = 100;
+
+/// The limit on the depth of values and on the number of parts of a key, as in `parse`.
+const DEPTH_LIMIT: usize = 128;
 
 /// The maximum product of the number of errors to look for and the text's length in bytes. Each error may need another
 /// parse of the text.
@@ -131,6 +136,27 @@ fn next_error(
     }
 }
 
+/// Reads `copy`, a copy of the text, without a search for clashes. Returns its first fault as `error_at` does, or `None`
+/// if it has no fault.
+fn next_fault(
+    alloc: Global,
+    text: &str,
+    reading: &Reading,
+    copy: &str,
+    from: usize,
+) -> Result<Option<ErrorAt>, AllocError>
+    ensures { IfOk result (λ next. IfSome next (IsRefusedAt (source_of text.now reading.now) copy.now from)) }
+{
+    match read_sections(alloc, copy, DEPTH_LIMIT) {
+        Ok(_) => Ok(None),
+        Err(stop) => {
+            let error = stop.fault()?;
+            let next = error_at(alloc, text, reading, copy, from, &error)?;
+            Ok(Some(next))
+        }
+    }
+}
+
 /// Adds `report`, unless an error has already been found at the offset `place`. Adds `place` to `found.places` in
 /// either case.
 fn push_new(found: &mut Found, report: Report, place: usize) -> Result<(), AllocError>
@@ -194,7 +220,7 @@ fn with_faults(
         let from = found.next;
         let at = offset_of(text, reading.pieces.as_slice(), from);
         let copy = blanked(alloc, text, 0, at)?;
-        let next = match next_error(alloc, text, reading, copy.as_str(), from)? {
+        let next = match next_fault(alloc, text, reading, copy.as_str(), from)? {
             Some(next) => next,
             None => return Ok(found),
         };
@@ -262,6 +288,23 @@ pub(crate) fn errors_from(
     with_clashes(alloc, text, &reading, found)
 }
 
+/// Parses a text as `parse` does. Fails with the reports of all errors of the text, as `check` returns them, or with
+/// `Stop::Memory` if an allocation fails.
+pub fn parse_with_reports<'t>(alloc: Global, text: &'t str) -> Result<Value<'t>, Stop<Vec<Report>>>
+    ensures tree { IfOk result (IsTree text.now depth_limit) }
+    ensures reports { IfErr result (λ stop. IfOk (fault_of stop) (λ reports. spec.HasErrors text.now
+        (map report_content reports.items))) }
+{
+    match parse(alloc, text) {
+        Ok(root) => Ok(root),
+        Err(Stop::Memory(error)) => Err(Stop::Memory(error)),
+        Err(Stop::Fault(error)) => match errors_from(alloc, text, &error) {
+            Ok(reports) => Err(Stop::Fault(reports)),
+            Err(error) => Err(Stop::Memory(error)),
+        },
+    }
+}
+
 /// Returns the reports of the errors of a text, not only of the first. The list is empty if and only if `parse` returns
 /// a tree. Otherwise the first report is about the error that `parse` returns.
 ///
@@ -280,11 +323,9 @@ pub(crate) fn errors_from(
 pub fn check(alloc: Global, text: &str) -> Result<Vec<Report>, AllocError>
     ensures { IfOk result (λ reports. Checks text.now (map report_content reports.items)) }
 {
-    match parse(alloc, text) {
+    match parse_with_reports(alloc, text) {
         Ok(_) => Ok(Vec::new(alloc)),
-        Err(stop) => {
-            let error = stop.fault()?;
-            errors_from(alloc, text, &error)
-        }
+        Err(Stop::Memory(error)) => Err(error),
+        Err(Stop::Fault(reports)) => Ok(reports),
     }
 }

@@ -6,7 +6,7 @@ use Rattle.toml_span_lex.specs.declared.stop.Stop.{Stop}
 use Rattle.toml_span_lex.specs.declared.stop.Stop.TheVariants as stops
 use Rattle.toml_span_edit.specs.Drafts.{AreSegments, IsEditedAt, IsRefusedAfter, IsSetToString, IsStringRefused}
 use Rattle.toml_span_edit.specs.Edited.{EditMade}
-use Rattle.toml_span_edit.specs.Refused.{IsRefusedAt}
+use Rattle.toml_span_edit.specs.Refused.{IsRefusedAs}
 use Rattle.toml_span_edit.specs.declared.edits.Change.{Change}
 use Rattle.toml_span_edit.specs.declared.edits.Change.TheVariants as changes
 use Rattle.toml_span_edit.specs.declared.edits.Edit.{Edit}
@@ -25,11 +25,11 @@ set_to_string path string text value bytes (Ok d) reads h = (value, reads, h)
 set_to_string path string text value bytes (Err x) reads h = tt
 
 pub refused : {T : Type 0} (count : ℕ) (path : List ℕ) (change : Change) (text : List ℕ) (e : Edit) (r : Result T (Stop EditError)) →
-    AreSegments path (map (λ s. s.now) e.path.now) → e.change ≡ change → IfErr r (IsRefusedAt count e text) →
+    AreSegments path (map (λ s. s.now) e.path.now) → e.change ≡ change → IfErr r (IsRefusedAs count path e text) →
     IfErr r (IsRefusedAfter count path change text)
 refused count path change text e (Ok new) segments same is = tt
 refused count path change text e (Err (stops.Memory x)) segments same is = tt
-refused count path change text e (Err (stops.Fault x)) segments same (at, edit) = (at, inr (e, segments, same, edit))
+refused count path change text e (Err (stops.Fault x)) segments same (at, named, edit) = (at, named, inr (e, segments, same, edit))
 
 pub string_refused : {T : Type 0} (count : ℕ) (path string text : List ℕ) (value : Bor (List ℕ)) (r : Result T (Stop EditError)) →
     ReadsAsString string value.now → IfErr r (IsRefusedAfter count path (changes.Set value) text) →

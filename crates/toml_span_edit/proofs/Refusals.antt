@@ -1,5 +1,6 @@
 -- Edits that are refused.
-use Rattle.toml_span_lex.proofs.Common.{arith, ◌≡◌, ◌<◌, ◌∙◌, inl, inr, sym, ap, ℕ, ◌+◌, List, ◌∷◌, ◌++◌, length, take, drop, drop_more, take-append-drop, get_or, map, false, Result, Ok, Err, IfErr, IfOk, String, Global, string_bytes, length-take-le, Bor, subst}
+use Rattle.toml_span_lex.proofs.Common.{arith, ◌≡◌, ◌<◌, ◌∙◌, inl, inr, refl, sym, ap, ℕ, ◌+◌, List, ◌∷◌, ◌++◌, length, take, drop, drop_more, take-append-drop, get_or, map, false, Result, Ok, Err, IfErr, IfOk, String, Global, string_bytes, length-take-le, Bor, subst}
+use Rattle.std.specs.declared.alloc.AllocError.{AllocError}
 use Rattle.toml_span_lex.specs.declared.stop.Stop.{Stop}
 use Rattle.toml_span_lex.specs.declared.stop.Stop.TheVariants as stops
 use Rattle.toml_span_read.specs.Data.{depth_limit}
@@ -10,7 +11,7 @@ use Rattle.toml_span.specs.Parsing.{IsTree}
 use Rattle.toml_span_edit.specs.Edited.{EditsMade}
 use Rattle.toml_span_edit.specs.Kept.{Keeps}
 use Rattle.toml_span_edit.specs.Paths.{Path}
-use Rattle.toml_span_edit.specs.Refused.{AreRefused, CannotMakeOver, IsFinished, IsOfResult, IsRefused, IsRefusedAt, IsRefusedChange, IsTrueReason, IsUnread, IsUnwritten, UnlessMemory, is_there}
+use Rattle.toml_span_edit.specs.Refused.{AreRefused, CannotMakeOver, IsFinished, IsOfResult, IsRefused, IsRefusedAs, IsRefusedAt, IsRefusedChange, IsTrueReason, IsUnread, IsUnwritten, UnlessMemory, is_there, refusal}
 use Rattle.toml_span_edit.specs.declared.edits.Change.{Change}
 use Rattle.toml_span_edit.specs.declared.edits.Change.TheVariants as changes
 use Rattle.toml_span_edit.specs.declared.edits.Edit.{Edit}
@@ -82,7 +83,14 @@ edits_refused es i d text before (stops.Fault error) h done r =
     let split : es ≡ take i es ++ (get_or es i d ∷ drop (i + 1) es) =
     sym (take-append-drop i es) ∙ ap (λ (l : List Edit). take i es ++ l) (drop_more es i d h) in
     let size : i ≡ length (take i es) = sym (length-take-le i es (omega (arith, h))) in
-    (take i es, drop (i + 1) es, get_or es i d, before, split, done, r.0 ∙ size, r.1)
+    (take i es, drop (i + 1) es, get_or es i d, before, split, done, r.0 ∙ size, r.1, r.2)
+
+-- the error of an edit that is refused has its position and its path
+pub refused_as : (index : ℕ) (path : Result (String Global) AllocError) (name : List ℕ) (e : Edit) (text : List ℕ) (stop : Stop Reason) →
+    IfOk path (λ p. string_bytes p ≡ name) → IsRefused e text stop → IsRefusedAs index name e text (refusal index path stop)
+refused_as index (Ok path) name e text (stops.Fault reason) same refused = (refl, same, refused)
+refused_as index (Err error) name e text (stops.Fault reason) same refused = tt
+refused_as index path name e text (stops.Memory error) same refused = tt
 
 pub finished : (es : List Edit) (text : List ℕ) (r : Result (String Global) (Stop EditError)) →
     IfOk r (λ new. EditsMade es text (string_bytes new)) → IfErr r (AreRefused es text) → IsFinished es text r

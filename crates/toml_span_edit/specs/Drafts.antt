@@ -1,5 +1,5 @@
 -- What edits at a path that is written as text do.
-use Rattle.std.specs.Prelude.{◌≡◌, ⊤, ◌⊎◌, ℕ, List, Ok, Err, map}
+use Rattle.std.specs.Prelude.{◌≡◌, ⊤, ◌⊎◌, ℕ, List, Ok, Err, map, string_bytes}
 use Rattle.std.specs.Borrow.{Bor}
 use Rattle.toml_span_lex.specs.declared.stop.Stop.{Stop}
 use Rattle.toml_span_lex.specs.declared.stop.Stop.TheVariants as stops
@@ -37,10 +37,11 @@ abbrev pub IsOfPath : Reason → List ℕ → Type 0
 IsOfPath (reasons.InvalidPath message) path = (error : PathError) × IsPath path (Err error)
 IsOfPath _ path = ⊥
 
--- The path can't be read, and the error has the number of edits made before. Or an allocation failed.
+-- The path can't be read, and the error has the number of edits made before, and the path. Or an allocation failed.
 abbrev pub IsUnreadPath : ℕ → List ℕ → Stop EditError → Type 0
 IsUnreadPath count path (stops.Memory error) = ⊤
-IsUnreadPath count path (stops.Fault error) = (error.edit ≡ count) × IsOfPath error.reason path
+IsUnreadPath count path (stops.Fault error) =
+    (error.edit ≡ count) × (string_bytes error.path ≡ path) × IsOfPath error.reason path
 
 -- This change of the text at the path is refused for a reason that is true of it: the path can't be read, or the edit at
 -- its segments is refused.
@@ -49,11 +50,11 @@ IsRefusedFor reason path change text =
     IsOfPath reason path
     ⊎ ((e : Edit) × AreSegments path (map (λ s. s.now) e.path.now) × (e.change ≡ change) × IsRefusedEdit e text reason)
 
--- The change is refused, and the error has the number of edits made before. Or an allocation failed.
+-- The change is refused, and the error has the number of edits made before, and the path. Or an allocation failed.
 abbrev pub IsRefusedAfter : ℕ → List ℕ → Change → List ℕ → Stop EditError → Type 0
 IsRefusedAfter count path change text (stops.Memory error) = ⊤
 IsRefusedAfter count path change text (stops.Fault error) =
-    (error.edit ≡ count) × IsRefusedFor error.reason path change text
+    (error.edit ≡ count) × (string_bytes error.path ≡ path) × IsRefusedFor error.reason path change text
 
 -- Writing a value over the value at the path is refused. In TOML, that value is this string. Or an allocation failed.
 abbrev pub IsStringRefused : ℕ → List ℕ → List ℕ → List ℕ → Stop EditError → Type 0

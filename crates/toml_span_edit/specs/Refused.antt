@@ -3,6 +3,8 @@ use Rattle.std.specs.Prelude.{◌≡◌, ⊤, ℕ, ◌⊎◌, List, [], ◌∷�
 use Rattle.std.specs.Prelude.{◌==◌, ◌&&◌}
 use Rattle.std.specs.Prelude.{option_and_then, Result, Ok, Err, String, string_bytes}
 use Rattle.std.specs.Global.{Global}
+use Rattle.std.specs.List.{flat_map}
+use Rattle.std.specs.declared.alloc.AllocError.{AllocError}
 use Rattle.toml_span_lex.specs.declared.stop.Stop.{Stop}
 use Rattle.toml_span_lex.specs.declared.stop.Stop.TheVariants as stops
 use Rattle.toml_span_read.specs.Data.{depth_limit}
@@ -12,6 +14,7 @@ use Rattle.toml_span_tree.specs.declared.error.Error.{Error}
 use Rattle.toml_span_tree.specs.declared.value.Value.{Value}
 use Rattle.toml_span.specs.Parsing.{IsRefusal, IsTree}
 use Rattle.toml_span_places.specs.Literals.{literal_span}
+use Rattle.toml_span_places.specs.Quoted.{key_text}
 use Rattle.toml_span_edit.specs.Edited.{EditsMade}
 use Rattle.toml_span_edit.specs.Kept.{IsWrittenOver, Keeps}
 use Rattle.toml_span_edit.specs.Made.{at, child, within}
@@ -156,10 +159,35 @@ abbrev pub IsRefused : Edit → List ℕ → Stop Reason → Type 0
 IsRefused e text (stops.Memory error) = ⊤
 IsRefused e text (stops.Fault reason) = IsRefusedEdit e text reason
 
--- The edit is refused, and the error has its position in the list.
+-- the segments, each in quotes if necessary and with a dot before it
+abbrev pub more_text : Path → List ℕ
+more_text path = flat_map (λ segment. codes "." ++ key_text segment) path
+
+-- the path as text: its segments with dots between them, each in quotes if necessary
+abbrev pub path_text : Path → List ℕ
+path_text [] = []
+path_text (segment ∷ path) = key_text segment ++ more_text path
+
+-- the error of the edit with this position and path, which was refused; or a failed allocation
+abbrev pub refusal : ℕ → Result (String Global) AllocError → Stop Reason → Stop EditError
+refusal index path (stops.Memory error) = stops.Memory error
+refusal index (Err error) (stops.Fault reason) = stops.Memory error
+refusal index (Ok path) (stops.Fault reason) =
+    stops.Fault (record { edit = index; path = path; reason = reason })
+
+-- The edit is refused, and the error has its position in the list, and this path. Or an allocation failed.
+abbrev pub IsRefusedAs : ℕ → List ℕ → Edit → List ℕ → Stop EditError → Type 0
+IsRefusedAs index path e text (stops.Memory error) = ⊤
+IsRefusedAs index path e text (stops.Fault error) =
+    (error.edit ≡ index) × (string_bytes error.path ≡ path) × IsRefusedEdit e text error.reason
+
+-- the text of the edit's path
+abbrev pub path_of : Edit → List ℕ
+path_of e = path_text (map (λ s. s.now) e.path.now)
+
+-- The edit is refused, and the error has its position in the list, and its path. Or an allocation failed.
 abbrev pub IsRefusedAt : ℕ → Edit → List ℕ → Stop EditError → Type 0
-IsRefusedAt index e text (stops.Memory error) = ⊤
-IsRefusedAt index e text (stops.Fault error) = (error.edit ≡ index) × IsRefusedEdit e text error.reason
+IsRefusedAt index e text stop = IsRefusedAs index (path_of e) e text stop
 
 -- One of the edits is refused: those before it are made, one after the other, and then it is refused. Or an allocation
 -- failed.
@@ -167,7 +195,7 @@ abbrev pub AreRefused : List Edit → List ℕ → Stop EditError → Type 0
 AreRefused es text (stops.Memory error) = ⊤
 AreRefused es text (stops.Fault error) =
     (done rest : List Edit) × (e : Edit) × (mid : List ℕ) × (es ≡ done ++ e ∷ rest) × EditsMade done text mid
-    × (error.edit ≡ length done) × IsRefusedEdit e mid error.reason
+    × (error.edit ≡ length done) × (string_bytes error.path ≡ path_of e) × IsRefusedEdit e mid error.reason
 
 -- What `finish` returns: the text with all edits made, one after the other. Or one of the edits is refused, or an
 -- allocation failed.

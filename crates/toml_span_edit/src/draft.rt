@@ -3,12 +3,13 @@ ghost use Rattle.std.specs.Prelude.{◌≡◌, IfErr, IfOk, map, string_bytes};
 ghost use Rattle.std.specs.Cow.{cow_str_bytes};
 ghost use Rattle.toml_span_edit.specs.Drafts as spec;
 ghost use Rattle.toml_span_edit.specs.Edited.{EditMade};
-ghost use Rattle.toml_span_edit.specs.Refused.{IsRefusedAt};
+ghost use Rattle.toml_span_edit.specs.Refused.{IsRefusedAs};
 
-use crate::edits::{Change, Edit, EditError, edit_made};
+use crate::edits::{Change, Edit, EditError, refusal};
 use crate::given::string_text;
 use crate::paths::path_error_text;
 use crate::reason::Reason;
+use crate::step::step;
 use std::alloc::{AllocError, Global};
 use std::borrow::CowStr;
 use toml_span::Stop;
@@ -83,27 +84,37 @@ fn segments_of<'p>(
     match path_segments(alloc, path) {
         Ok(parts) => Ok(parts),
         Err(Stop::Memory(error)) => Err(Stop::Memory(error)),
-        Err(Stop::Fault(error)) => Err(Stop::Fault(EditError {
-            edit: index,
-            reason: Reason::InvalidPath(path_error_text(alloc, path, &error)?),
-        })),
+        Err(Stop::Fault(error)) => {
+            let reason = Reason::InvalidPath(path_error_text(alloc, path, &error)?);
+            Err(refusal(index, String::from_str(alloc, path), Stop::Fault(reason)))
+        }
     }
 }
 
-/// Returns `text` with `change` made at `path`. Fails with the reason and with `index`, the position of the edit, if the
-/// change is refused.
+/// Returns `text` with `change` made at the path of these segments. Fails with the reason, with `index`, the position of
+/// the edit, and with `path` if the change is refused.
+#[tactic(auto, using(crate::proofs::Refusals::refused_as))]
 fn made_at<'e>(
     alloc: Global,
     text: &str,
-    path: &'e [&'e str],
+    segments: &'e [&'e str],
     change: Change<'e>,
     index: usize,
+    path: &str,
 ) -> Result<String, Stop<EditError>>
-    ensures made { IfOk result (λ new. EditMade (record { path = path.entry; change = change.entry }) text.now
+    ensures made { IfOk result (λ new. EditMade (record { path = segments.entry; change = change.entry }) text.now
         (string_bytes new)) }
-    ensures refused { IfErr result (IsRefusedAt index (record { path = path.entry; change = change.entry }) text.now) }
+    ensures refused { IfErr result (IsRefusedAs index path.now
+        (record { path = segments.entry; change = change.entry }) text.now) }
 {
-    edit_made(alloc, text, Edit { path, change }, index)
+    let edit = Edit {
+        path: segments,
+        change,
+    };
+    match step(alloc, text, edit) {
+        Ok(new) => Ok(new),
+        Err(stop) => Err(refusal(index, String::from_str(alloc, path), stop)),
+    }
 }
 
 /// Returns `text` with `change` made at `path`. Fails with the reason and with `index`, the position of the edit, if
@@ -120,5 +131,5 @@ fn edited_at(
 {
     let segments = segments_of(alloc, path, index)?;
     let names = segment_names(alloc, segments.as_slice())?;
-    made_at(alloc, text, names.as_slice(), change, index)
+    made_at(alloc, text, names.as_slice(), change, index, path)
 }

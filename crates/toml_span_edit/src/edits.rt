@@ -1,10 +1,11 @@
 //! Collects edits of a document, and makes them one after the other.
-ghost use Rattle.std.specs.Prelude.{◌≡◌, IfErr, IfOk, [], string_bytes};
+ghost use Rattle.std.specs.Prelude.{◌≡◌, ◌++◌, IfErr, IfOk, OnOk, [], map, string_bytes};
 ghost use Rattle.toml_span_edit.specs.Edited as spec;
 ghost use Rattle.toml_span_edit.specs.Refused as refusals;
 ghost use Rattle.toml_span_edit.specs.Listed.{Pushed};
 ghost use Rattle.toml_span_edit.specs.declared.edits.Change.TheVariants as changes;
 
+use crate::given::key_text;
 use crate::reason::Reason;
 use crate::step::step;
 use std::alloc::{AllocError, Global};
@@ -56,13 +57,19 @@ pub struct Edit<'e> {
 pub struct EditError {
     /// The position of the edit in the list, counted from 0.
     pub edit: usize,
+    /// The path of the edit: as it was passed to a `Draft`, or the segments with dots between them, each in quotes if
+    /// necessary.
+    pub path: String,
     pub reason: Reason,
 }
 
-/// Writes the number of the edit, counted from 1, and the reason: `edit 1: there is nothing at this path`.
+/// Writes the path, unless it is empty, and the reason: `package.version: there is nothing at this path`.
 impl Display for EditError {
     fn fmt<W: Write>(&self, f: &mut Formatter<W>) -> fmt::Result {
-        write!(f, "edit {}: {}", self.edit.saturating_add(1), self.reason)
+        if !self.path.is_empty() {
+            write!(f, "{}: ", self.path)?;
+        }
+        write!(f, "{}", self.reason)
     }
 }
 
@@ -200,7 +207,8 @@ impl<'e> Edits<'e> {
 
 /// Makes `edit` in `text`, and returns the new text. Fails with the reason and with `index`, the position of `edit` in
 /// its list, if `edit` is refused.
-pub(crate) fn edit_made(
+#[tactic(auto, using(crate::proofs::Refusals::refused_as))]
+fn edit_made(
     alloc: Global,
     text: &str,
     edit: Edit<'_>,
@@ -211,12 +219,57 @@ pub(crate) fn edit_made(
 {
     match step(alloc, text, edit) {
         Ok(new) => Ok(new),
-        Err(Stop::Memory(error)) => Err(Stop::Memory(error)),
-        Err(Stop::Fault(reason)) => Err(Stop::Fault(EditError {
-            edit: index,
-            reason,
-        })),
+        Err(stop) => Err(refusal(index, path_text(alloc, edit.path), stop)),
     }
+}
+
+/// Returns the error of the edit with this position and path, which was refused with `stop`. Returns `Stop::Memory` if
+/// an allocation failed.
+pub(crate) fn refusal(
+    index: usize,
+    path: Result<String, AllocError>,
+    stop: Stop<Reason>,
+) -> Stop<EditError>
+    ensures { result ≡ refusals.refusal index path stop }
+{
+    match stop {
+        Stop::Memory(error) => Stop::Memory(error),
+        Stop::Fault(reason) => match path {
+            Err(error) => Stop::Memory(error),
+            Ok(path) => Stop::Fault(EditError {
+                edit: index,
+                path,
+                reason,
+            }),
+        },
+    }
+}
+
+/// Returns the segments with dots between them, each in quotes if necessary.
+fn path_text(alloc: Global, path: &[&str]) -> Result<String, AllocError>
+    ensures { IfOk result (λ text. string_bytes text ≡ refusals.path_text (map (λ s. s.now) path.now)) }
+{
+    match path.split_first() {
+        None => Ok(String::new(alloc)),
+        Some((first, more)) => {
+            let mut out = key_text(alloc, *first)?;
+            push_more(alloc, more, &mut out)?;
+            Ok(out)
+        }
+    }
+}
+
+/// Appends each segment to `out`, in quotes if necessary and with a dot before it.
+fn push_more(alloc: Global, path: &[&str], out: &mut String) -> Result<(), AllocError>
+    ensures { OnOk result (string_bytes out.new
+        ≡ string_bytes out.old ++ refusals.more_text (map (λ s. s.now) path.now)) }
+{
+    for segment in path {
+        let text = key_text(alloc, *segment)?;
+        out.push_str(".")?;
+        out.push_str(text.as_str())?;
+    }
+    Ok(())
 }
 
 /// Makes `edits` in `text`, one after the other, and returns the new text: a copy of `text` if `edits` is empty. Fails

@@ -14,9 +14,8 @@ use crate::positions::Range;
 use crate::spans::{main_span, touches};
 use crate::table::PositionTable;
 use std::alloc::{AllocError, Global};
-use toml_span::de::parse;
 use toml_span::{Stop, Value};
-use toml_span_check::every::check;
+use toml_span_check::every::parse_with_reports;
 use toml_span_check::fixing::FixLevel;
 use toml_span_check::newer::{Version, version_reports, with_all_fixes};
 use toml_span_check::schemas::{Chooser, SchemaReports, Schemas};
@@ -229,11 +228,10 @@ fn text_reports<S: Schemas>(
     ensures { IfOk result (λ made. spec.AreReports S.says version chooser name.now text.now
         (map report_content made.reports.items) (string_bytes made.complaint)) }
 {
-    match parse(alloc, text) {
+    match parse_with_reports(alloc, text) {
         Ok(root) => document_reports(alloc, version, chooser, name, text, &root, schemas),
         Err(Stop::Memory(error)) => Err(error),
-        Err(Stop::Fault(_error)) => {
-            let mut reports = check(alloc, text)?;
+        Err(Stop::Fault(mut reports)) => {
             let mut found = partial_reports(alloc, chooser, name, text, schemas)?;
             reports.append(&mut found)?;
             Ok(SchemaReports {

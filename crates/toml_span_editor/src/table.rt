@@ -8,16 +8,16 @@ use std::alloc::{AllocError, Global};
 use toml_span_lex::span::Span;
 
 /// The distance in bytes between the offsets whose positions the table stores.
-const STEP: usize = 64;
+const STEP: usize = 16;
 
-/// A text, and the positions of the byte offsets 0, 64, 128 and so on.
+/// A text, and the positions of the byte offsets 0, 16, 32 and so on.
 #[derive(Drop)]
 pub struct PositionTable<'t> {
     pub text: &'t str,
     pub encoding: Encoding,
     marks: Vec<Position>,
     ghost marked: { (k : ℕ) (d : Position) → k < length marks.items
-        → slice_index_or marks.items k d ≡ spec.position_of encoding text.now (k * 64) },
+        → slice_index_or marks.items k d ≡ spec.position_of encoding text.now (k * 16) },
 }
 
 impl<'t> PositionTable<'t> {

@@ -41,7 +41,7 @@ fn opened(
     match file {
         Ok(file) => shown(alloc, &file, words),
         Err(LoadError::Memory(error)) => Err(error),
-        Err(error) => Ok((format!(in alloc; "error: {error}\n")?, false)),
+        Err(error) => Ok((error.to_string(alloc)?, false)),
     }
 }
 

@@ -71,6 +71,6 @@ failed (stops.Memory e) r = Memory e
 
 -- the text that `Display` writes for an error
 abbrev pub shown : LoadError → List ℕ
-shown (Memory e) = codes "memory allocation failed"
-shown (Io u) = string_bytes u.text
+shown (Memory e) = codes "error: memory allocation failed\n"
+shown (Io u) = codes "error: " ++ string_bytes u.text ++ codes "\n"
 shown (Reported r) = string_bytes r.text

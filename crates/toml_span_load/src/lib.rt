@@ -55,14 +55,18 @@ impl From<AllocError> for LoadError {
     }
 }
 
-/// Writes the field `text` of `Unreadable` or `Reported`, or `memory allocation failed`.
+/// Writes the text of the reports, or one line: `error: ` and the field `text` of `Unreadable`, or
+/// `error: memory allocation failed`. In each case, ends with a line feed.
 impl Display for LoadError {
     ghost output = { λ error. Some (shown error) };
 
     fn fmt<W: Write>(&self, f: &mut Formatter<W>) -> fmt::Result {
         match self {
-            LoadError::Memory(_) => f.write_str("memory allocation failed"),
-            LoadError::Io(unreadable) => f.write_str(unreadable.text.as_str()),
+            LoadError::Memory(_) => f.write_str("error: memory allocation failed\n"),
+            LoadError::Io(unreadable) => {
+                let text = unreadable.text.as_str();
+                write!(f, "error: {text}\n")
+            }
             LoadError::Reported(reported) => write!(f, "{reported}"),
         }
     }

@@ -1,4 +1,7 @@
 //! Reads and compiles a schema with the documents to which it refers.
+ghost use Rattle.std.specs.Prelude.{◌≡◌, IfOk, IsSomeAnd, slice_get, string_bytes};
+ghost use Rattle.toml_span_schema.specs.Compiled.{IsCompiled};
+
 use crate::addresses::{
     address_of, folder_of, is_remote, path_of_address, push_decoded, without_fragment,
 };
@@ -53,22 +56,38 @@ struct Loading {
     tried: Vec<String>,
 }
 
-/// Compiles the schema in the first of `documents`. The schema may refer to the other documents. Fails as
-/// `Guide::from_json` does.
-fn compile(alloc: Global, documents: &[Loaded]) -> Result<Guide, SchemaError> {
-    let mut others = Vec::new(alloc);
-    for document in documents {
-        others.push(Document {
-            address: document.address.as_str(),
-            text: document.text.as_str(),
-        })?;
+impl Loaded {
+    /// Returns the document as one that is compiled.
+    fn document(&self) -> Document<'_>
+        ensures { result.text.now ≡ string_bytes self.now.text }
+    {
+        Document {
+            address: self.address.as_str(),
+            text: self.text.as_str(),
+        }
     }
-    let address = match documents.first() {
-        Some(document) => document.address.as_str(),
-        None => "",
+}
+
+/// Returns these documents as ones that are compiled.
+fn documents_of(alloc: Global, loaded: &[Loaded]) -> Result<Vec<Document<'_>>, AllocError> {
+    let mut documents = Vec::new(alloc);
+    for one in loaded {
+        documents.push(one.document())?;
+    }
+    Ok(documents)
+}
+
+/// Compiles the schema in the first of `documents`. The schema may refer to the other documents. Fails as
+/// `Guide::from_document` does.
+fn compile(alloc: Global, documents: &[Loaded]) -> Result<Guide, SchemaError>
+    ensures { IfOk result (λ guide. IsSomeAnd (slice_get documents.now 0)
+        (λ root. IsCompiled (string_bytes root.text) guide.schema)) }
+{
+    let Some((root, rest)) = documents.split_first() else {
+        return Err(SchemaError::Internal);
     };
-    let root = format!(in alloc; "{{\"$ref\": \"{address}\"}}")?;
-    Guide::from_json(alloc, root.as_str(), others.as_slice())
+    let others = documents_of(alloc, rest)?;
+    Guide::from_document(alloc, root.document(), others.as_slice())
 }
 
 /// Returns the text of the file at `path` without a byte order mark. If the file can't be read, is larger than 16 MiB

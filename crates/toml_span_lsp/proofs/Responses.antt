@@ -1,12 +1,10 @@
 -- The messages that the server sends.
-use Rattle.toml_span_lex.proofs.Common.{◌≡◌, ℕ, List, [], ◌∷◌, ◌++◌, Option, None, Some, Result, Ok, Err, IfOk, IsUtf8, ◌≢◌, ◌∙◌, map, none-some, option_map, same_Some, Vec, Global, ap, inl, inr, subst, sym, codes}
+use Rattle.toml_span_lex.proofs.Common.{◌≡◌, ℕ, List, [], ◌∷◌, ◌++◌, Option, None, Some, Result, Ok, Err, IfOk, ◌∙◌, map, option_map, same_Some, Vec, Global, ap, inl, inr, subst, sym, codes}
 use Rattle.std.specs.List.{All}
 use Rattle.std.specs.Option.{option_to_list}
 use Rattle.std.proofs.lemmas.List.Elements.{All-append, All-from_recursion, All-nil}
 use Rattle.json.specs.Token.{Token}
 use Rattle.json.specs.Json.{Json, document}
-use Rattle.json.specs.declared.error.Error.{Error}
-use Rattle.json.specs.declared.error.Error.TheVariants as errors
 use Rattle.toml_span_lsp.specs.Messages.{Answers, IsAnswer, IsCall, IsMessage, IsNotification, IsRequest, IsResponse, Responds, Sends, call_head, response_head}
 
 pub is_result : {E : Type 0} (r : Result (Vec ℕ Global) E) (tokens : List Token) (id : Token) → IfOk r (λ m. IsMessage tokens m.items) → tokens ≡ response_head id (codes "result") → IfOk r (λ m. IsResponse id m.items)
@@ -45,24 +43,6 @@ responds_to (Ok response) content json awaits is asks tells answer = record {
       subst (λ (a : Option Token). IsAnswer a (option_map (λ text. text.items) response)) (tells (subst IsNotification same notification)) answer;
 }
 responds_to (Err e) content json awaits is asks tells answer = tt
-
--- one that is not
-no_json : {A : Type 0} (content : List ℕ) (read : Result A Error) (e : Error) → read ≡ Err e → read ≢ Err errors.OutOfMemory → (read ≡ Err errors.Invalid → IsUtf8 content → document content ≡ None) → read ≢ Err errors.TooLong → read ≢ Err errors.DuplicateKey
-    → IsUtf8 content → document content ≡ None
-no_json content read errors.Invalid is memory invalid long twice utf8 = invalid is utf8
-no_json content read errors.OutOfMemory is memory invalid long twice utf8 = absurd (memory is)
-no_json content read errors.TooLong is memory invalid long twice utf8 = absurd (long is)
-no_json content read errors.DuplicateKey is memory invalid long twice utf8 = absurd (twice is)
-
-pub responds_not : {A E : Type 0} (r : Result (Option (Vec ℕ Global)) E) (content : List ℕ) (read : Result A Error) (e : Error) → read ≡ Err e → read ≢ Err errors.OutOfMemory → (read ≡ Err errors.Invalid → IsUtf8 content → document content ≡ None)
-    → read ≢ Err errors.TooLong → read ≢ Err errors.DuplicateKey → IfOk r (λ response. Responds content (option_map (λ text. text.items) response))
-responds_not (Ok response) content read e is memory invalid long twice =
-    let none = no_json content read e is memory invalid long twice in
-    record {
-      request = λ message id text request. absurd (none-some _ (sym (none text.0) ∙ text.1));
-      notification = λ message text notification. absurd (none-some _ (sym (none text.0) ∙ text.1));
-    }
-responds_not (Err x) content read e is memory invalid long twice = tt
 
 -- the response and what else is sent
 pub answers : {E : Type 0} (r : Result (Vec (Vec ℕ Global) Global) E) (content : List ℕ) (response : Option (List ℕ)) → Responds content response

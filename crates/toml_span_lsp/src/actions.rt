@@ -189,10 +189,7 @@ fn write_fixes(
     span: Span,
     out: &mut Json,
 ) -> Result<(), AllocError> {
-    let reports = match &open.reports {
-        Some(reports) => reports.as_slice(),
-        None => &[],
-    };
+    let reports = open.reports();
     if is_wanted(request.params, QUICK_FIX) {
         let (name, text) = (open.name.as_str(), open.text.as_str());
         let guide = lookup.guide_of(request.alloc, name, text)?;

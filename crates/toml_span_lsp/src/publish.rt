@@ -5,7 +5,7 @@ ghost use Rattle.toml_span_lsp.specs.Diagnosed.{AreChecked};
 use crate::outgoing::{Json, Outbox, ServerCall, write_location};
 use crate::reading::is_too_long;
 use crate::settings::Settings;
-use crate::state::{Client, Open, State};
+use crate::state::{Client, Findings, Open, State};
 use std::alloc::{AllocError, Global};
 use toml_span_editor::diagnostics::{Diagnosed, Diagnostic, Related, diagnostics};
 use toml_span_editor::positions::{Encoding, FIRST, Position, Range, position_at};
@@ -188,31 +188,35 @@ fn deny_warnings(diagnostics: &mut Vec<Diagnostic>) {
     }
 }
 
-/// Checks the open document `uri`, and keeps the reports. Returns its diagnostics, none if its configuration file
-/// excludes it, or `None` if the document is not open. If it can't be checked against its schema, adds error lines to
-/// `state.notices`, as `show_complaint` does. Reads no files.
+/// Checks an open document against the schemas in `lookup`. If it can't be checked against its schema, adds error lines
+/// to `notices`, as `show_complaint` does. Finds nothing if the configuration file of the document excludes it. Reads no
+/// files.
 fn checked(
     alloc: Global,
-    state: &mut State,
-    uri: &str,
-) -> Result<Option<Vec<Diagnostic>>, AllocError> {
-    let Some(open) = state.documents.get_mut(uri) else {
-        return Ok(None);
-    };
+    encoding: Encoding,
+    open: &mut Open,
+    lookup: &mut Lookup,
+    notices: &mut String,
+) -> Result<Findings, AllocError> {
     if is_too_long(open) {
-        return Ok(Some(too_long(alloc)?));
+        return Ok(Findings {
+            diagnostics: too_long(alloc)?,
+            reports: Vec::new(alloc),
+        });
     }
-    let (encoding, settings) = (state.encoding, open.settings);
+    let settings = open.settings;
     if settings.is_excluded {
-        open.reports = Some(Vec::new(alloc));
-        return Ok(Some(Vec::new(alloc)));
+        return Ok(Findings {
+            diagnostics: Vec::new(alloc),
+            reports: Vec::new(alloc),
+        });
     }
-    let folder = state
-        .folders
-        .folder_of_mut(open.name.as_str(), open.schemas.as_str());
-    let found = diagnosed(alloc, encoding, settings, open, &mut folder.lookup)?;
-    let mut diagnostics = found.diagnostics;
-    show_complaint(open, &mut state.notices, found.complaint)?;
+    let Diagnosed {
+        mut diagnostics,
+        reports,
+        complaint,
+    } = diagnosed(alloc, encoding, settings, open, lookup)?;
+    show_complaint(open, notices, complaint)?;
     push_schema_fault(alloc, encoding, open, &mut diagnostics)?;
     if settings
         .project
@@ -220,23 +224,32 @@ fn checked(
     {
         deny_warnings(&mut diagnostics);
     }
-    open.reports = Some(found.reports);
-    Ok(Some(diagnostics))
+    Ok(Findings {
+        diagnostics,
+        reports,
+    })
 }
 
-/// Checks the open document `uri`, unless its reports are kept. Reads no files.
+/// Checks the open document `uri`, as `checked` does, unless its text has not changed and no schema has been read since
+/// it was checked. Reads no files.
 pub(crate) fn check_once(alloc: Global, state: &mut State, uri: &str) -> Result<(), AllocError> {
-    let has_reports = match state.documents.get(uri) {
-        Some(open) => open.reports.is_some(),
-        None => true,
+    let Some(open) = state.documents.get_mut(uri) else {
+        return Ok(());
     };
-    if !has_reports {
-        checked(alloc, state, uri)?;
+    if open.found.is_some() && open.schemas_read == state.schemas_read {
+        return Ok(());
     }
+    let folder = state
+        .folders
+        .folder_of_mut(open.name.as_str(), open.schemas.as_str());
+    let (encoding, lookup) = (state.encoding, &mut folder.lookup);
+    let found = checked(alloc, encoding, open, lookup, &mut state.notices)?;
+    open.found = Some(found);
+    open.schemas_read = state.schemas_read;
     Ok(())
 }
 
-/// Writes the diagnostics of the open document `uri` as the answer to a request, as `checked` finds them. Returns
+/// Writes the diagnostics of the open document `uri` as the answer to a request, as `check_once` finds them. Returns
 /// whether the document is open. If it is not, writes nothing.
 pub(crate) fn write_report(
     alloc: Global,
@@ -244,12 +257,13 @@ pub(crate) fn write_report(
     uri: &str,
     out: &mut Json,
 ) -> Result<bool, AllocError> {
-    let Some(found) = checked(alloc, state, uri)? else {
+    check_once(alloc, state, uri)?;
+    let Some(open) = state.documents.get(uri) else {
         return Ok(false);
     };
     out.begin_object();
     out.text("kind", "full");
-    write_list(out, "items", state.client, uri, found.as_slice());
+    write_list(out, "items", state.client, uri, open.diagnostics());
     out.end_object();
     Ok(true)
 }
@@ -274,7 +288,7 @@ pub(crate) fn published(
     ServerCall::notification("textDocument/publishDiagnostics", out)
 }
 
-/// Appends the notification with the diagnostics of the open document `uri`, as `checked` finds them. Does nothing if
+/// Appends the notification with the diagnostics of the open document `uri`, as `check_once` finds them. Does nothing if
 /// the document is not open, or if the client requests diagnostics itself.
 pub(crate) fn publish(
     alloc: Global,
@@ -285,13 +299,10 @@ pub(crate) fn publish(
     if state.client.asks_diagnostics {
         return Ok(());
     }
-    let Some(found) = checked(alloc, state, uri)? else {
-        return Ok(());
-    };
-    let version = match state.documents.get(uri) {
-        Some(open) => open.version,
-        None => None,
-    };
-    out.add(published(alloc, state.client, uri, version, found.as_slice()));
+    check_once(alloc, state, uri)?;
+    if let Some(open) = state.documents.get(uri) {
+        let client = state.client;
+        out.add(published(alloc, client, uri, open.version, open.diagnostics()));
+    }
     Ok(())
 }

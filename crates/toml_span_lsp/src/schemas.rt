@@ -103,7 +103,7 @@ fn configure<D: Disk>(
 
 /// Reads the configuration file of the open document `uri`, and reads and compiles its schema, unless they have been
 /// read and have not changed since. If the document names the schema, and it can't be used, stores the reason for a
-/// diagnostic. Otherwise, appends errors to `state.notices`. The document's reports are gone.
+/// diagnostic. Otherwise, appends errors to `state.notices`. All documents must be checked again.
 pub(crate) fn read_schema<D: Disk>(
     alloc: Global,
     state: &mut State,
@@ -111,6 +111,7 @@ pub(crate) fn read_schema<D: Disk>(
     uri: &str,
 ) -> Result<(), AllocError> {
     configure(alloc, state, disk, uri)?;
+    state.schemas_read = state.schemas_read.wrapping_add(1);
     let has_schema = state.settings.has_schema;
     let Some(open) = state.documents.get_mut(uri) else {
         return Ok(());
@@ -136,7 +137,6 @@ pub(crate) fn read_schema<D: Disk>(
         }
     };
     open.address = String::from_str(alloc, address_in(open.text.as_str()))?;
-    open.reports = None;
     Ok(())
 }
 

@@ -8,6 +8,7 @@ use crate::projects::Projects;
 use crate::settings::{AllSettings, Settings};
 use std::alloc::Global;
 use std::collections::BTreeMap;
+use toml_span_editor::diagnostics::Diagnostic;
 use toml_span_editor::positions::Encoding;
 use toml_span_lookup::options::Options;
 use toml_span_report::Report;
@@ -83,6 +84,15 @@ pub(crate) struct SentTokens {
     pub revision: u64,
 }
 
+/// What a check of a document found.
+#[derive(Drop)]
+pub(crate) struct Findings {
+    /// The diagnostics, as they are shown.
+    pub diagnostics: Vec<Diagnostic>,
+    /// The reports on the text.
+    pub reports: Vec<Report>,
+}
+
 /// A document that is open in the editor.
 #[derive(Drop)]
 pub(crate) struct Open {
@@ -104,9 +114,29 @@ pub(crate) struct Open {
     pub address: String,
     /// Whether the text has changed since the diagnostics were sent.
     pub is_pending: bool,
-    /// The reports on the text, or `None` if it has not been checked.
-    pub reports: Option<Vec<Report>>,
+    /// What the last check of the text found, or `None` if it has not been checked.
+    pub found: Option<Findings>,
+    /// The number `State::schemas_read` at that check.
+    pub schemas_read: u64,
     pub tokens: Option<SentTokens>,
+}
+
+impl Open {
+    /// Returns the diagnostics that the last check of the text found, none if it has not been checked.
+    pub(crate) fn diagnostics(&self) -> &[Diagnostic] {
+        match &self.found {
+            Some(found) => found.diagnostics.as_slice(),
+            None => &[],
+        }
+    }
+
+    /// Returns the reports that the last check of the text found, none if it has not been checked.
+    pub(crate) fn reports(&self) -> &[Report] {
+        match &self.found {
+            Some(found) => found.reports.as_slice(),
+            None => &[],
+        }
+    }
 }
 
 /// What the server knows: the capabilities of the client, the settings, the schemas and the open documents.
@@ -131,6 +161,8 @@ pub(crate) struct State {
     pub(crate) notices: String,
     /// The number of texts and results so far, from which each gets a number of its own.
     pub(crate) count: u64,
+    /// How often the schema of a document has been read.
+    pub(crate) schemas_read: u64,
     /// Whether a document may have `is_pending` set.
     pub(crate) has_pending: bool,
     /// The documents by their URIs.
@@ -151,6 +183,7 @@ impl State {
             has_later_settings: false,
             notices: String::new(alloc),
             count: 0,
+            schemas_read: 0,
             has_pending: false,
             documents: BTreeMap::new(alloc),
         }

@@ -40,7 +40,8 @@ fn store(
         schema_fault: String::new(alloc),
         address: String::new(alloc),
         is_pending: false,
-        reports: None,
+        found: None,
+        schemas_read: 0,
         tokens: None,
     };
     state.documents.insert(uri, open)?;
@@ -159,7 +160,7 @@ pub(crate) fn change(
     open.text = text;
     open.version = version_of(params);
     open.revision = revision;
-    open.reports = None;
+    open.found = None;
     open.is_pending = true;
     state.has_pending = true;
     Ok(())

@@ -111,6 +111,7 @@ fn help(alloc: Global, kind: &ErrorKind<'_>) -> Result<Vec<String>, AllocError> 
             value: Some(value),
         } => suggestions(alloc, &[value.as_str()], *expected),
         ErrorKind::OutOfRange(name) => range(alloc, *name),
+        ErrorKind::Wanted { expected, .. } => range(alloc, *expected),
         _ => Ok(Vec::new(alloc)),
     }
 }
@@ -196,8 +197,8 @@ fn report_of(
 ///   each unknown key, a line of help names the nearest expected key, if one is near enough (`nearest`). Help for an
 ///   unexpected value names the nearest expected value, if one is near enough.
 /// - The label at an unexpected character has no message, since the message of the report names the character. Most
-///   errors of typed reads have other messages or labels, such as "missing key" with the name of the key. For most types
-///   of numbers, help for a number that is out of range states the range.
+///   errors of typed reads have other messages or labels, such as "missing key" with the name of the key. Help states the
+///   range of a type of numbers, for a number that is out of range and for a value that is not an integer.
 ///
 /// Fails if an allocation fails.
 pub fn error_report(alloc: Global, error: &Error<'_>, text: &str) -> Result<Report, AllocError>

@@ -1,10 +1,11 @@
 //! Finds out which alternative of `anyOf` or `oneOf` was meant.
 
 use crate::error::CheckError;
-use crate::keyword::{Keyword, Placed, Types};
+use crate::keyword::Keyword;
 use crate::listed::Part;
+use crate::messages::Listed;
 use crate::schema::Schema;
-use crate::walk::{Cause, Violation, Walk};
+use crate::walk::{Cause, Place, Violation, Walk};
 use std::alloc::{AllocError, Global};
 use std::mem::replace;
 
@@ -15,8 +16,9 @@ const MOST_NESTED: usize = 65;
 /// many.
 #[derive(Drop)]
 struct Tried<'s, 'v, 'de> {
-    /// The positions of the alternatives that the value is valid against.
-    valid: Vec<usize>,
+    /// The positions of the first two alternatives that the value is valid against.
+    first: Option<usize>,
+    second: Option<usize>,
     /// The number of alternatives that a value of TOML can match, but this value does not.
     count: usize,
     /// Whether the value has a wrong type, or is not among the constants, in all of these.
@@ -29,23 +31,21 @@ struct Tried<'s, 'v, 'de> {
 }
 
 impl Schema {
-    /// Finds what the keyword `anyOf` or `oneOf` at `at` does not allow in `part`. `nodes` are the alternatives. Fails
-    /// like `is_valid`.
+    /// Finds what the keyword `anyOf` or `oneOf` at `at`, which does not allow `part`, does not allow in it. `nodes` are
+    /// the alternatives. Fails like `is_valid`.
     #[cycle(explore)]
     pub(crate) fn explore_alternatives<'s, 'v, 'de>(
         &'s self,
         walk: &mut Walk<'s, 'v, 'de>,
         depth: usize,
-        at: (usize, &'s Placed),
+        at: Place<'s>,
         nodes: &'s [usize],
         part: Part<'v, 'de>,
-    ) -> Result<(), CheckError> {
+    ) {
         let alloc = walk.alloc;
-        if self.allows(alloc, &mut walk.left, depth, &at.1.keyword, part.value())? {
-            return self.explore_valid(walk, depth, nodes, part);
-        }
         let mut tried = Tried {
-            valid: Vec::new(alloc),
+            first: None,
+            second: None,
             count: 0,
             is_unlisted: true,
             constants: Vec::new(alloc),
@@ -55,69 +55,60 @@ impl Schema {
         let warned = walk.deprecated.len();
         for (position, next) in nodes.iter().enumerate() {
             let outer = replace(&mut walk.violations, Vec::new(alloc));
-            self.explore(walk, depth, *next, part)?;
+            self.explore(walk, depth, *next, part);
             let found = replace(&mut walk.violations, outer);
-            if found.is_empty() {
-                tried.valid.push(position)?;
-            } else if !self.fits_nothing(MOST_NESTED, *next) {
-                self.compare(walk, &mut tried, *next, found, part)?;
+            if !found.is_empty() {
+                self.compare(walk, &mut tried, *next, found, part);
+            } else if tried.first.is_none() {
+                tried.first = Some(position);
+            } else if tried.second.is_none() {
+                tried.second = Some(position);
             }
         }
         walk.deprecated.truncate(warned);
-        Ok(conclude(walk, tried, at, nodes, part)?)
+        conclude(walk, tried, at, nodes, part);
     }
 
-    /// Finds the deprecated values in `part`, which is valid against one of the alternatives `nodes`. Fails like
-    /// `is_valid`.
-    #[cycle(explore)]
-    fn explore_valid<'s, 'v, 'de>(
-        &'s self,
-        walk: &mut Walk<'s, 'v, 'de>,
-        depth: usize,
-        nodes: &'s [usize],
-        part: Part<'v, 'de>,
-    ) -> Result<(), CheckError> {
-        for next in nodes {
-            if self.is_valid(walk.alloc, &mut walk.left, depth, *next, part.value())? {
-                self.explore(walk, depth, *next, part)?;
-            }
-        }
-        Ok(())
-    }
-
-    /// Notes that `part` is not valid against the alternative at index `node`, because of the violations `found`.
+    /// Notes that `part` is not valid against the alternative at index `node`, because of the violations `found`. Ignores
+    /// an alternative that no value of TOML matches.
     fn compare<'s, 'v, 'de>(
         &'s self,
-        walk: &Walk<'s, 'v, 'de>,
+        walk: &mut Walk<'s, 'v, 'de>,
         tried: &mut Tried<'s, 'v, 'de>,
         node: usize,
         found: Vec<Violation<'s, 'v, 'de>>,
         part: Part<'v, 'de>,
-    ) -> Result<(), AllocError> {
+    ) {
+        if self.fits_nothing(MOST_NESTED, node) {
+            return;
+        }
         let level = walk.path.len();
-        let is_unlisted = found
-            .iter()
-            .any(|one| one.is_unlisted() && one.level == level);
+        let mut is_unlisted = false;
         for one in found.iter() {
+            is_unlisted |= one.is_unlisted() && one.level == level;
             if let (Keyword::Enum(_, shown), 1) = (
-                &one.placed.keyword,
+                &one.at.placed.keyword,
                 one.level.saturating_sub(level),
             ) {
+                let start = one.part.value().span.start;
                 for constant in shown.as_slice() {
-                    tried
-                        .constants
-                        .push((one.part.value().span.start, constant.as_str()))?;
+                    if tried.constants.push((start, constant.as_str())).is_err() {
+                        walk.fail(CheckError::OutOfMemory);
+                    }
                 }
             }
         }
-        let distance = self.distance(walk.alloc, found.as_slice(), level, node, part)?;
-        tried.is_unlisted = tried.is_unlisted && is_unlisted;
+        tried.is_unlisted &= is_unlisted;
         tried.count = tried.count.saturating_add(1);
-        if distance < tried.least {
-            tried.least = distance;
-            tried.best = found;
+        match self.distance(walk.alloc, found.as_slice(), level, node, part) {
+            Ok(distance) => {
+                if distance < tried.least {
+                    tried.least = distance;
+                    tried.best = found;
+                }
+            }
+            Err(_refused) => walk.fail(CheckError::OutOfMemory),
         }
-        Ok(())
     }
 
     /// Returns whether no TOML value is valid against the schema at index `node`, such as `false` or `type: null`, or
@@ -168,7 +159,7 @@ impl Schema {
         for one in found {
             let is_meant = self.meant(alloc, one)?.is_some();
             let weight = match (
-                &one.placed.keyword,
+                &one.at.placed.keyword,
                 one.cause,
                 one.level.saturating_sub(level),
             ) {
@@ -205,36 +196,30 @@ impl Schema {
         Ok(false)
     }
 
-    /// Adds the types and constants that the schemas at the indices `nodes` name to `types` and `constants`. `depth` is
-    /// the number of schemas that may be nested.
+    /// Adds the types and constants that the schemas at the indices `nodes` name to `listed`. `depth` is the number of
+    /// schemas that may be nested.
     #[cycle(push_listed)]
     pub(crate) fn push_listed<'s>(
         &'s self,
         depth: usize,
         nodes: &[usize],
-        types: &mut Types,
-        constants: &mut Vec<&'s str>,
-    ) -> Result<(), AllocError> {
+        listed: &mut Listed<'s>,
+    ) {
         if depth == 0 {
-            return Ok(());
+            return;
         }
         for node in nodes {
             for placed in self.keywords(*node) {
                 match &placed.keyword {
-                    Keyword::Enum(_, shown) => {
-                        for constant in shown.as_slice() {
-                            constants.push(constant.as_str())?;
-                        }
-                    }
-                    Keyword::Type(more) if !self.is_listed(*node) => types.add(*more),
+                    Keyword::Enum(_, shown) => listed.push_all(shown.as_slice()),
+                    Keyword::Type(more) if !self.is_listed(*node) => listed.types.add(*more),
                     Keyword::AllOf(inner) | Keyword::AnyOf(inner) | Keyword::OneOf(inner) => {
-                        self.push_listed(depth - 1, inner.as_slice(), types, constants)?;
+                        self.push_listed(depth - 1, inner.as_slice(), listed);
                     }
                     _ => {}
                 }
             }
         }
-        Ok(())
     }
 
     /// Returns whether the schema at index `node` lists constants.
@@ -253,15 +238,15 @@ impl Schema {
 fn conclude<'s, 'v, 'de>(
     walk: &mut Walk<'s, 'v, 'de>,
     tried: Tried<'s, 'v, 'de>,
-    at: (usize, &'s Placed),
+    at: Place<'s>,
     nodes: &'s [usize],
     part: Part<'v, 'de>,
-) -> Result<(), AllocError> {
-    if let [first, second, ..] = tried.valid.as_slice() {
-        return walk.push(at.0, at.1, Cause::Both(*first, *second), part);
+) {
+    if let (Some(first), Some(second)) = (tried.first, tried.second) {
+        return walk.push(at, Cause::Both(first, second), part);
     }
     if tried.count != 1 && tried.is_unlisted {
-        return walk.push(at.0, at.1, Cause::Unlisted(nodes), part);
+        return walk.push(at, Cause::Unlisted(nodes), part);
     }
     let Tried {
         constants,
@@ -270,13 +255,11 @@ fn conclude<'s, 'v, 'de>(
     } = tried;
     for violation in best {
         let mut violation = violation;
-        let start = violation.part.value().span.start;
-        for pair in constants.as_slice() {
-            if pair.0 == start && violation.level.saturating_sub(walk.path.len()) == 1 {
-                violation.others.push(pair.1)?;
-            }
+        if violation.level.saturating_sub(walk.path.len()) == 1
+            && !violation.add_others(constants.as_slice())
+        {
+            walk.fail(CheckError::OutOfMemory);
         }
-        walk.violations.push(violation)?;
+        walk.add(violation);
     }
-    Ok(())
 }

@@ -139,7 +139,7 @@ fn allows_items(alloc: Global, keyword: &Keyword, values: &[Value<'_>]) -> Resul
 }
 
 /// Returns whether a table has all keys in `names`.
-fn has_all(value: &Value<'_>, names: &[String]) -> bool
+pub(crate) fn has_all(value: &Value<'_>, names: &[String]) -> bool
     ensures { result ≡ has_all (view value.now) names.now }
 {
     for name in names {

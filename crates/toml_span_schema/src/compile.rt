@@ -83,6 +83,8 @@ pub(crate) struct Compiler<'v, 'a> {
     formats: BTreeMap<&'static str, usize>,
     /// The number of steps taken so far for finding resources and anchors.
     work: usize,
+    /// Whether messages name the first document.
+    names_root: bool,
 }
 
 /// Returns the position of the set `scope` in `scopes`, or `None` if `scopes` does not have it.
@@ -131,11 +133,12 @@ fn with_addresses<'v, 'a>(
 }
 
 /// Compiles the schema in the document `root`, with its notes for people. References in the schema may name `others`.
-/// Fails as `Schema::from_json` does.
+/// `names_root` says whether messages name the document `root`. Fails as `Schema::from_json` does.
 pub(crate) fn compile(
     alloc: Global,
     root: Document<'_>,
     others: &[Document<'_>],
+    names_root: bool,
 ) -> Result<Guide, SchemaError>
     ensures { IfOk result (λ guide. IsCompiled root.entry.text.now guide.schema) }
 {
@@ -150,7 +153,7 @@ pub(crate) fn compile(
     let text = joined_texts(alloc, documents.as_slice())?;
     let mut scratch = Scratch::new(alloc);
     let values = parsed(alloc, text.as_str(), &mut scratch)?;
-    let made = compile_all(alloc, &values, documents.as_slice());
+    let made = compile_all(alloc, &values, documents.as_slice(), names_root);
     drop(values);
     let guide = made?;
     ensure_compiled(alloc, root.text, &guide.schema)?;
@@ -178,13 +181,18 @@ fn compile_all<'v, 'a>(
     alloc: Global,
     values: &'v Json<'a>,
     documents: &[Document<'_>],
+    names_root: bool,
 ) -> Result<Guide, SchemaError> {
     let sources = with_addresses(alloc, values, documents)?;
-    compile_sources(alloc, Sources::new(alloc, sources)?)
+    compile_sources(alloc, Sources::new(alloc, sources)?, names_root)
 }
 
 /// Compiles the schema in the first document of `sources`. Fails as `Schema::from_json` does.
-fn compile_sources(alloc: Global, sources: Sources<'_, '_>) -> Result<Guide, SchemaError> {
+fn compile_sources(
+    alloc: Global,
+    sources: Sources<'_, '_>,
+    names_root: bool,
+) -> Result<Guide, SchemaError> {
     let mut compiler = Compiler {
         alloc,
         sources,
@@ -194,6 +202,7 @@ fn compile_sources(alloc: Global, sources: Sources<'_, '_>) -> Result<Guide, Sch
         patterns: Vec::new(alloc),
         formats: BTreeMap::new(alloc),
         work: 0,
+        names_root,
     };
     compiler.scopes.push(Vec::new(alloc))?;
     let _root = compiler.node_at(0, "", 0)?;
@@ -263,7 +272,7 @@ impl<'v, 'a> Compiler<'v, 'a> {
         let alloc = self.alloc;
         let pointer = site.pointer.as_str();
         match self.sources.documents.get(site.source) {
-            Some(document) if site.source > 0 => {
+            Some(document) if self.names_root || site.source > 0 => {
                 let address = document.address.as_str();
                 let name = address.rsplit_once("/").map_or(address, |parts| parts.1);
                 format!(in alloc; "{name}#{pointer}")

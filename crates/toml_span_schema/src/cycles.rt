@@ -3,46 +3,70 @@
 use crate::keyword::{Keyword, Node};
 use std::alloc::{AllocError, Global};
 
-/// Appends the indices of the subschemas that a keyword applies to the checked value itself, not to values inside it.
-fn push_in_place(list: &mut Vec<usize>, keyword: &Keyword) -> Result<(), AllocError> {
-    match keyword {
-        Keyword::AllOf(nodes) | Keyword::AnyOf(nodes) | Keyword::OneOf(nodes) => {
-            list.extend_from_slice(nodes.as_slice())?;
-        }
-        Keyword::Not(node) => list.push(*node)?,
-        Keyword::If(condition, yes, no) => {
-            list.push(*condition)?;
-            push_optional(list, *yes)?;
-            push_optional(list, *no)?;
-        }
-        Keyword::DependentSchemas(schemas) => {
-            for entry in schemas.as_slice() {
-                list.push(entry.1)?;
-            }
-        }
-        Keyword::UnevaluatedItems(others, _) | Keyword::UnevaluatedProperties(others, _) => {
-            list.push(*others)?;
-        }
-        _ => {}
-    }
-    Ok(())
+/// A list of indices of compiled schemas. It remembers whether an allocation failed, so that only `finish` fails.
+#[derive(Drop)]
+pub(crate) struct Indices {
+    pub(crate) list: Vec<usize>,
+    pub(crate) is_refused: bool,
 }
 
-/// Appends the index of a subschema, unless `node` is `None`.
-fn push_optional(list: &mut Vec<usize>, node: Option<usize>) -> Result<(), AllocError> {
-    if let Some(node) = node {
-        list.push(node)?;
+impl Indices {
+    pub(crate) fn new(alloc: Global) -> Indices {
+        Indices {
+            list: Vec::new(alloc),
+            is_refused: false,
+        }
     }
-    Ok(())
+
+    pub(crate) fn push(&mut self, node: usize) {
+        self.is_refused |= self.list.push(node).is_err();
+    }
+
+    pub(crate) fn push_all(&mut self, nodes: &[usize]) {
+        self.is_refused |= self.list.extend_from_slice(nodes).is_err();
+    }
+
+    /// Appends the indices of the subschemas that a keyword applies to the checked value itself, not to values inside it.
+    fn push_in_place(&mut self, keyword: &Keyword) {
+        match keyword {
+            Keyword::AllOf(nodes) | Keyword::AnyOf(nodes) | Keyword::OneOf(nodes) => {
+                self.push_all(nodes.as_slice());
+            }
+            Keyword::If(condition, yes, no) => {
+                self.push(*condition);
+                self.push_all(yes.as_slice());
+                self.push_all(no.as_slice());
+            }
+            Keyword::DependentSchemas(schemas) => {
+                for entry in schemas.as_slice() {
+                    self.push(entry.1);
+                }
+            }
+            Keyword::Not(node)
+            | Keyword::UnevaluatedItems(node, _)
+            | Keyword::UnevaluatedProperties(node, _) => self.push(*node),
+            _ => {}
+        }
+    }
+
+    /// Returns the list. Fails if an allocation failed.
+    pub(crate) fn finish(self) -> Result<Vec<usize>, AllocError> {
+        let Indices { list, is_refused } = self;
+        if is_refused {
+            Err(AllocError)
+        } else {
+            Ok(list)
+        }
+    }
 }
 
 /// Returns the indices of the subschemas that `node` applies to the checked value itself, not to values inside it.
 pub(crate) fn in_place(alloc: Global, node: &Node) -> Result<Vec<usize>, AllocError> {
-    let mut list = Vec::new(alloc);
+    let mut list = Indices::new(alloc);
     for placed in node.keywords.as_slice() {
-        push_in_place(&mut list, &placed.keyword)?;
+        list.push_in_place(&placed.keyword);
     }
-    Ok(list)
+    list.finish()
 }
 
 /// The state of `longest_chain` for a compiled schema. In a chain of compiled schemas, each applies the next to the

@@ -34,6 +34,19 @@ impl Guide {
             address: "file:///schema.json",
             text,
         };
-        compile(alloc, root, others)
+        compile(alloc, root, others, false)
+    }
+
+    /// Compiles the schema in the document `root`, with its notes. References in the schema are relative to the
+    /// document's address. `others` and the errors are as for `Schema::from_json`. Reports name the document of each
+    /// keyword, also if it is `root`.
+    pub fn from_document(
+        alloc: Global,
+        root: Document<'_>,
+        others: &[Document<'_>],
+    ) -> Result<Guide, SchemaError>
+        ensures { IfOk result (λ guide. IsCompiled root.entry.text.now guide.schema) }
+    {
+        compile(alloc, root, others, true)
     }
 }

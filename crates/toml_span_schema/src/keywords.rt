@@ -114,19 +114,31 @@ pub(crate) fn want_of(name: &str, draft: Draft) -> Option<Want> {
     let number = number_of(draft);
     for row in KEYWORDS.iter() {
         let (keywords, first, last, want) = *row;
-        let is_known = keywords.split(' ').any(|keyword| keyword == name);
-        if is_known && first <= number && number <= last {
+        if first <= number && number <= last && has_word(keywords, name) {
             return Some(want);
         }
     }
     None
 }
 
+/// Returns whether a word is among `words`, which spaces separate.
+fn has_word(words: &str, word: &str) -> bool {
+    for other in words.split(' ') {
+        if other == word {
+            return true;
+        }
+    }
+    false
+}
+
 /// Returns whether a schema of any draft has the keyword `name`.
 pub(crate) fn is_keyword(name: &str) -> bool {
-    KEYWORDS
-        .iter()
-        .any(|row| row.0.split(' ').any(|keyword| keyword == name))
+    for row in KEYWORDS.iter() {
+        if has_word(row.0, name) {
+            return true;
+        }
+    }
+    false
 }
 
 /// Returns what a value must be, if `want` leaves the choice between an array and another value.
@@ -181,7 +193,7 @@ pub(crate) fn fits(alloc: Global, want: Want, value: &Json<'_>) -> Result<bool, 
             Json::Object(_),
         ) => true,
         (Want::Divisor | Want::Count, Json::Number(text)) => number_fits(alloc, want, *text)?,
-        (Want::TypeName, Json::String(name)) => TYPES.split(' ').any(|known| known == *name),
+        (Want::TypeName, Json::String(name)) => has_word(TYPES, *name),
         (Want::Schemas, Json::Array(items)) => !items.is_empty(),
         _ => false,
     })

@@ -1,7 +1,7 @@
 //! Reads the notes for people in schemas.
 
 use crate::read::{DEPTH, to_toml};
-use crate::sources::{Draft, is_true};
+use crate::sources::{Draft, is_true, text_of};
 use json::Value as Json;
 use std::alloc::{AllocError, Global};
 use toml_span_tree::Value;
@@ -23,7 +23,7 @@ pub struct Notes {
 
 /// Returns a copy of the string in the member `name`, or `None` if the member is missing or not a string.
 fn text_in(alloc: Global, value: &Json<'_>, name: &str) -> Result<Option<String>, AllocError> {
-    match value.get(name).and_then(|member| member.as_str()) {
+    match text_of(value, name) {
         Some(text) => Ok(Some(String::from_str(alloc, text)?)),
         None => Ok(None),
     }
@@ -47,26 +47,26 @@ pub(crate) fn read_notes(
     value: &Json<'_>,
     draft: Draft,
 ) -> Result<Notes, AllocError> {
-    let mut values = Vec::new(alloc);
+    let mut notes = Notes {
+        title: text_in(alloc, value, "title")?,
+        description: None,
+        default: None,
+        values: Vec::new(alloc),
+        is_deprecated: is_true(value, "deprecated"),
+    };
+    notes.description = text_in(alloc, value, "description")?;
+    if let Some(default) = value.get("default") {
+        notes.default = to_toml(alloc, default, DEPTH)?;
+    }
     if let Some(Json::Array(items)) = value.get("enum") {
         for item in items.as_slice() {
-            push_value(alloc, item, &mut values)?;
+            push_value(alloc, item, &mut notes.values)?;
         }
     }
     if draft > Draft::Four {
         if let Some(only) = value.get("const") {
-            push_value(alloc, only, &mut values)?;
+            push_value(alloc, only, &mut notes.values)?;
         }
     }
-    let default = match value.get("default") {
-        Some(default) => to_toml(alloc, default, DEPTH)?,
-        None => None,
-    };
-    Ok(Notes {
-        title: text_in(alloc, value, "title")?,
-        description: text_in(alloc, value, "description")?,
-        default,
-        values,
-        is_deprecated: is_true(value, "deprecated"),
-    })
+    Ok(notes)
 }

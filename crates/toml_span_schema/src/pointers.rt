@@ -40,25 +40,17 @@ fn unescaped(alloc: Global, step: &str) -> Result<Option<String>, AllocError> {
     Ok(if after_tilde { None } else { Some(name) })
 }
 
-/// Returns the position that a step of a pointer spells, or `None` if the step is not a 64-bit unsigned integer.
-fn position_in(step: &str) -> Option<usize> {
-    match fast_float::parse_u64(step.as_bytes()) {
-        Ok(at) => Some(at as usize),
-        Err(_) => None,
-    }
-}
-
 /// Returns the element or member that a step of a pointer names in a value. Returns `None` if it does not exist, or if
-/// the step has an invalid escape.
+/// the step has an invalid escape. The position of an element is a 64-bit unsigned integer.
 fn inside<'v, 'a>(
     alloc: Global,
     value: &'v Json<'a>,
     step: &str,
 ) -> Result<Option<&'v Json<'a>>, AllocError> {
     if let Json::Array(_) = value {
-        return match position_in(step) {
-            Some(at) => Ok(value.at(at)),
-            None => Ok(None),
+        return match fast_float::parse_u64(step.as_bytes()) {
+            Ok(at) => Ok(value.at(at as usize)),
+            Err(_) => Ok(None),
         };
     }
     match unescaped(alloc, step)? {

@@ -5,7 +5,7 @@ use crate::compile::{Compiler, Site};
 use crate::error::SchemaError;
 use crate::formats::format_of;
 use crate::keyword::{Keyword, Node, Placed, Types};
-use crate::keywords::Want;
+use crate::keywords::{Want, want_of};
 use crate::numbers::Decimal;
 use crate::patterns::{compile_pattern, unsupported};
 use crate::sources::{Draft, is_true, text_of};
@@ -24,26 +24,45 @@ use toml_span_tree::{FloatText, Value, ValueInner};
 /// More levels than a value in a schema can have, since schemas nest at most 128 levels deep.
 pub(crate) const DEPTH: usize = 130;
 
-impl<'v, 'a> Site<'v, 'a> {
-    /// Appends a keyword with its name and, for messages, its value in the schema.
-    fn put(&mut self, name: &'static str, keyword: Keyword) -> Result<(), AllocError> {
-        self.put_limit((name, name), keyword)
-    }
+/// The keywords without subschemas, except references, in the order in which they are checked.
+const ASSERTIONS: [&str; 19] = [
+    "type",
+    "enum",
+    "const",
+    "minimum",
+    "exclusiveMinimum",
+    "maximum",
+    "exclusiveMaximum",
+    "multipleOf",
+    "minLength",
+    "maxLength",
+    "minItems",
+    "maxItems",
+    "minProperties",
+    "maxProperties",
+    "uniqueItems",
+    "pattern",
+    "required",
+    "dependentRequired",
+    "format",
+];
 
-    /// Appends a keyword with its name, `names.0`, and for messages the value of `names.1` in the schema.
-    fn put_limit(
+impl<'v, 'a> Site<'v, 'a> {
+    /// Appends a keyword with its name and, for messages, the value of `source` in the schema.
+    fn put(
         &mut self,
-        names: (&'static str, &str),
+        name: &'static str,
+        source: &str,
         keyword: Keyword,
     ) -> Result<(), AllocError> {
         let alloc = *self.keywords.allocator();
-        let shown = match self.value.get(names.1) {
+        let shown = match self.value.get(source) {
             Some(value) => shown(alloc, value, false)?,
             None => String::new(alloc),
         };
         self.keywords.push(Placed {
             keyword,
-            name: names.0,
+            name,
             shown,
         })?;
         Ok(())
@@ -238,6 +257,35 @@ fn texts(alloc: Global, value: &Json<'_>) -> Result<Vec<String>, AllocError> {
     Ok(list)
 }
 
+/// Returns the names in an object of arrays of strings, each with the strings in its array.
+fn names_by_key(
+    alloc: Global,
+    members: &[(&str, Json<'_>)],
+) -> Result<Vec<(String, Vec<String>)>, AllocError> {
+    let mut list = Vec::new(alloc);
+    for member in members {
+        let names = texts(alloc, &member.1)?;
+        list.push((String::from_str(alloc, member.0)?, names))?;
+    }
+    Ok(list)
+}
+
+/// Returns the count that a JSON number says. A count above `u64::MAX` becomes `u64::MAX`.
+fn count_in(text: &str) -> u64 {
+    Numeral::scan(text.as_bytes())
+        .whole_u64()
+        .unwrap_or(u64::MAX)
+}
+
+/// Returns the keyword that combines the subschemas `nodes` and has this name.
+fn combination(name: &str, nodes: Vec<usize>) -> Keyword {
+    match name {
+        "allOf" => Keyword::AllOf(nodes),
+        "anyOf" => Keyword::AnyOf(nodes),
+        _ => Keyword::OneOf(nodes),
+    }
+}
+
 /// Returns a map from names to the indices of their schemas. If a name occurs twice, its last schema counts.
 fn by_name(
     alloc: Global,
@@ -258,7 +306,7 @@ impl<'v, 'a> Compiler<'v, 'a> {
         let alloc = self.alloc;
         match site.value {
             Json::Bool(true) => {}
-            Json::Bool(false) => site.put("false", Keyword::Never)?,
+            Json::Bool(false) => site.put("false", "false", Keyword::Never)?,
             Json::Object(_) => self.read_object(&mut site)?,
             other => {
                 let place = site.pointer.as_str();
@@ -303,12 +351,7 @@ impl<'v, 'a> Compiler<'v, 'a> {
             _ => {}
         }
         if site.dialect.validates {
-            self.read_any(site)?;
-            self.read_numbers(site)?;
-            self.read_counts(site)?;
-            self.read_others(site)?;
-            self.read_names(site)?;
-            self.read_format(site)?;
+            self.read_assertions(site)?;
         }
         self.read_combined(site)?;
         self.read_items(site)?;
@@ -321,14 +364,16 @@ impl<'v, 'a> Compiler<'v, 'a> {
     /// of their own, which is added as if it were the only one in `allOf`. Fails like `Compiler::node`.
     fn read_unevaluated(&mut self, site: &mut Site<'v, 'a>) -> Result<(), SchemaError> {
         let others = self.without_unevaluated(site)?;
-        site.put("allOf", all_of(self.alloc, others)?)?;
-        if let Some(schema) = self.one(site, "unevaluatedItems")? {
-            let keyword = Keyword::UnevaluatedItems(others, schema);
-            site.put("unevaluatedItems", keyword)?;
-        }
-        if let Some(schema) = self.one(site, "unevaluatedProperties")? {
-            let keyword = Keyword::UnevaluatedProperties(others, schema);
-            site.put("unevaluatedProperties", keyword)?;
+        site.put("allOf", "allOf", all_of(self.alloc, others)?)?;
+        for name in ["unevaluatedItems", "unevaluatedProperties"] {
+            if let Some(schema) = self.one(site, name)? {
+                let keyword = if name == "unevaluatedItems" {
+                    Keyword::UnevaluatedItems(others, schema)
+                } else {
+                    Keyword::UnevaluatedProperties(others, schema)
+                };
+                site.put(name, name, keyword)?;
+            }
         }
         Ok(())
     }
@@ -341,124 +386,96 @@ impl<'v, 'a> Compiler<'v, 'a> {
     ) -> Result<(), SchemaError> {
         if let Some(text) = text_of(site.value, name) {
             if let Some(target) = self.reference(site, name, text)? {
-                site.put(name, all_of(self.alloc, target)?)?;
+                site.put(name, name, all_of(self.alloc, target)?)?;
             }
         }
         Ok(())
     }
 
-    /// Reads `type`, `enum` and, from draft 6 on, `const`.
-    fn read_any(&mut self, site: &mut Site<'v, 'a>) -> Result<(), SchemaError> {
-        let alloc = self.alloc;
-        if let Some(value) = site.value.get("type") {
-            let types = types_in(value, site.dialect.draft);
-            site.put("type", Keyword::Type(types))?;
-        }
-        if let Some(Json::Array(values)) = site.value.get("enum") {
-            site.put("enum", constants(alloc, values.as_slice())?)?;
-        }
-        match site.value.get("const") {
-            Some(value) if site.dialect.draft > Draft::Four => {
-                site.put("const", constants(alloc, slice::from_ref(value))?)?;
-            }
-            _ => {}
-        }
-        Ok(())
-    }
-
-    /// Returns the number in the member `name`, or `None` if the member is missing or not a number.
-    fn limit(&self, site: &Site<'v, 'a>, name: &str) -> Result<Option<Decimal>, AllocError> {
-        match site.value.get(name) {
-            Some(Json::Number(text)) => Ok(Some(Decimal::parse(self.alloc, *text)?)),
-            _ => Ok(None),
-        }
-    }
-
-    /// Reads the keywords for numbers: the four limits and `multipleOf`. In draft 4, `exclusiveMinimum` and
-    /// `exclusiveMaximum` say whether the limits in `minimum` and `maximum` are excluded.
-    fn read_numbers(&mut self, site: &mut Site<'v, 'a>) -> Result<(), SchemaError> {
+    /// Reads the keywords without subschemas, except references. In draft 4, `exclusiveMinimum` and `exclusiveMaximum`
+    /// say whether the limits in `minimum` and `maximum` are excluded.
+    fn read_assertions(&mut self, site: &mut Site<'v, 'a>) -> Result<(), SchemaError> {
         let is_old = site.dialect.draft == Draft::Four;
-        for (name, excluding) in [
-            ("minimum", "exclusiveMinimum"),
-            ("maximum", "exclusiveMaximum"),
-        ] {
-            if let Some(number) = self.limit(site, name)? {
-                let is_excluded = is_old && is_true(site.value, excluding);
-                let own = if is_excluded { excluding } else { name };
-                site.put_limit((own, name), bound(own, number))?;
-            }
-            if !is_old {
-                if let Some(number) = self.limit(site, excluding)? {
-                    site.put(excluding, bound(excluding, number))?;
+        for name in ASSERTIONS {
+            let Some(value) = site.value.get(name) else {
+                continue;
+            };
+            let own = match name {
+                "minimum" if is_old && is_true(site.value, "exclusiveMinimum") => {
+                    "exclusiveMinimum"
                 }
-            }
-        }
-        if let Some(divisor) = self.limit(site, "multipleOf")? {
-            if let Some(size) = divisor.size() {
-                let keyword = Keyword::MultipleOf(size, divisor.exponent());
-                site.put("multipleOf", keyword)?;
-            }
-        }
-        Ok(())
-    }
-
-    /// Returns the count in the member `name`, or `None` if the member is missing or not a number. A count above
-    /// `u64::MAX` becomes `u64::MAX`.
-    fn count(&self, site: &Site<'v, 'a>, name: &str) -> Option<u64> {
-        match site.value.get(name) {
-            Some(Json::Number(text)) => {
-                let numeral = Numeral::scan(text.as_bytes());
-                Some(numeral.whole_u64().unwrap_or(u64::MAX))
-            }
-            _ => None,
-        }
-    }
-
-    /// Reads the keywords that limit the length of a string, or the number of elements or keys.
-    fn read_counts(&self, site: &mut Site<'v, 'a>) -> Result<(), SchemaError> {
-        for name in [
-            "minLength",
-            "maxLength",
-            "minItems",
-            "maxItems",
-            "minProperties",
-            "maxProperties",
-        ] {
-            if let Some(number) = self.count(site, name) {
-                site.put(name, size_limit(name, number))?;
+                "maximum" if is_old && is_true(site.value, "exclusiveMaximum") => {
+                    "exclusiveMaximum"
+                }
+                _ => name,
+            };
+            if let Some(keyword) = self.assertion(site, name, own, value)? {
+                site.put(own, name, keyword)?;
             }
         }
         Ok(())
     }
 
-    /// Reads `uniqueItems` and `pattern`. Fails like `add_pattern`.
-    fn read_others(&mut self, site: &mut Site<'v, 'a>) -> Result<(), SchemaError> {
-        if is_true(site.value, "uniqueItems") {
-            site.put("uniqueItems", Keyword::UniqueItems)?;
-        }
-        if let Some(pattern) = text_of(site.value, "pattern") {
-            if let Some(at) = self.add_pattern(site, &["pattern"], pattern)? {
-                site.put("pattern", Keyword::Pattern(at))?;
-            }
-        }
-        Ok(())
-    }
-
-    /// Reads `format`, and ignores unknown formats.
-    fn read_format(&mut self, site: &mut Site<'v, 'a>) -> Result<(), SchemaError> {
-        let Some(name) = text_of(site.value, "format") else {
-            return Ok(());
+    /// Returns the keyword `name` with this value, called `own`, or `None` if there is no such keyword in this draft, or
+    /// if the value allows everything. Fails like `add_pattern`.
+    fn assertion(
+        &mut self,
+        site: &Site<'v, 'a>,
+        name: &str,
+        own: &str,
+        value: &Json<'a>,
+    ) -> Result<Option<Keyword>, SchemaError> {
+        let alloc = self.alloc;
+        let draft = site.dialect.draft;
+        let Some(want) = want_of(name, draft) else {
+            return Ok(None);
         };
-        if name == "regex" {
-            site.put("format", Keyword::RegexFormat)?;
-            return Ok(());
-        }
-        let Some(format) = format_of(name) else {
-            return Ok(());
+        let keyword = match (want, value) {
+            (Want::Types, _) => Keyword::Type(types_in(value, draft)),
+            (Want::List, Json::Array(values)) => constants(alloc, values.as_slice())?,
+            (Want::Any, _) => constants(alloc, slice::from_ref(value))?,
+            (Want::Number, Json::Number(text)) => bound(own, Decimal::parse(alloc, *text)?),
+            (Want::Divisor, Json::Number(text)) => {
+                let divisor = Decimal::parse(alloc, *text)?;
+                let Some(size) = divisor.size() else {
+                    return Ok(None);
+                };
+                Keyword::MultipleOf(size, divisor.exponent())
+            }
+            (Want::Count, Json::Number(text)) => size_limit(name, count_in(*text)),
+            (Want::Names, _) => Keyword::Required(texts(alloc, value)?),
+            (Want::NamesByKey, Json::Object(members)) => {
+                Keyword::DependentRequired(names_by_key(alloc, members.as_slice())?)
+            }
+            (Want::Flag, Json::Bool(true)) if name == "uniqueItems" => Keyword::UniqueItems,
+            (Want::Text, Json::String(text)) => return self.text_assertion(site, name, *text),
+            _ => return Ok(None),
         };
-        let at = self.format(format.pattern)?;
-        site.put("format", Keyword::Format(at, format.most, format.leap))?;
-        Ok(())
+        Ok(Some(keyword))
+    }
+
+    /// Returns the keyword `pattern` or `format` with this value, or `None` if the format is unknown or the pattern is
+    /// not supported. Fails like `add_pattern`.
+    fn text_assertion(
+        &mut self,
+        site: &Site<'v, 'a>,
+        name: &str,
+        text: &str,
+    ) -> Result<Option<Keyword>, SchemaError> {
+        if name == "pattern" {
+            return match self.add_pattern(site, &["pattern"], text)? {
+                Some(at) => Ok(Some(Keyword::Pattern(at))),
+                None => Ok(None),
+            };
+        }
+        match format_of(text) {
+            Some(format) => {
+                let at = self.format(format.pattern)?;
+                Ok(Some(Keyword::Format(at, format.most, format.leap)))
+            }
+            None if text == "regex" => Ok(Some(Keyword::RegexFormat)),
+            None => Ok(None),
+        }
     }
 
     /// Compiles a regular expression, to which `steps` lead from the schema `site`, and appends it to `self.patterns`.
@@ -501,26 +518,6 @@ impl<'v, 'a> Compiler<'v, 'a> {
         Ok(None)
     }
 
-    /// Reads `required` and, from draft 2019-09 on, `dependentRequired`.
-    fn read_names(&mut self, site: &mut Site<'v, 'a>) -> Result<(), SchemaError> {
-        let alloc = self.alloc;
-        if let Some(value) = site.value.get("required") {
-            site.put("required", Keyword::Required(texts(alloc, value)?))?;
-        }
-        match site.value.get("dependentRequired") {
-            Some(Json::Object(members)) if site.dialect.draft >= Draft::Of2019 => {
-                let mut list = Vec::new(alloc);
-                for member in members.as_slice() {
-                    let names = texts(alloc, &member.1)?;
-                    list.push((String::from_str(alloc, member.0)?, names))?;
-                }
-                site.put("dependentRequired", Keyword::DependentRequired(list))?;
-            }
-            _ => {}
-        }
-        Ok(())
-    }
-
     /// Returns the indices of the compiled forms of the schemas in the array `name` of the schema `site`. Returns
     /// `None` if the member `name` is missing or not an array. Fails like `Compiler::node`.
     fn list(
@@ -554,17 +551,13 @@ impl<'v, 'a> Compiler<'v, 'a> {
 
     /// Reads `allOf`, `anyOf`, `oneOf`, `not` and, from draft 7 on, `if` with `then` and `else`. Fails like `list`.
     fn read_combined(&mut self, site: &mut Site<'v, 'a>) -> Result<(), SchemaError> {
-        if let Some(nodes) = self.list(site, "allOf")? {
-            site.put("allOf", Keyword::AllOf(nodes))?;
-        }
-        if let Some(nodes) = self.list(site, "anyOf")? {
-            site.put("anyOf", Keyword::AnyOf(nodes))?;
-        }
-        if let Some(nodes) = self.list(site, "oneOf")? {
-            site.put("oneOf", Keyword::OneOf(nodes))?;
+        for name in ["allOf", "anyOf", "oneOf"] {
+            if let Some(nodes) = self.list(site, name)? {
+                site.put(name, name, combination(name, nodes))?;
+            }
         }
         if let Some(node) = self.one(site, "not")? {
-            site.put("not", Keyword::Not(node))?;
+            site.put("not", "not", Keyword::Not(node))?;
         }
         if site.dialect.draft < Draft::Seven {
             return Ok(());
@@ -572,7 +565,8 @@ impl<'v, 'a> Compiler<'v, 'a> {
         if let Some(condition) = self.one(site, "if")? {
             let consequent = self.one(site, "then")?;
             let alternative = self.one(site, "else")?;
-            site.put("if", Keyword::If(condition, consequent, alternative))?;
+            let keyword = Keyword::If(condition, consequent, alternative);
+            site.put("if", "if", keyword)?;
         }
         Ok(())
     }
@@ -582,27 +576,18 @@ impl<'v, 'a> Compiler<'v, 'a> {
     fn read_items(&mut self, site: &mut Site<'v, 'a>) -> Result<(), SchemaError> {
         let is_list = matches!(site.value.get("items"), Some(Json::Array(_)));
         let (prefix, rest) = if site.dialect.draft >= Draft::Of2020 {
-            (Some("prefixItems"), "items")
+            ("prefixItems", "items")
         } else if is_list {
-            (Some("items"), "additionalItems")
+            ("items", "additionalItems")
         } else {
-            (None, "items")
+            ("", "items")
         };
-        let first = match prefix {
-            Some(prefix) => self.list(site, prefix)?,
-            None => None,
-        };
+        let first = self.list(site, prefix)?;
         let others = self.one(site, rest)?;
         if first.is_some() || others.is_some() {
-            let name = if others.is_some() {
-                rest
-            } else {
-                prefix.unwrap_or(rest)
-            };
-            site.put(
-                name,
-                Keyword::Items(first.unwrap_or(Vec::new(self.alloc)), others),
-            )?;
+            let name = if others.is_some() { rest } else { prefix };
+            let keyword = Keyword::Items(first.unwrap_or(Vec::new(self.alloc)), others);
+            site.put(name, name, keyword)?;
         }
         Ok(())
     }
@@ -614,29 +599,18 @@ impl<'v, 'a> Compiler<'v, 'a> {
         if draft == Draft::Four {
             return Ok(());
         }
-        let Some(schema) = self.one(site, "contains")? else {
-            return Ok(());
-        };
-        let counts = draft >= Draft::Of2019 && site.dialect.validates;
-        let least = if counts {
-            self.count(site, "minContains")
-        } else {
-            None
-        };
-        let most = if counts {
-            self.count(site, "maxContains")
-        } else {
-            None
-        };
-        site.put(
-            "contains",
-            Keyword::Contains(
-                schema,
-                least.unwrap_or(1),
-                most.unwrap_or(u64::MAX),
-                draft >= Draft::Of2020,
-            ),
-        )?;
+        if let Some(schema) = self.one(site, "contains")? {
+            let counts = draft >= Draft::Of2019 && site.dialect.validates;
+            let (mut least, mut most) = (1, u64::MAX);
+            if let (true, Some(Json::Number(text))) = (counts, site.value.get("minContains")) {
+                least = count_in(*text);
+            }
+            if let (true, Some(Json::Number(text))) = (counts, site.value.get("maxContains")) {
+                most = count_in(*text);
+            }
+            let keyword = Keyword::Contains(schema, least, most, draft >= Draft::Of2020);
+            site.put("contains", "contains", keyword)?;
+        }
         Ok(())
     }
 
@@ -658,18 +632,32 @@ impl<'v, 'a> Compiler<'v, 'a> {
         Ok(list)
     }
 
-    /// Reads `properties`, `patternProperties`, `additionalProperties` and, from draft 6 on, `propertyNames`. A pattern
-    /// that is not supported matches all keys, with the schema `true`. Fails like `members` and `add_pattern`.
-    fn read_properties(&mut self, site: &mut Site<'v, 'a>) -> Result<(), SchemaError> {
-        let named = self.members(site, "properties")?;
+    /// Returns the regular expressions in `patternProperties`, each with the index of its schema. A pattern that is not
+    /// supported matches all keys, with the schema `true`. Fails like `members` and `add_pattern`.
+    fn patterns(&mut self, site: &Site<'v, 'a>) -> Result<Vec<(usize, usize)>, SchemaError> {
         let mut matching = Vec::new(self.alloc);
-        for member in self.members(site, "patternProperties")?.as_slice() {
-            let pattern = member.0.as_str();
-            match self.add_pattern(site, &["patternProperties", pattern], pattern)? {
-                Some(pattern) => matching.push((pattern, member.1))?,
-                None => matching.push((self.format("")?, self.anything()?))?,
+        if let Some(Json::Object(members)) = site.value.get("patternProperties") {
+            for member in members.as_slice() {
+                let mut node = self.inside(site, "patternProperties", member.0, &member.1)?;
+                let steps = &["patternProperties", member.0];
+                let pattern = match self.add_pattern(site, steps, member.0)? {
+                    Some(pattern) => pattern,
+                    None => {
+                        node = self.anything()?;
+                        self.format("")?
+                    }
+                };
+                matching.push((pattern, node))?;
             }
         }
+        Ok(matching)
+    }
+
+    /// Reads `properties`, `patternProperties`, `additionalProperties` and, from draft 6 on, `propertyNames`. Fails like
+    /// `members` and `patterns`.
+    fn read_properties(&mut self, site: &mut Site<'v, 'a>) -> Result<(), SchemaError> {
+        let named = self.members(site, "properties")?;
+        let matching = self.patterns(site)?;
         let rest = self.one(site, "additionalProperties")?;
         if !named.is_empty() || !matching.is_empty() || rest.is_some() {
             let name = if rest.is_some() {
@@ -677,14 +665,16 @@ impl<'v, 'a> Compiler<'v, 'a> {
             } else {
                 "properties"
             };
-            site.put(
-                name,
-                Keyword::Properties(by_name(self.alloc, named)?, matching, rest),
-            )?;
+            let named = by_name(self.alloc, named)?;
+            site.put(name, name, Keyword::Properties(named, matching, rest))?;
         }
         if site.dialect.draft > Draft::Four {
             if let Some(node) = self.one(site, "propertyNames")? {
-                site.put("propertyNames", Keyword::PropertyNames(node))?;
+                site.put(
+                    "propertyNames",
+                    "propertyNames",
+                    Keyword::PropertyNames(node),
+                )?;
             }
         }
         Ok(())
@@ -698,7 +688,7 @@ impl<'v, 'a> Compiler<'v, 'a> {
         let schemas = self.members(site, "dependentSchemas")?;
         if !schemas.is_empty() {
             let keyword = Keyword::DependentSchemas(schemas);
-            site.put("dependentSchemas", keyword)?;
+            site.put("dependentSchemas", "dependentSchemas", keyword)?;
         }
         Ok(())
     }
@@ -723,10 +713,10 @@ impl<'v, 'a> Compiler<'v, 'a> {
         }
         if site.dialect.validates {
             let keyword = Keyword::DependentRequired(names);
-            site.put("dependencies", keyword)?;
+            site.put("dependencies", "dependencies", keyword)?;
         }
         let keyword = Keyword::DependentSchemas(schemas);
-        site.put("dependencies", keyword)?;
+        site.put("dependencies", "dependencies", keyword)?;
         Ok(())
     }
 }

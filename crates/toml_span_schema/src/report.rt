@@ -6,9 +6,9 @@ ghost use Rattle.toml_span_schema.specs.Valid.{valid};
 
 use crate::canonical::canonical;
 use crate::error::CheckError;
-use crate::keyword::Keyword;
+use crate::keyword::{Keyword, Node};
 use crate::listed::Part;
-use crate::messages::code_of;
+use crate::messages::{Listed, Text, is_among, push_code};
 use crate::schema::Schema;
 use crate::valid::MOST_STEPS;
 use crate::walk::{Cause, MOST, Violation, is_plain};
@@ -16,7 +16,7 @@ use std::alloc::{AllocError, Global};
 use std::collections::BTreeMap;
 use toml_span_lex::span::Span;
 use toml_span_report::{Report, nearest};
-use toml_span_tree::Value;
+use toml_span_tree::{Table, Value};
 
 impl Schema {
     /// Checks a value. Returns a report for each violation of the schema, in the order of the text, and one more if
@@ -100,7 +100,7 @@ impl Schema {
     /// `contains` and `propertyNames` cause no warnings. Fails like `check`.
     pub fn warnings(&self, alloc: Global, value: &Value<'_>) -> Result<Vec<Report>, CheckError> {
         let mut reports = Vec::new(alloc);
-        if !self.nodes.iter().any(|node| node.deprecated) {
+        if !self.has_deprecated() {
             return Ok(reports);
         }
         let mut left = MOST_STEPS;
@@ -109,28 +109,34 @@ impl Schema {
             let report = report.primary(key_span(part), "")?;
             reports.push(self.with_title(report, node)?)?;
         }
-        reports.sort_by_key(|report| start_of(report))?;
-        Ok(reports)
+        Ok(in_order(reports)?)
     }
 
-    /// Returns whether a key is missing since it is misspelled: `others` has an unknown key in the same table that is
-    /// near to it.
+    /// Returns whether a compiled schema says `deprecated: true`.
+    fn has_deprecated(&self) -> bool {
+        for node in self.nodes.as_slice() {
+            if node.deprecated {
+                return true;
+            }
+        }
+        false
+    }
+
+    /// Returns whether the key `name` is missing since it is misspelled: `others` has an unknown key in the same table
+    /// that is near to it. `violation` is the one for the missing key.
     fn is_misspelled<'s>(
         &'s self,
         alloc: Global,
+        name: &str,
         violation: &Violation<'s, '_, '_>,
         others: &[Violation<'s, '_, '_>],
     ) -> Result<bool, AllocError> {
-        let Cause::Missing(name) = violation.cause else {
-            return Ok(false);
-        };
         let Some(table) = violation.part.value().as_table() else {
             return Ok(false);
         };
         for other in others {
             if let (Cause::Never, Part::Member(key, _)) = (other.cause, other.part) {
-                let is_here = other.level == violation.level
-                    && table.iter().any(|entry| entry.0.span == key.span);
+                let is_here = other.level == violation.level && has_key_at(table, key.span);
                 if is_here && self.meant(alloc, other)? == Some(name) {
                     return Ok(true);
                 }
@@ -139,40 +145,45 @@ impl Schema {
         Ok(false)
     }
 
-    /// Returns whether a key is unknown only because of other violations, which `others` has: the schema in which
-    /// `unevaluatedProperties` is knows it, but does not allow the table.
+    /// Returns whether the schema at index `node`, which `unevaluatedProperties` is in, knows a key but does not allow
+    /// its table, so that `others` has violations of other keywords.
     fn is_consequence(
         &self,
         alloc: Global,
-        violation: &Violation<'_, '_, '_>,
+        node: usize,
+        key: &str,
         others: &[Violation<'_, '_, '_>],
     ) -> Result<bool, AllocError> {
-        let (Keyword::UnevaluatedProperties(node, _), Part::Member(key, _)) = (
-            &violation.placed.keyword,
-            violation.part,
-        ) else {
-            return Ok(false);
-        };
         for other in others {
-            if !matches!(&other.placed.keyword, Keyword::UnevaluatedProperties(_, _)) {
-                let known = self.known_keys(alloc, &[*node])?;
-                return Ok(known.iter().any(|name| *name == key.name.as_ref()));
+            if !matches!(
+                &other.at.placed.keyword,
+                Keyword::UnevaluatedProperties(_, _)
+            ) {
+                let known = self.known_keys(alloc, &[node])?;
+                return Ok(is_among(known.as_slice(), key));
             }
         }
         Ok(false)
     }
 
-    /// Returns whether a violation needs no report, since another one has one that says more.
+    /// Returns whether a violation needs no report, since another one in `others` has one that says more.
     fn is_implied<'s>(
         &'s self,
         alloc: Global,
         violation: &Violation<'s, '_, '_>,
         others: &[Violation<'s, '_, '_>],
     ) -> Result<bool, AllocError> {
-        Ok(
-            self.is_misspelled(alloc, violation, others)?
-                || self.is_consequence(alloc, violation, others)?,
-        )
+        match (
+            violation.cause,
+            &violation.at.placed.keyword,
+            violation.part,
+        ) {
+            (Cause::Missing(name), _, _) => self.is_misspelled(alloc, name, violation, others),
+            (_, Keyword::UnevaluatedProperties(node, _), Part::Member(key, _)) => {
+                self.is_consequence(alloc, *node, key.name.as_ref(), others)
+            }
+            _ => Ok(false),
+        }
     }
 
     /// Returns the report on a violation.
@@ -183,18 +194,31 @@ impl Schema {
     ) -> Result<Report, CheckError>
         ensures { IfOk result IsError }
     {
-        let message = self.message_of(alloc, violation)?;
-        let code = code_of(alloc, violation)?;
+        let listed = self.listed(alloc, violation)?;
         let span = self.span_of(alloc, violation)?;
-        let meant = self.meant(alloc, violation)?;
-        let help = self.help_of(alloc, violation)?;
-        let place = self.place_of(alloc, violation)?;
-        let equal = equal_elements_of(alloc, violation)?;
-        let report = Report::error(alloc, code.as_str(), message.as_str())?;
-        let report = with_equal(report.primary(span, "")?, equal)?;
-        let report = with_help(with_meant(alloc, report, meant, span)?, help.as_str())?;
-        let report = report.note(place.as_str())?;
-        Ok(self.with_title(report, violation.node)?)
+        let report = self.headline(alloc, violation, &listed)?.primary(span, "")?;
+        let report = with_equal(alloc, report, violation)?;
+        let report = with_meant(alloc, report, self.meant(alloc, violation)?, span)?;
+        let report = self.with_help(alloc, report, violation, &listed)?;
+        Ok(self.with_place(alloc, report, violation)?)
+    }
+
+    /// Returns a report with the code and the message of a violation.
+    fn headline(
+        &self,
+        alloc: Global,
+        violation: &Violation<'_, '_, '_>,
+        listed: &Listed<'_>,
+    ) -> Result<Report, CheckError>
+        ensures { IfOk result IsError }
+    {
+        let mut code = Text::new(alloc);
+        push_code(&mut code, violation);
+        let mut message = Text::new(alloc);
+        self.push_message(alloc, &mut message, violation, listed)?;
+        let code = code.finish()?;
+        let message = message.finish()?;
+        Ok(Report::error(alloc, code.as_str(), message.as_str())?)
     }
 
     /// Returns the span that the report on a violation marks: a key that is not allowed, the key of a table that lacks
@@ -205,15 +229,20 @@ impl Schema {
         violation: &Violation<'s, '_, '_>,
     ) -> Result<Span, CheckError> {
         let part = violation.part;
-        let name = match (violation.cause, &violation.placed.keyword, part) {
+        let name = match (violation.cause, &violation.at.placed.keyword, part) {
             (Cause::Missing(_) | Cause::Never | Cause::Name, _, Part::Member(key, _)) => {
                 return Ok(key.span);
             }
             (Cause::Requires(name, _), _, _) => Some(name),
-            (_, Keyword::Not(node), _) => self.excluded(*node).first().map(|name| name.as_str()),
+            (_, Keyword::Not(node), _) => match self.excluded(*node) {
+                [name, ..] => Some(name.as_str()),
+                [] => None,
+            },
             (_, Keyword::UniqueItems, _) => {
-                let pair = equal_elements(alloc, part.value())?;
-                return Ok(pair.map_or(part.mark(), |pair| pair.1));
+                if let Some(pair) = equal_elements(alloc, part.value())? {
+                    return Ok(pair.1);
+                }
+                None
             }
             _ => None,
         };
@@ -245,27 +274,6 @@ impl Schema {
         alloc: Global,
         violation: &Violation<'s, '_, '_>,
     ) -> Result<Option<&'s str>, AllocError> {
-        let known = match (&violation.placed.keyword, violation.cause, violation.part) {
-            (Keyword::Properties(named, _, _), Cause::Never, Part::Member(key, _)) => {
-                if named.get(key.name.as_ref()).is_some() {
-                    return Ok(None);
-                }
-                self.known_keys(alloc, &[violation.node])?
-            }
-            (Keyword::UnevaluatedProperties(others, _), Cause::Never, _) => {
-                self.known_keys(alloc, &[*others])?
-            }
-            (Keyword::Enum(_, _), _, _) | (_, Cause::Unlisted(_), _) => {
-                let mut words = Vec::new(alloc);
-                for constant in self.listed(alloc, violation)?.1 {
-                    if let Some(word) = word_in(constant) {
-                        words.push(word)?;
-                    }
-                }
-                words
-            }
-            _ => return Ok(None),
-        };
         let word = match (violation.cause, violation.part) {
             (Cause::Never, Part::Member(key, _)) => key.name.as_ref(),
             (Cause::Never, _) => return Ok(None),
@@ -274,36 +282,93 @@ impl Schema {
                 None => return Ok(None),
             },
         };
+        let known = match (&violation.at.placed.keyword, violation.cause) {
+            (Keyword::Properties(named, _, _), Cause::Never) if named.get(word).is_none() => {
+                self.known_keys(alloc, &[violation.at.node])?
+            }
+            (Keyword::UnevaluatedProperties(others, _), Cause::Never) => {
+                self.known_keys(alloc, &[*others])?
+            }
+            (Keyword::Enum(_, _), _) | (_, Cause::Unlisted(_)) => {
+                self.words_listed(alloc, violation)?
+            }
+            _ => return Ok(None),
+        };
         same_or_nearest(alloc, word, known.as_slice())
     }
 
-    /// Returns the note that names the place of a violation's keyword.
-    fn place_of(
+    /// Returns the strings without escapes among the constants that a violation's keyword or alternatives list.
+    fn words_listed<'s>(
+        &'s self,
+        alloc: Global,
+        violation: &Violation<'s, '_, '_>,
+    ) -> Result<Vec<&'s str>, AllocError> {
+        let mut words = Vec::new(alloc);
+        for constant in self.listed(alloc, violation)?.constants {
+            if let Some(word) = word_in(constant) {
+                words.push(word)?;
+            }
+        }
+        Ok(words)
+    }
+
+    /// Adds a line of help, if there is any.
+    fn with_help(
         &self,
         alloc: Global,
+        report: Report,
         violation: &Violation<'_, '_, '_>,
-    ) -> Result<String, AllocError> {
-        let place = match self.nodes.get(violation.node) {
+        listed: &Listed<'_>,
+    ) -> Result<Report, AllocError>
+        ensures { IfOk result (λ made. made.severity ≡ report.severity) }
+    {
+        let mut text = Text::new(alloc);
+        self.push_help(alloc, &mut text, violation, listed)?;
+        let help = text.finish()?;
+        if help.is_empty() {
+            Ok(report)
+        } else {
+            report.help(help.as_str())
+        }
+    }
+
+    /// Adds the notes that name the place of a violation's keyword and the title of its schema, if it has one.
+    fn with_place(
+        &self,
+        alloc: Global,
+        report: Report,
+        violation: &Violation<'_, '_, '_>,
+    ) -> Result<Report, AllocError>
+        ensures { IfOk result (λ made. made.severity ≡ report.severity) }
+    {
+        let place = match self.nodes.get(violation.at.node) {
             Some(node) => node.place.as_str(),
             None => "",
         };
-        let name = violation.placed.name;
+        let name = violation.at.placed.name;
         let whose = if place.contains('#') {
             ""
         } else {
             " in the schema"
         };
-        format!(in alloc; "required by `{place}/{name}`{whose}")
+        let note = format!(in alloc; "required by `{place}/{name}`{whose}")?;
+        self.with_title(report.note(note.as_str())?, violation.at.node)
     }
 
     /// Adds a note with the title of the schema at index `node`, if it has a title.
     fn with_title(&self, report: Report, node: usize) -> Result<Report, AllocError>
         ensures { IfOk result (λ made. made.severity ≡ report.severity) }
     {
-        match self.nodes.get(node).and_then(|node| node.title.as_ref()) {
-            Some(title) => report.note(title.as_str()),
-            None => Ok(report),
+        if let Some(
+            Node {
+                title: Some(title),
+                ..
+            },
+        ) = self.nodes.get(node)
+        {
+            return report.note(title.as_str());
         }
+        Ok(report)
     }
 }
 
@@ -320,7 +385,7 @@ fn push_error(reports: &mut Vec<Report>, report: Report) -> Result<(), AllocErro
 fn push_new(reports: &mut Vec<Report>, report: Report) -> Result<(), AllocError>
     ensures { All IsError reports.old.items → IsError report → OnOk result (All IsError reports.new.items) }
 {
-    if reports.iter().any(|other| is_same(other, &report)) {
+    if is_reported(reports.as_slice(), &report) {
         return Ok(());
     }
     push_error(reports, report)
@@ -335,14 +400,20 @@ fn in_order(mut reports: Vec<Report>) -> Result<Vec<Report>, AllocError>
     Ok(reports)
 }
 
-/// Adds a label for the first of two equal elements, if there are any.
-fn with_equal(report: Report, equal: Option<(Span, Span)>) -> Result<Report, AllocError>
+/// Adds a label for the first of two equal elements, if the violation is of `uniqueItems`. Fails like `canonical`.
+fn with_equal(
+    alloc: Global,
+    report: Report,
+    violation: &Violation<'_, '_, '_>,
+) -> Result<Report, CheckError>
     ensures { IfOk result (λ made. made.severity ≡ report.severity) }
 {
-    match equal {
-        Some(pair) => report.secondary(pair.0, "equal to this element"),
-        None => Ok(report),
+    if let Keyword::UniqueItems = &violation.at.placed.keyword {
+        if let Some(pair) = equal_elements(alloc, violation.part.value())? {
+            return Ok(report.secondary(pair.0, "equal to this element")?);
+        }
     }
+    Ok(report)
 }
 
 /// Adds the question whether `meant`, if there is such a name, was meant, and a replacement of `span` if the name needs
@@ -367,17 +438,6 @@ fn with_meant(
     }
 }
 
-/// Adds a line of help, unless it is empty.
-fn with_help(report: Report, help: &str) -> Result<Report, AllocError>
-    ensures { IfOk result (λ made. made.severity ≡ report.severity) }
-{
-    if help.is_empty() {
-        Ok(report)
-    } else {
-        report.help(help)
-    }
-}
-
 /// Returns the byte offset at which the first label of a report begins, or 0 if the report has no label.
 fn start_of(report: &Report) -> usize {
     match report.labels.first() {
@@ -386,9 +446,26 @@ fn start_of(report: &Report) -> usize {
     }
 }
 
-/// Returns whether two reports say the same of the same place.
-fn is_same(one: &Report, other: &Report) -> bool {
-    start_of(one) == start_of(other) && one.message.as_str() == other.message.as_str()
+/// Returns whether one of `reports` says the same of the same place as `report`.
+fn is_reported(reports: &[Report], report: &Report) -> bool {
+    for other in reports {
+        if start_of(other) == start_of(report)
+            && other.message.as_str() == report.message.as_str()
+        {
+            return true;
+        }
+    }
+    false
+}
+
+/// Returns whether a table has a key at `span`.
+fn has_key_at(table: &Table<'_>, span: Span) -> bool {
+    for (key, _value) in table.iter() {
+        if key.span == span {
+            return true;
+        }
+    }
+    false
 }
 
 /// Returns the span of the key of an entry, or otherwise that of the value.
@@ -415,17 +492,6 @@ fn equal_elements(alloc: Global, value: &Value<'_>) -> Result<Option<(Span, Span
     Ok(None)
 }
 
-/// Returns the spans of two equal elements if the violation is of `uniqueItems`. Fails like `canonical`.
-fn equal_elements_of(
-    alloc: Global,
-    violation: &Violation<'_, '_, '_>,
-) -> Result<Option<(Span, Span)>, CheckError> {
-    match &violation.placed.keyword {
-        Keyword::UniqueItems => equal_elements(alloc, violation.part.value()),
-        _ => Ok(None),
-    }
-}
-
 /// Returns the word in `known` that is the same as `word` in other letter case, or else the nearest, if one is near
 /// enough.
 fn same_or_nearest<'s>(
@@ -433,7 +499,7 @@ fn same_or_nearest<'s>(
     word: &str,
     known: &[&'s str],
 ) -> Result<Option<&'s str>, AllocError> {
-    if known.iter().any(|name| *name == word) {
+    if is_among(known, word) {
         return Ok(None);
     }
     for name in known {

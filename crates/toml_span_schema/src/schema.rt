@@ -40,7 +40,7 @@ impl Schema {
             address: "file:///schema.json",
             text,
         };
-        let Guide { schema, .. } = compile(alloc, root, others)?;
+        let Guide { schema, .. } = compile(alloc, root, others, false)?;
         Ok(schema)
     }
 

@@ -1,7 +1,7 @@
 //! Finds the subschemas that apply to a value, which may be incomplete, for editors.
 
 use crate::applied::{has_key, schemas_for};
-use crate::cycles::in_place;
+use crate::cycles::{Indices, in_place};
 use crate::error::CheckError;
 use crate::guide::Guide;
 use crate::keyword::{Keyword, Types};
@@ -108,27 +108,27 @@ impl Kinds {
 }
 
 /// Appends the index of a compiled schema, unless `nodes` has it or has `MOST_SUBSCHEMAS` indices.
-fn push_node(nodes: &mut Vec<usize>, node: usize) -> Result<(), AllocError> {
-    if nodes.len() < MOST_SUBSCHEMAS && !nodes.contains(&node) {
-        nodes.push(node)?;
+fn push_node(nodes: &mut Indices, node: usize) {
+    if nodes.list.len() < MOST_SUBSCHEMAS && !nodes.list.contains(&node) {
+        nodes.push(node);
     }
-    Ok(())
 }
 
 /// Appends the indices of compiled schemas, as `push_node` does.
-fn push_all(nodes: &mut Vec<usize>, more: &[usize]) -> Result<(), AllocError> {
+fn push_all(nodes: &mut Indices, more: &[usize]) {
     for node in more {
-        push_node(nodes, *node)?;
+        push_node(nodes, *node);
     }
-    Ok(())
 }
 
-/// Returns the verdict in `found`, or true if the check exceeded the limits.
-fn verdict(found: Result<bool, CheckError>) -> Result<bool, AllocError> {
+/// Returns the verdict in `found`, or true if the check exceeded the limits. If an allocation failed, `nodes` has it.
+fn verdict(nodes: &mut Indices, found: Result<bool, CheckError>) -> bool {
     match found {
-        Ok(holds) => Ok(holds),
-        Err(CheckError::OutOfMemory) => Err(AllocError),
-        Err(_) => Ok(true),
+        Ok(holds) => holds,
+        Err(error) => {
+            nodes.is_refused |= error == CheckError::OutOfMemory;
+            true
+        }
     }
 }
 
@@ -144,8 +144,8 @@ impl Guide {
         alloc: Global,
         value: Option<&Value<'_>>,
     ) -> Result<Subschemas, AllocError> {
-        let mut nodes = Vec::new(alloc);
-        nodes.push(0)?;
+        let mut nodes = Indices::new(alloc);
+        nodes.push(0);
         self.schema.with_applied(alloc, nodes, value)
     }
 
@@ -160,24 +160,23 @@ impl Guide {
         step: Step<'_>,
         value: Option<&Value<'_>>,
     ) -> Result<Subschemas, AllocError> {
-        let mut nodes = Vec::new(alloc);
+        let mut nodes = Indices::new(alloc);
         let any = Value::new(ValueInner::Boolean(true));
-        match step {
-            Step::Key(name) => {
-                let key = Key {
-                    name: CowStr::Borrowed(name),
-                    span: Span::default(),
-                };
-                let part = Part::Member(&key, &any);
-                self.schema.push_inside(alloc, outer, part, &mut nodes)?;
-            }
-            Step::Position(at) => {
-                let part = Part::Element(at, &any);
-                self.schema.push_inside(alloc, outer, part, &mut nodes)?;
-            }
-        }
-        if nodes.is_empty() {
-            self.schema.push_unevaluated(outer, step, &mut nodes)?;
+        let name = match step {
+            Step::Key(name) => name,
+            Step::Position(_) => "",
+        };
+        let key = Key {
+            name: CowStr::Borrowed(name),
+            span: Span::default(),
+        };
+        let part = match step {
+            Step::Key(_) => Part::Member(&key, &any),
+            Step::Position(at) => Part::Element(at, &any),
+        };
+        self.schema.push_inside(alloc, outer, part, &mut nodes)?;
+        if nodes.list.is_empty() {
+            self.schema.push_unevaluated(outer, part, &mut nodes);
         }
         self.schema.with_applied(alloc, nodes, value)
     }
@@ -214,8 +213,10 @@ impl Guide {
         for node in subschemas.nodes.as_slice() {
             for placed in self.schema.keywords(*node) {
                 if let Keyword::Required(names) = &placed.keyword {
-                    if names.iter().any(|other| other.as_str() == name) {
-                        return true;
+                    for other in names.as_slice() {
+                        if other.as_str() == name {
+                            return true;
+                        }
                     }
                 }
             }
@@ -269,13 +270,18 @@ impl Schema {
         alloc: Global,
         nodes: &[usize],
     ) -> Result<Vec<&'s str>, AllocError> {
-        let mut all = Vec::from_slice(alloc, nodes)?;
+        let mut all = Indices::new(alloc);
+        all.push_all(nodes);
         for at in 0..MOST_SUBSCHEMAS {
-            let Some(node) = all.get(at).and_then(|node| self.nodes.get(*node)) else {
+            let Some(at) = all.list.get(at).copied() else {
                 break;
             };
-            push_all(&mut all, in_place(alloc, node)?.as_slice())?;
+            if let Some(node) = self.nodes.get(at) {
+                let more = in_place(alloc, node)?;
+                push_all(&mut all, more.as_slice());
+            }
         }
+        let all = all.finish()?;
         self.keys_in(alloc, all.as_slice())
     }
 
@@ -284,103 +290,87 @@ impl Schema {
     fn with_applied(
         &self,
         alloc: Global,
-        mut nodes: Vec<usize>,
+        mut nodes: Indices,
         value: Option<&Value<'_>>,
     ) -> Result<Subschemas, AllocError> {
         let mut left = MOST_TRIED;
         for at in 0..MOST_SUBSCHEMAS {
-            let Some(node) = nodes.get(at).copied() else {
-                return Ok(Subschemas { nodes });
+            let Some(node) = nodes.list.get(at).copied() else {
+                break;
             };
             for placed in self.keywords(node) {
-                self.push_applied(alloc, &mut left, &placed.keyword, value, &mut nodes)?;
+                self.push_applied(alloc, &mut left, &placed.keyword, value, &mut nodes);
             }
         }
+        let nodes = nodes.finish()?;
         Ok(Subschemas { nodes })
     }
 
     /// Appends to `nodes` the indices of the subschemas that a keyword applies to the value itself. Takes 1 from `left`
-    /// for each subschema that is tried.
+    /// for each subschema that is tried. Between `then` and `else`, chooses `then` if the check exceeds the limits, and
+    /// both if `value` is `None`.
     fn push_applied(
         &self,
         alloc: Global,
         left: &mut u64,
         keyword: &Keyword,
         value: Option<&Value<'_>>,
-        nodes: &mut Vec<usize>,
-    ) -> Result<(), AllocError> {
+        nodes: &mut Indices,
+    ) {
         match keyword {
             Keyword::AllOf(list) => push_all(nodes, list.as_slice()),
             Keyword::AnyOf(list) | Keyword::OneOf(list) => {
-                let fitting = self.alternatives(alloc, left, list.as_slice(), value)?;
-                push_all(nodes, fitting.as_slice())
+                self.push_fitting(alloc, left, list.as_slice(), value, nodes);
             }
             Keyword::If(condition, yes, no) => {
-                self.push_branches(alloc, left, *condition, (*yes, *no), value, nodes)
+                let mut holds = true;
+                if let Some(value) = value {
+                    let found = self.is_valid(alloc, left, self.depth, *condition, value);
+                    holds = verdict(nodes, found);
+                }
+                if holds {
+                    push_all(nodes, yes.as_slice());
+                }
+                if !holds || value.is_none() {
+                    push_all(nodes, no.as_slice());
+                }
             }
             Keyword::DependentSchemas(entries) => {
-                for entry in entries.as_slice() {
-                    if value.map_or(false, |value| has_key(value, entry.0.as_str())) {
-                        push_node(nodes, entry.1)?;
+                if let Some(value) = value {
+                    for entry in entries.as_slice() {
+                        if has_key(value, entry.0.as_str()) {
+                            push_node(nodes, entry.1);
+                        }
                     }
                 }
-                Ok(())
             }
-            _ => Ok(()),
+            _ => {}
         }
     }
 
-    /// Appends the index of `then` if the value is valid against the schema at index `condition`, otherwise the index
-    /// of `else`. Appends that of `then` if the check exceeds the limits, and both if `value` is `None`. `branches` has
-    /// the indices of `then` and `else`.
-    fn push_branches(
-        &self,
-        alloc: Global,
-        left: &mut u64,
-        condition: usize,
-        branches: (Option<usize>, Option<usize>),
-        value: Option<&Value<'_>>,
-        nodes: &mut Vec<usize>,
-    ) -> Result<(), AllocError> {
-        let (has_yes, has_no) = match value {
-            Some(value) => {
-                let found = self.is_valid(alloc, left, self.depth, condition, value);
-                let holds = verdict(found)?;
-                (holds, !holds)
-            }
-            None => (true, true),
-        };
-        if let (true, Some(node)) = (has_yes, branches.0) {
-            push_node(nodes, node)?;
-        }
-        if let (true, Some(node)) = (has_no, branches.1) {
-            push_node(nodes, node)?;
-        }
-        Ok(())
-    }
-
-    /// Returns the schemas in `list`, given by their indices, for which `may_fit` accepts the value or exceeds the
-    /// limits. Returns the whole `list` if `may_fit` rejects the value for all of them, or if `value` is `None`.
-    fn alternatives(
+    /// Appends to `nodes` the schemas in `list`, given by their indices, for which `may_fit` accepts the value or exceeds
+    /// the limits. Appends the whole `list` if `may_fit` rejects the value for all of them, or if `value` is `None`.
+    fn push_fitting(
         &self,
         alloc: Global,
         left: &mut u64,
         list: &[usize],
         value: Option<&Value<'_>>,
-    ) -> Result<Vec<usize>, AllocError> {
-        let mut fitting = Vec::new(alloc);
+        nodes: &mut Indices,
+    ) {
+        let mut is_any = false;
         if let Some(value) = value {
             for node in list {
                 let found = self.may_fit(alloc, left, *node, value);
-                if verdict(found)? {
-                    fitting.push(*node)?;
+                if verdict(nodes, found) {
+                    push_node(nodes, *node);
+                    is_any = true;
                 }
             }
         }
-        if fitting.is_empty() {
-            fitting.extend_from_slice(list)?;
+        if !is_any {
+            push_all(nodes, list);
         }
-        Ok(fitting)
     }
 
     /// Appends to `nodes` the indices of the subschemas that the keywords of the schemas `outer` apply to `part`, an
@@ -390,39 +380,31 @@ impl Schema {
         alloc: Global,
         outer: &Subschemas,
         part: Part<'_, '_>,
-        nodes: &mut Vec<usize>,
+        nodes: &mut Indices,
     ) -> Result<(), AllocError> {
         for node in outer.nodes.as_slice() {
             for placed in self.keywords(*node) {
                 let found = schemas_for(alloc, self, &placed.keyword, part)?;
-                push_all(nodes, found.as_slice())?;
+                push_all(nodes, found.as_slice());
             }
         }
         Ok(())
     }
 
-    /// Appends to `nodes` the indices of the subschemas of `unevaluatedProperties` in the schemas `outer` or, if `step`
-    /// is a position, of `unevaluatedItems`.
-    fn push_unevaluated(
-        &self,
-        outer: &Subschemas,
-        step: Step<'_>,
-        nodes: &mut Vec<usize>,
-    ) -> Result<(), AllocError> {
+    /// Appends to `nodes` the indices of the subschemas of `unevaluatedProperties` in the schemas `outer` or, if `part`
+    /// is an element, of `unevaluatedItems`.
+    fn push_unevaluated(&self, outer: &Subschemas, part: Part<'_, '_>, nodes: &mut Indices) {
         for node in outer.nodes.as_slice() {
             for placed in self.keywords(*node) {
-                match (&placed.keyword, step) {
-                    (Keyword::UnevaluatedProperties(_, node), Step::Key(_)) => {
-                        push_node(nodes, *node)?;
-                    }
-                    (Keyword::UnevaluatedItems(_, node), Step::Position(_)) => {
-                        push_node(nodes, *node)?;
+                match (&placed.keyword, part) {
+                    (Keyword::UnevaluatedProperties(_, node), Part::Member(_, _))
+                    | (Keyword::UnevaluatedItems(_, node), Part::Element(_, _)) => {
+                        push_node(nodes, *node);
                     }
                     _ => {}
                 }
             }
         }
-        Ok(())
     }
 
     /// Returns whether a value may become valid against the schema at index `node` if more keys are added to it: no
@@ -435,7 +417,11 @@ impl Schema {
         value: &'v Value<'de>,
     ) -> Result<bool, CheckError> {
         let walk = self.walked(alloc, left, node, value)?;
-        let mut wrong = walk.violations.iter();
-        Ok(!wrong.any(|one| one.is_unlisted() || one.is_never()))
+        for one in walk.violations.as_slice() {
+            if one.is_unlisted() || one.is_never() {
+                return Ok(false);
+            }
+        }
+        Ok(true)
     }
 }

@@ -75,12 +75,13 @@ abbrev pub reason_text : Reason → List ℕ
 reason_text (is.Wanted e f) = codes "expected " ++ words_of e ++ codes ", found " ++ name_of f
 reason_text (is.WantedOneOf es f) = codes "expected " ++ kinds_text es.items ++ codes ", found " ++ name_of f
 reason_text (is.Unexpected f) = codes "unexpected " ++ name_of f
-reason_text (is.MissingField name) = codes "missing field " ++ named (string_bytes name)
-reason_text (is.DuplicateField name first) = codes "duplicate field " ++ named (string_bytes name)
-reason_text (is.UnknownField name expected) = codes "unknown field " ++ named (string_bytes name) ++ codes ", "
-    ++ expected_text (codes "there are no fields") (map string_bytes expected.items)
-reason_text (is.UnknownVariant name expected) = codes "unknown variant " ++ named (string_bytes name) ++ codes ", "
-    ++ expected_text (codes "there are no variants") (map string_bytes expected.items)
+reason_text (is.MissingField name) = codes "missing key " ++ named (string_bytes name)
+reason_text (is.DuplicateField name first) = codes "duplicate key: " ++ named (string_bytes name)
+reason_text (is.UnknownField name expected) = codes "unknown key " ++ named (string_bytes name) ++ codes ", "
+    ++ expected_text (codes "this table can't have keys") (map string_bytes expected.items)
+reason_text (is.UnknownVariant name expected) =
+    expected_text (codes "no value is accepted") (map string_bytes expected.items)
+    ++ codes ", found " ++ named (string_bytes name)
 reason_text (is.Length count) = codes "wrong number of elements: " ++ decimal count
 reason_text (is.TooLong count) = codes "too many elements, expected " ++ decimal count
 reason_text is.OutOfRange = codes "number is out of range"
@@ -105,6 +106,8 @@ kind_of_reason (is.UnknownField name expected) =
     marked (codes "unexpected-keys") (reason_text (is.UnknownField name expected)) []
 kind_of_reason (is.UnknownVariant name expected) =
     marked (codes "unexpected-value") (reason_text (is.UnknownVariant name expected)) []
+kind_of_reason is.OutOfRange = marked (codes "out-of-range") (reason_text is.OutOfRange) []
+kind_of_reason is.Negative = marked (codes "out-of-range") (reason_text is.Negative) []
 kind_of_reason reason = custom (reason_text reason)
 
 -- the expected name that is nearest to an unknown key or variant, if one is near enough (see `nearest`)

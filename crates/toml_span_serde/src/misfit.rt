@@ -222,15 +222,15 @@ impl Display for Reason {
                 let found = found.name();
                 write!(f, "unexpected {found}")
             }
-            Reason::MissingField(name) => write!(f, "missing field `{name}`"),
-            Reason::DuplicateField { name, .. } => write!(f, "duplicate field `{name}`"),
+            Reason::MissingField(name) => write!(f, "missing key `{name}`"),
+            Reason::DuplicateField { name, .. } => write!(f, "duplicate key: `{name}`"),
             Reason::UnknownField { name, expected } => {
-                write!(f, "unknown field `{name}`, ")?;
-                write_expected(f, "there are no fields", expected.as_slice())
+                write!(f, "unknown key `{name}`, ")?;
+                write_expected(f, "this table can't have keys", expected.as_slice())
             }
             Reason::UnknownVariant { name, expected } => {
-                write!(f, "unknown variant `{name}`, ")?;
-                write_expected(f, "there are no variants", expected.as_slice())
+                write_expected(f, "no value is accepted", expected.as_slice())?;
+                write!(f, ", found `{name}`")
             }
             Reason::Length(count) => write!(f, "wrong number of elements: {count}"),
             Reason::TooLong(count) => write!(f, "too many elements, expected {count}"),
@@ -257,6 +257,8 @@ impl Reason {
             Reason::DuplicateField { name, first } => self.twice(alloc, name.as_str(), *first)?,
             Reason::UnknownField { .. } => self.marked(alloc, "unexpected-keys")?,
             Reason::UnknownVariant { .. } => self.marked(alloc, "unexpected-value")?,
+            Reason::OutOfRange => self.marked(alloc, "out-of-range")?,
+            Reason::Negative => self.marked(alloc, "out-of-range")?,
             _ => self.custom(alloc)?,
         })
     }

@@ -20,6 +20,7 @@ mod tuples;
 
 pub use holders::Parsed;
 pub use ranges::InRange;
+pub(crate) use ranges::outside;
 use std::alloc::{AllocError, Global};
 use toml_span_lex::stop::Stop;
 use toml_span_tree::{DeserError, Error, Value};

@@ -16,5 +16,7 @@ pub mod words_are_alias_deprecated_flatten_optional_or_parsed_range_unique_with_
 pub use deserialize::{Deserialize, InRange, Parsed};
 #[doc(hidden)]
 pub use toml_span_lex::spanned::Spanned;
+#[doc(hidden)]
+pub use toml_span_tree::FloatText;
 pub use toml_span_tree::{DeserError, ErrorIter, Unmerged};
 pub use with_warnings::DeserializeWithWarnings;

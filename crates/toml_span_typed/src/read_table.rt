@@ -11,8 +11,9 @@
 ///   `tags: Vec<String>, optional;`
 /// - `port: u16, or(80);`: the value `80` if the key is absent. `80` can be any expression, and is not evaluated if the
 ///   field has been read. For a `String`, it can be a literal: `host: String, or("localhost");`;
-/// - `port: u16, range(1..=65535);`: an error for an integer outside this range (`InRange`). The type may also be an
-///   `Option`, a `Spanned` or an `Option` of a `Spanned`. With any other type, `or(..)` may follow;
+/// - `port: u16, range(1..=65535);`: an error for an integer outside this range (`InRange`). If the type is written
+///   `f64` or `f32`, the bounds are floats: `range(0.0..=1.0)`. The type may also be an `Option`, a `Spanned` or an
+///   `Option` of a `Spanned`. With any other type, `or(..)` may follow;
 /// - `level: Level, parsed;`: a string that `FromStr` reads. As with `range`, the type may also be an `Option`, a
 ///   `Spanned` or an `Option` of a `Spanned`. With any other type, `or(..)` may follow;
 /// - `max_body: u64 = "max-body", alias("max_body");`: read from the key or from an old name
@@ -20,7 +21,7 @@
 /// - `servers: Vec<Server>, unique(name);`: an error for each server whose field `name`, a `Spanned<String>`, equals
 ///   the field `name` of an earlier server (`TableHelper::keep_repeated`). If the read fails, the strings with the key
 ///   `name` are compared instead (`TableHelper::repeated_at`); for a field with another key, write
-///   `unique(name = "id")`;
+///   `unique(name = "id")`. The type may also be an `Option`. With any other type, `or(..)` may follow;
 /// - `limits: Limits, flatten;`, as the last field: a type that reads the remaining keys (`TableHelper::read_rest`).
 ///
 /// Other keys are an error. With `..` after the last field they are allowed, and are put back into the value. All
@@ -53,60 +54,58 @@ macro_rules! read_table {
         compile_error!(concat!("`read_table!`: `", stringify!($field), "` has `flatten`, so it must be the last field"))
     };
 
-    // the bounds of a range are integers
-    (@fields $read:tt $done:tt $field:ident: f64 $(= $key:literal)?, range $($rest:tt)*) => {
-        $crate::read_table!(@float $field)
+    // each field: its name, the form of its type (`Option`, `Spanned`, both or neither; before them `float` for an `f64`
+    // or `f32`, or `text` for a `String`), the type inside, its key, and its options
+    (@fields $read:tt $done:tt $field:ident: Option<Spanned<f64>> $($rest:tt)*) => {
+        $crate::read_table!(@field_of $read $done $field [float option spanned] [f64] $($rest)*)
     };
-    (@fields $read:tt $done:tt $field:ident: f32 $(= $key:literal)?, range $($rest:tt)*) => {
-        $crate::read_table!(@float $field)
+    (@fields $read:tt $done:tt $field:ident: Option<Spanned<f32>> $($rest:tt)*) => {
+        $crate::read_table!(@field_of $read $done $field [float option spanned] [f32] $($rest)*)
     };
-    (@fields $read:tt $done:tt $field:ident: Option<f64> $(= $key:literal)?, range $($rest:tt)*) => {
-        $crate::read_table!(@float $field)
+    (@fields $read:tt $done:tt $field:ident: Option<Spanned<$ty:ty>> $($rest:tt)*) => {
+        $crate::read_table!(@field_of $read $done $field [option spanned] [$ty] $($rest)*)
     };
-    (@fields $read:tt $done:tt $field:ident: Option<f32> $(= $key:literal)?, range $($rest:tt)*) => {
-        $crate::read_table!(@float $field)
+    (@fields $read:tt $done:tt $field:ident: Option<f64> $($rest:tt)*) => {
+        $crate::read_table!(@field_of $read $done $field [float option] [f64] $($rest)*)
     };
-    (@float $field:ident) => {
-        compile_error!(concat!("`read_table!`: `", stringify!($field), "` is a float, and `range` is for integers: give ",
-            "it a type of your own, whose `deserialize` reads an `f64` and checks it"))
+    (@fields $read:tt $done:tt $field:ident: Option<f32> $($rest:tt)*) => {
+        $crate::read_table!(@field_of $read $done $field [float option] [f32] $($rest)*)
     };
-
-    // each field: its name, the form of its type (`Option`, `Spanned`, both or neither; `text` for a `String`), the type
-    // inside, its key, and its options
-    (@fields $read:tt [$($done:tt)*]
-        $field:ident: Option<Spanned<$ty:ty>> $(= $key:literal)? $(, $how:ident $(($($word:tt)*))?)*; $($rest:tt)*
-    ) => {
-        $crate::read_table!(@fields $read [
-            $($done)* $field [option spanned] [$ty] [$($key)?] [$($how $(($($word)*))?,)*];
-        ] $($rest)*)
+    (@fields $read:tt $done:tt $field:ident: Option<$ty:ty> $($rest:tt)*) => {
+        $crate::read_table!(@field_of $read $done $field [option] [$ty] $($rest)*)
     };
-    (@fields $read:tt [$($done:tt)*]
-        $field:ident: Option<$ty:ty> $(= $key:literal)? $(, $how:ident $(($($word:tt)*))?)*; $($rest:tt)*
-    ) => {
-        $crate::read_table!(@fields $read [
-            $($done)* $field [option] [$ty] [$($key)?] [$($how $(($($word)*))?,)*];
-        ] $($rest)*)
+    (@fields $read:tt $done:tt $field:ident: Spanned<f64> $($rest:tt)*) => {
+        $crate::read_table!(@field_of $read $done $field [float spanned] [f64] $($rest)*)
     };
-    (@fields $read:tt [$($done:tt)*]
-        $field:ident: Spanned<$ty:ty> $(= $key:literal)? $(, $how:ident $(($($word:tt)*))?)*; $($rest:tt)*
-    ) => {
-        $crate::read_table!(@fields $read [
-            $($done)* $field [spanned] [$ty] [$($key)?] [$($how $(($($word)*))?,)*];
-        ] $($rest)*)
+    (@fields $read:tt $done:tt $field:ident: Spanned<f32> $($rest:tt)*) => {
+        $crate::read_table!(@field_of $read $done $field [float spanned] [f32] $($rest)*)
     };
-    (@fields $read:tt [$($done:tt)*]
-        $field:ident: String $(= $key:literal)? $(, $how:ident $(($($word:tt)*))?)*; $($rest:tt)*
-    ) => {
-        $crate::read_table!(@fields $read [
-            $($done)* $field [text] [String] [$($key)?] [$($how $(($($word)*))?,)*];
-        ] $($rest)*)
+    (@fields $read:tt $done:tt $field:ident: Spanned<$ty:ty> $($rest:tt)*) => {
+        $crate::read_table!(@field_of $read $done $field [spanned] [$ty] $($rest)*)
     };
-    (@fields $read:tt [$($done:tt)*]
+    (@fields $read:tt $done:tt $field:ident: f64 $($rest:tt)*) => {
+        $crate::read_table!(@field_of $read $done $field [float] [f64] $($rest)*)
+    };
+    (@fields $read:tt $done:tt $field:ident: f32 $($rest:tt)*) => {
+        $crate::read_table!(@field_of $read $done $field [float] [f32] $($rest)*)
+    };
+    (@fields $read:tt $done:tt $field:ident: String $($rest:tt)*) => {
+        $crate::read_table!(@field_of $read $done $field [text] [String] $($rest)*)
+    };
+    (@fields $read:tt $done:tt
         $field:ident: $ty:ty $(= $key:literal)? $(, $how:ident $(($($word:tt)*))?)*; $($rest:tt)*
     ) => {
+        $crate::read_table!(@field_of $read $done $field [] [$ty] $(= $key)? $(, $how $(($($word)*))?)*; $($rest)*)
+    };
+    (@field_of $read:tt [$($done:tt)*] $field:ident $form:tt $ty:tt
+        $(= $key:literal)? $(, $how:ident $(($($word:tt)*))?)*; $($rest:tt)*
+    ) => {
         $crate::read_table!(@fields $read [
-            $($done)* $field [] [$ty] [$($key)?] [$($how $(($($word)*))?,)*];
+            $($done)* $field $form $ty [$($key)?] [$($how $(($($word)*))?,)*];
         ] $($rest)*)
+    };
+    (@field_of $read:tt $done:tt $field:ident $form:tt $ty:tt $($rest:tt)*) => {
+        compile_error!(concat!("`read_table!`: `", stringify!($field), "` must end with `;`"))
     };
     (@fields $read:tt [$($done:tt)*] $field:ident: $ty:ty $(= $key:literal)? $(, $($rest:tt)*)?) => {
         compile_error!(concat!("`read_table!`: `", stringify!($field), "` must end with `;`"))
@@ -185,6 +184,13 @@ macro_rules! read_table {
     (@words $read:tt [text] [$ty:ty] $keys:tt $($words:tt)*) => {
         $crate::read_table!(@words $read [] [$ty] $keys $($words)*)
     };
+    (@words $read:tt [float $($form:ident)*] [$ty:ty] $keys:tt range($low:literal..=$high:literal), $($words:tt)*) => {
+        $crate::read_table!(@within $read [$($form)*] [$ty] $keys
+            [$low, $high, concat!(stringify!($low), "..=", stringify!($high))] $($words)*)
+    };
+    (@words $read:tt [float $($form:ident)*] [$ty:ty] $keys:tt $($words:tt)*) => {
+        $crate::read_table!(@words $read [$($form)*] [$ty] $keys $($words)*)
+    };
     (@words $read:tt $form:tt [$ty:ty] $keys:tt parsed, $($words:tt)*) => {
         $crate::read_table!(@held $read $form $crate::Parsed<$ty>, $keys $($words)*)
     };
@@ -203,6 +209,9 @@ macro_rules! read_table {
     (@words [$helper:ident, [$new:ident $warnings:ident], $field:ident] [option] [$ty:ty] [$key:expr] with_warnings,) => {
         $helper.read_optional_with_warnings::<$ty>($key, &mut $new)?
     };
+    (@words $read:tt [option] [$ty:ty] $keys:tt unique($name:ident $(= $named:literal)?),) => {
+        $crate::read_table!(@named $read [option] [$ty] $keys [$name $($named)?])
+    };
     (@words $read:tt [option] [$ty:ty] $keys:tt $($words:tt)*) => {
         $crate::read_table!(@words $read [] [Option<$ty>] $keys $($words)*)
     };
@@ -218,12 +227,38 @@ macro_rules! read_table {
     (@words [$helper:ident, [$new:ident $warnings:ident], $field:ident] [] [$ty:ty] [$key:expr] with_warnings,) => {
         $helper.read_with_warnings::<$ty>($key, &mut $new)?
     };
-    (@words [$helper:ident, $warnings:tt, $field:ident] [] [$ty:ty] $keys:tt unique($name:ident $(= $named:literal)?),) => {{
+    (@words $read:tt [] [$ty:ty] $keys:tt unique($name:ident $(= $named:literal)?), $($words:tt)*) => {
+        $crate::read_table!(@named $read [] [$ty] $keys [$name $($named)?] $($words)*)
+    };
+    (@words [$helper:ident, $warnings:tt, $field:ident] [] [$ty:ty] [$key:expr] flatten,) => {
+        $helper.read_rest::<$ty>()?
+    };
+
+    // a list whose elements have names
+    (@named $read:tt [] $ty:tt $keys:tt $names:tt optional,) => {
+        $crate::read_table!(@named $read [option] $ty $keys $names)
+    };
+    (@named $read:tt [] $ty:tt $keys:tt $names:tt or($default:expr),) => {
+        match $crate::read_table!(@named $read [option] $ty $keys $names) {
+            Some(field) => field,
+            None => $default,
+        }
+    };
+    (@named $read:tt [] [$ty:ty] $keys:tt $names:tt) => {
+        $crate::read_table!(@compared $read $keys $names $crate::read_table!(@one $read, $ty, $keys))
+    };
+    (@named $read:tt [option] [$ty:ty] $keys:tt $names:tt) => {
+        $crate::read_table!(@compared $read $keys $names $crate::read_table!(@some $read, $ty, $keys))
+    };
+    (@named $read:tt $form:tt $ty:tt $keys:tt $names:tt $($words:tt)+) => {
+        $crate::read_table!(@badly $read "unique(field)`, followed by nothing, `or(value)` or `optional`")
+    };
+    (@compared [$helper:ident, $warnings:tt, $field:ident] $keys:tt [$name:ident $($named:literal)?] $list:expr) => {{
         let repeated = $helper.repeated_at(
             $crate::read_table!(@place $helper $keys),
             $crate::read_table!(@key $name $($named)?),
         )?;
-        let list = $crate::read_table!(@one [$helper, $warnings, $field], $ty, $keys);
+        let list = $list;
         if let Some(list) = &list {
             let mut names = $helper.no_names();
             for entry in list.iter() {
@@ -235,8 +270,33 @@ macro_rules! read_table {
         }
         list
     }};
-    (@words [$helper:ident, $warnings:tt, $field:ident] [] [$ty:ty] [$key:expr] flatten,) => {
-        $helper.read_rest::<$ty>()?
+
+    // a float, whose bounds are not integers
+    (@within $read:tt [option spanned] [$ty:ty] $keys:tt $($rest:tt)*) => {
+        $crate::read_table!(@within $read [option] [$crate::Spanned<$ty>] $keys $($rest)*)
+    };
+    (@within $read:tt [spanned] [$ty:ty] $keys:tt $($rest:tt)*) => {
+        $crate::read_table!(@within $read [] [$crate::Spanned<$ty>] $keys $($rest)*)
+    };
+    (@within $read:tt [] [$ty:ty] $keys:tt $range:tt optional,) => {
+        $crate::read_table!(@within $read [option] [$ty] $keys $range)
+    };
+    (@within $read:tt [] [$ty:ty] $keys:tt $range:tt or($default:expr),) => {
+        match $crate::read_table!(@within $read [option] [$ty] $keys $range) {
+            Some(field) => field,
+            None => $default,
+        }
+    };
+    (@within [$helper:ident, $warnings:tt, $field:ident] [] [$ty:ty] $keys:tt [$($range:expr),*]) => {{
+        let float = $crate::read_table!(@one [$helper, $warnings, $field], $crate::Spanned<$crate::FloatText>, $keys);
+        $helper.within::<$ty>(float, $($range),*)?
+    }};
+    (@within [$helper:ident, $warnings:tt, $field:ident] [option] [$ty:ty] $keys:tt [$($range:expr),*]) => {{
+        let float = $crate::read_table!(@some [$helper, $warnings, $field], $crate::Spanned<$crate::FloatText>, $keys);
+        $helper.within::<$ty>(float, $($range),*)?
+    }};
+    (@within $read:tt $form:tt [$ty:ty] $keys:tt $range:tt $($words:tt)+) => {
+        $crate::read_table!(@held $read $form $ty, $keys $($words)+)
     };
 
     // a type that contains the value of the field
@@ -286,13 +346,13 @@ macro_rules! read_table {
         $crate::read_table!(@badly $read "deprecated(\"old-name\")`")
     };
     (@words $read:tt $form:tt [$ty:ty] $keys:tt range $($words:tt)*) => {
-        $crate::read_table!(@badly $read "range(1..=9)`, with two literals, before `or(..)`")
+        $crate::read_table!(@badly $read "range(1..=9)` or `range(0.5..=1.0)`, with two literals, before `or(..)`")
     };
     (@words $read:tt $form:tt [$ty:ty] $keys:tt or $($words:tt)*) => {
         $crate::read_table!(@badly $read "or(value)`, as the last option; the field's type can't be `Spanned`")
     };
     (@words $read:tt $form:tt [$ty:ty] $keys:tt unique $($words:tt)*) => {
-        $crate::read_table!(@badly $read "unique(field)`, as the last option")
+        $crate::read_table!(@badly $read "unique(field)`, before `or(..)` or `optional`")
     };
     (@words $read:tt $form:tt [$ty:ty] $keys:tt optional $($words:tt)*) => {
         $crate::read_table!(@badly $read "optional`, as the last option")
@@ -316,11 +376,20 @@ macro_rules! read_table {
 
     // the value for the field of the struct; at this point, no read has failed
     (@field [text] $($rest:tt)*) => { $crate::read_table!(@field [] $($rest)*) };
+    (@field [float $($form:ident)*] $field:ident range $range:tt, $($words:tt)*) => {
+        $crate::read_table!(@field [$($form)*] $field $($words)*)
+    };
     (@field $form:tt $field:ident alias $old:tt, $($words:tt)*) => {
         $crate::read_table!(@field $form $field $($words)*)
     };
     (@field $form:tt $field:ident deprecated $old:tt, $($words:tt)*) => {
         $crate::read_table!(@field $form $field $($words)*)
+    };
+    (@field $form:tt $field:ident unique $names:tt, $($words:tt)*) => {
+        $crate::read_table!(@field $form $field $($words)*)
+    };
+    (@field [float $($form:ident)*] $field:ident $($words:tt)*) => {
+        $crate::read_table!(@field [$($form)*] $field $($words)*)
     };
     (@field [$($form:ident)*] $field:ident parsed, $($words:tt)*) => {
         $crate::read_table!(@field [$($form)* held] $field $($words)*)

@@ -33,8 +33,12 @@ pub record IsErrorOf (source : Source) (copy : List ℕ) (from : ℕ) (error : E
   pub place : made.place ≡ error.span.start
   pub extent : made.extent ≡ extent source from error
 
+-- `made` is as in `IsErrorOf` for the error that `parse` returns for a copy.
+abbrev pub IsRefusedAt : Source → List ℕ → ℕ → ErrorAt → Type 0
+IsRefusedAt source copy from made =
+    (error : Error) × IsRefusal copy depth_limit (Fault error) × IsErrorOf source copy from error made
+
 -- the error that `parse` returns for a copy, or `None` if the copy is a document
 abbrev pub IsNextError : Source → List ℕ → ℕ → Option ErrorAt → Type 0
 IsNextError source copy from None = (root : Value) × IsTree copy depth_limit root
-IsNextError source copy from (Some made) =
-    (error : Error) × IsRefusal copy depth_limit (Fault error) × IsErrorOf source copy from error made
+IsNextError source copy from (Some made) = IsRefusedAt source copy from made

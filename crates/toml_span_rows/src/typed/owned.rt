@@ -64,9 +64,6 @@ pub fn push_file(rt: &HostRuntime, name: &str, out: &mut Out) {
             out.display(reported);
             out.debug_line(count);
         }
-        Err(other) => {
-            out.display(other);
-            out.push_str("\n");
-        }
+        Err(other) => out.display(other),
     }
 }

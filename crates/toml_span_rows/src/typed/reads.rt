@@ -3,7 +3,7 @@ use crate::output::Out;
 use crate::trees::shown::push_owned;
 use crate::typed::odd::Odd;
 use crate::typed::owned::Name;
-use crate::typed::structs::{Holders, Range, Ratio, Relay, Server, Target, Upload};
+use crate::typed::structs::{Holders, Panel, Range, Ratio, Relay, Server, Target, Upload};
 use std::alloc::Global;
 use std::borrow::CowStr;
 use std::collections::{BTreeMap, HashMap};
@@ -68,6 +68,7 @@ fn push_own<'de>(alloc: Global, name: &str, value: &mut Value<'de>, out: &mut Ou
         "Range" => push_as::<Range>(alloc, value, out),
         "Target" => push_as::<Target>(alloc, value, out),
         "Relay" => push_as::<Relay>(alloc, value, out),
+        "Panel" => push_as::<Panel>(alloc, value, out),
         "Ratio" => push_as::<Ratio>(alloc, value, out),
         "Name" => push_as::<Name>(alloc, value, out),
         _ => false,

@@ -133,6 +133,28 @@ impl<'de> Deserialize<'de> for Relay {
     }
 }
 
+/// Floats that must be in a range, and optional lists of peers with different names.
+#[derive(Debug, Drop)]
+pub struct Panel {
+    gain: f64,
+    pan: Option<f32>,
+    fade: Spanned<f64>,
+    peers: Vec<Peer>,
+    spare: Option<Vec<Peer>>,
+}
+
+impl<'de> Deserialize<'de> for Panel {
+    fn deserialize(alloc: Global, value: &mut Value<'de>) -> Result<Self, Stop<DeserError<'de>>> {
+        read_table!(alloc, value, Panel {
+            gain: f64, alias("volume"), range(0.0..=1.0), or(0.5);
+            pan: Option<f32>, range(-1.0..=1.0);
+            fade: Spanned<f64>, range(0.0..=1e3);
+            peers: Vec<Peer>, unique(name = "id"), or(Vec::new(alloc));
+            spare: Option<Vec<Peer>>, unique(name = "id");
+        })
+    }
+}
+
 /// The target of output.
 #[derive(Debug, Drop)]
 pub enum Target {

@@ -10,6 +10,7 @@ ghost use Rattle.toml_span_typed.specs.code.TableHelper.{key_text};
 mod aliases;
 mod fields;
 mod names;
+mod ranges;
 mod tags;
 mod with_warnings;
 

@@ -75,13 +75,19 @@ fn out_of_range<'s>(
 ) -> Result<Error<'s>, AllocError>
     ensures { IfOk result (λ fault. content_of fault ≡ spec.out_of_range low high span found) }
 {
-    let message = range_message(alloc, low, high, found)?;
+    Ok(outside(alloc, range_message(alloc, low, high, found)?, span))
+}
+
+/// Returns the error with this message at `span`, the span of a number that is not in a range.
+pub(crate) fn outside<'s>(alloc: Global, message: String, span: Span) -> Error<'s>
+    ensures { content_of result ≡ spec.outside (string_bytes message) span }
+{
     let kind = ErrorKind::Marked {
         code: "out-of-range",
         message: CowStr::Owned(message),
         places: Vec::new(alloc),
     };
-    Ok(Error::from((kind, span)))
+    Error::from((kind, span))
 }
 
 /// Returns the message for the integer `found`, which is not in the range `low..=high`.

@@ -1,5 +1,6 @@
-use Rattle.toml_span_lex.proofs.Common.{◌≡◌, Some, rules}
-use Rattle.toml_span_check.specs.code.Every.{progress, source_of}
+use Rattle.toml_span_lex.proofs.Common.{◌≡◌, IfSome, Option, Some, rules, subst}
+use Rattle.toml_span_check.specs.code.Every.{IsRefusedAt, progress, source_of}
+use Rattle.toml_span_check.specs.declared.every.ErrorAt.{ErrorAt}
 use Rattle.toml_span_check.proofs.Blanks.{rest_is, text_at, text_start}
 use Rattle.toml_span_check.proofs.Errors.{finds_reading}
 use Rattle.toml_span_check.proofs.every.with_faults.Goals as goal
@@ -15,6 +16,6 @@ pub faults-preserved : goal.faults-preserved
 faults-preserved c =
     let source = source_of c.args.text.now c.args.reading.now in
     let is : c.in_ok-next.field-0 ≡ Some c.in-Some.next = search rules in
-    finds_reading source c.as_str.result.now c.in_ok-next.field-0 c.in-Some.next (progress c.faults.found) _ c.faults.invariant
+    finds_reading source c.as_str.result.now c.in-Some.next (progress c.faults.found) _ c.faults.invariant
     (rest_is source c.faults.found.next c.as_str.result.now _ c.as_slice.result.now c.offset_of-at.result c.as_str.ensures.value c.in_ok-copy.ensures c.as_slice.ensures.value c.offset_of-at.ensures)
-    c.in_ok-next.ensures is c.in_ok-found.ensures
+    (subst (λ (o : Option ErrorAt). IfSome o (IsRefusedAt source c.as_str.result.now c.faults.found.next)) is c.in_ok-next.ensures) c.in_ok-found.ensures

@@ -30,9 +30,9 @@ pub loop-k-preserved : goal.loop-k-preserved
 loop-k-preserved c =
     let e = c.args.encoding in
     let text = c.args.text.now in
-    let to = c.loop-k.k * 64 in
+    let to = c.loop-k.k * 16 in
     let from = c.loop-k.from in
-    let here : c.advanced-position.result ≡ position_of c.args.encoding c.args.text.now (c.loop-k.k * 64) =
+    let here : c.advanced-position.result ≡ position_of c.args.encoding c.args.text.now (c.loop-k.k * 16) =
     c.advanced-position.ensures
     ∙ ap (λ p. position_from e p (to - from) (drop from text)) c.loop-k.invariant.here
     ∙ position_from-to e first text from to c.loop-k.invariant.before in
@@ -42,5 +42,5 @@ loop-k-preserved c =
       before = omega arith;
       count = omega arith;
       here = here;
-      marked = marked_push c.loop-k.marks.items c.push.new.self.items c.advanced-position.result (λ k. position_of e text (k * 64)) c.loop-k.k c.in_ok-push.ensures.items c.loop-k.invariant.count c.loop-k.invariant.marked here;
+      marked = marked_push c.loop-k.marks.items c.push.new.self.items c.advanced-position.result (λ k. position_of e text (k * 16)) c.loop-k.k c.in_ok-push.ensures.items c.loop-k.invariant.count c.loop-k.invariant.marked here;
     }

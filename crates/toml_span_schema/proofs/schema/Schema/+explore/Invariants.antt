@@ -7,11 +7,11 @@ decreases-explore l = 5 * l.depth
 abbrev pub decreases-explore_keyword : goal.decreases-explore_keyword
 decreases-explore_keyword l = 5 * l.depth + 4
 
-abbrev pub decreases-explore_inside : goal.decreases-explore_inside
-decreases-explore_inside l = 5 * l.depth + 3
-
 abbrev pub decreases-explore_parts : goal.decreases-explore_parts
 decreases-explore_parts l = 5 * l.depth + 1
+
+abbrev pub decreases-explore_refused : goal.decreases-explore_refused
+decreases-explore_refused l = 5 * l.depth + 3
 
 abbrev pub decreases-explore_alternatives : goal.decreases-explore_alternatives
 decreases-explore_alternatives l = 5 * l.depth + 2
