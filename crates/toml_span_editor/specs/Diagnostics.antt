@@ -10,7 +10,7 @@ use Rattle.toml_span_tree.specs.Node.{Node}
 use Rattle.toml_span_tree.specs.Value.{view}
 use Rattle.toml_span_tree.specs.declared.error.Error.{Error}
 use Rattle.toml_span_tree.specs.declared.value.Value.{Value}
-use Rattle.toml_span_check.specs.Every.{Checks}
+use Rattle.toml_span_check.specs.Every.{Checks, HasErrors}
 use Rattle.toml_span_check.specs.Fixing.{Made}
 use Rattle.toml_span_check.specs.Newer.{FixesAll, Lacks}
 use Rattle.toml_span_check.specs.Schemas.{Says}
@@ -115,6 +115,19 @@ abbrev pub Diagnoses : Says → Version → Chooser → List ℕ → Encoding �
 Diagnoses says version chooser name encoding text diagnostics complaint =
     (reports : List ReportContent) × AreReports says version chooser name text reports complaint
     × (diagnostics ≡ map (diagnostic_of encoding text) reports)
+
+-- `reports` are the reports on `text`, the content of the file `name`, which has no schema. If `text` is valid TOML, they
+-- are about syntax that `version` lacks. Otherwise, they are those that `Checks` allows.
+abbrev pub ArePlainReports : Version → List ℕ → List ℕ → List ReportContent → Type 0
+ArePlainReports version name text reports =
+    (((root : Value) × IsTree text depth_limit root) × Lacks version name text reports) ⊎ HasErrors text reports
+
+-- `diagnostics` are the reports on a text without a schema (see `ArePlainReports`) as an editor shows them, in the same
+-- order. The complaint is empty.
+abbrev pub DiagnosesPlainly : Version → List ℕ → Encoding → List ℕ → List DiagnosticContent → List ℕ → Type 0
+DiagnosesPlainly version name encoding text diagnostics complaint =
+    (reports : List ReportContent) × ArePlainReports version name text reports
+    × (diagnostics ≡ map (diagnostic_of encoding text) reports) × (complaint ≡ [])
 
 -- The edits make of the text what `check --fix` writes.
 abbrev pub RepairsAll : Version → List ℕ → List ℕ → List (Span × List ℕ) → Type 0

@@ -265,6 +265,44 @@ pub fn diagnostics<S: Schemas>(
     })
 }
 
+/// Returns the reports on a text without a schema: those of `check` on a text with errors, otherwise those on syntax
+/// that `version` lacks. `name` is the name of the file.
+fn plain_reports(
+    alloc: Global,
+    version: Version,
+    name: &str,
+    text: &str,
+) -> Result<Vec<Report>, AllocError>
+    ensures { IfOk result (λ reports. spec.ArePlainReports version name.now text.now
+        (map report_content reports.items)) }
+{
+    match parse_with_reports(alloc, text) {
+        Ok(_) => version_reports(alloc, text, version, name),
+        Err(Stop::Memory(error)) => Err(error),
+        Err(Stop::Fault(reports)) => Ok(reports),
+    }
+}
+
+/// Returns the diagnostics of the text of `table`, a text without a schema, in the order in which `toml-span check`
+/// prints reports. For a text with errors, they are the reports of `check`. For valid TOML, they report syntax that
+/// `version` lacks. `name` is the name of the file. Fails if an allocation fails.
+pub fn plain_diagnostics(
+    alloc: Global,
+    table: &PositionTable<'_>,
+    version: Version,
+    name: &str,
+) -> Result<Diagnosed, AllocError>
+    ensures { IfOk result (λ made. spec.DiagnosesPlainly version name.now table.now.encoding table.now.text.now
+        (map spec.diagnostic_content made.diagnostics.items) (string_bytes made.complaint)) }
+{
+    let reports = plain_reports(alloc, version, name, table.text)?;
+    Ok(Diagnosed {
+        diagnostics: diagnostics_of(alloc, table, reports.as_slice())?,
+        reports,
+        complaint: String::new(alloc),
+    })
+}
+
 /// Converts the replacements of a report to edits.
 fn edits_of(alloc: Global, report: &Report) -> Result<Vec<Edit>, AllocError> {
     let mut edits = Vec::new(alloc);

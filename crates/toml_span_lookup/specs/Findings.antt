@@ -1,6 +1,6 @@
 -- The results of checking documents against schemas in files.
-use Rattle.std.specs.Prelude.{◌≡◌, ◌==◌, ◌⊎◌, ℕ, true, false, List, [], ◌∷◌, ◌++◌, All, Option, None, Some, codes}
-use Rattle.std.specs.Prelude.{length, string_bytes, if◌then◌else◌}
+use Rattle.std.specs.Prelude.{◌≡◌, ◌==◌, ◌&&◌, ◌⊎◌, ⊤, ℕ, Bool, true, false, not, List, [], ◌∷◌, ◌++◌, All}
+use Rattle.std.specs.Prelude.{Option, None, Some, codes, length, string_bytes, if◌then◌else◌}
 use Rattle.std.specs.Str.{bytes_eq}
 use Rattle.toml_span_check.specs.Schemas.{Says, no_schema}
 use Rattle.toml_span_check.specs.declared.schemas.Chooser.{Chooser}
@@ -9,6 +9,7 @@ use Rattle.toml_span_lookup.specs.Directive.{names_schema}
 use Rattle.toml_span_lookup.specs.declared.compiling.Used.{Used}
 use Rattle.toml_span_lookup.specs.declared.lookup.Choice.{Choice}
 use Rattle.toml_span_lookup.specs.declared.lookup.Choice.TheVariants as choices
+use Rattle.toml_span_lookup.specs.declared.lookup.Lookup.{Lookup}
 use Rattle.toml_span_report.specs.Report.{ReportContent}
 use Rattle.toml_span_report.specs.declared.report.Severity.TheVariants.{Error, Warning}
 use Rattle.toml_span_report.specs.Visible.{visible}
@@ -16,6 +17,20 @@ use Rattle.toml_span_schema.specs.Valid.{valid}
 use Rattle.toml_span_schema.specs.declared.guide.Guide.{Guide}
 use Rattle.toml_span_schema.specs.declared.schema.Schema.{Schema}
 use Rattle.toml_span_tree.specs.Node.{Node}
+
+-- `Arguments` if the options name a schema or a catalog, otherwise `Files`
+unfoldable pub chooser_of : Lookup → Chooser
+chooser_of lookup =
+    if length (string_bytes lookup.options.schema) == 0 && length (string_bytes lookup.options.catalog) == 0
+    then Files
+    else Arguments
+
+-- If only directives choose a schema, `is_lacking` says whether the text has none: no comment before the first header
+-- or assignment begins with `#:schema`, and the first key is not `"$schema"`. What options choose is left open, since
+-- catalogs have no contract.
+abbrev pub LacksSchema : Chooser → List ℕ → Bool → Type 0
+LacksSchema Files text is_lacking = is_lacking ≡ not (names_schema text)
+LacksSchema Arguments text is_lacking = ⊤
 
 -- options may choose a schema, or a comment before the first header or assignment begins with `#:schema`, or the first
 -- key is `"$schema"`

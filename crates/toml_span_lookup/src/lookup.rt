@@ -1,7 +1,7 @@
 //! Finds the schemas of files, and checks documents against them.
 ghost use Rattle.std.specs.Prelude.{◌≡◌, IfOk, map, option_map, string_bytes};
 ghost use Rattle.toml_span_lookup.specs.Findings as spec;
-ghost use Rattle.toml_span_lookup.specs.Findings.{AddsWarnings, ReportsFor, ReportsOf, file_says};
+ghost use Rattle.toml_span_lookup.specs.Findings.{AddsWarnings, LacksSchema, ReportsFor, ReportsOf, file_says};
 ghost use Rattle.toml_span_report.specs.Report.{report_content};
 ghost use Rattle.toml_span_tree.specs.Value.{view};
 
@@ -64,7 +64,9 @@ impl Lookup {
     }
 
     /// Returns `Arguments` if the options name a schema or a catalog, otherwise `Files`.
-    pub fn chooser(&self) -> Chooser {
+    pub fn chooser(&self) -> Chooser
+        ensures { result ≡ spec.chooser_of self.now }
+    {
         if self.options.schema.is_empty() && self.options.catalog.is_empty() {
             Chooser::Files
         } else {
@@ -153,6 +155,17 @@ impl Lookup {
             Some(directive) => self.choice_of_directive(alloc, name, directive),
             None => self.choice_of_catalog(alloc, name),
         }
+    }
+
+    /// Returns whether the file `name`, whose content is `text`, has no schema, as far as the catalog has been read.
+    /// Reads no files. Fails if an allocation fails.
+    pub fn has_no_schema(&self, alloc: Global, name: &str, text: &str) -> Result<bool, AllocError>
+        ensures { IfOk result (LacksSchema (spec.chooser_of self.now) text.now) }
+    {
+        if self.chooser() == Chooser::Files {
+            return Ok(!names_schema(text));
+        }
+        Ok(matches!(self.choice(alloc, name, text)?, Choice::None))
     }
 
     /// Reads the catalog that the options name, if any. If the catalog can't be used, adds an error to `complaint`.

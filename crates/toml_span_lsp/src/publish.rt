@@ -1,5 +1,6 @@
 //! Writes diagnostics: as notifications by the server, and as answers to requests of the client.
 ghost use Rattle.std.specs.Prelude.{IfOk, string_bytes};
+ghost use Rattle.toml_span_lookup.specs.Findings.{chooser_of};
 ghost use Rattle.toml_span_lsp.specs.Diagnosed.{AreChecked};
 
 use crate::outgoing::{Json, Outbox, ServerCall, write_location};
@@ -7,7 +8,9 @@ use crate::reading::is_too_long;
 use crate::settings::Settings;
 use crate::state::{Client, Findings, Open, State};
 use std::alloc::{AllocError, Global};
-use toml_span_editor::diagnostics::{Diagnosed, Diagnostic, Related, diagnostics};
+use toml_span_editor::diagnostics::{
+    Diagnosed, Diagnostic, Related, diagnostics, plain_diagnostics,
+};
 use toml_span_editor::positions::{Encoding, FIRST, Position, Range, position_at};
 use toml_span_editor::table::PositionTable;
 use toml_span_lookup::directive::directive_of;
@@ -97,20 +100,17 @@ fn diagnosed(
     document: &Open,
     lookup: &mut Lookup,
 ) -> Result<Diagnosed, AllocError>
-    ensures { IfOk result (AreChecked settings.version (string_bytes document.now.name) encoding
-        (string_bytes document.now.text)) }
+    ensures { IfOk result (AreChecked (chooser_of lookup.old) settings.version (string_bytes document.now.name)
+        encoding (string_bytes document.now.text)) }
 {
-    let table = PositionTable::new(alloc, encoding, document.text.as_str())?;
-    let chooser = lookup.chooser();
-    let made = diagnostics(
-        alloc,
-        &table,
-        settings.version,
-        chooser,
-        document.name.as_str(),
-        lookup,
-    )?;
-    Ok(made)
+    let (name, text) = (document.name.as_str(), document.text.as_str());
+    let (version, chooser) = (settings.version, lookup.chooser());
+    let table = PositionTable::new(alloc, encoding, text)?;
+    if lookup.has_no_schema(alloc, name, text)? {
+        plain_diagnostics(alloc, &table, version, name)
+    } else {
+        diagnostics(alloc, &table, version, chooser, name, lookup)
+    }
 }
 
 /// Adds `complaint`, error lines about `document` and its schema, to `notices`. Does nothing if `complaint` is empty,
