@@ -5,6 +5,7 @@ use crate::keys::value_of;
 use crate::schemas::subschemas_at;
 use crate::siblings::{booleans, sibling_keys};
 use crate::suggestions::{key_suggestions, value_suggestions};
+use crate::syntax::Syntax;
 use std::alloc::{AllocError, Global};
 use toml_span::Value;
 use toml_span::value::Step;
@@ -377,16 +378,16 @@ fn open_siblings(
 /// of an array or in the other tables of a table, and inline tables before `at` in the same statement. The list is
 /// empty in a comment, and where neither a key nor a value can be added.
 ///
-/// `document` is as much of `text` as can be read (see `readable`). Fails if an allocation fails.
+/// `document` is as much of the text as can be read (see `readable`). Fails if an allocation fails.
 pub fn completion_at<'d>(
     alloc: Global,
     guide: Option<&Guide>,
-    text: &'d str,
+    syntax: &Syntax<'d>,
     document: &'d Document<'_>,
     at: usize,
 ) -> Result<Completion, AllocError> {
-    let context = context_at(alloc, text, at)?;
-    let Some(site) = site_of(text, &context, at) else {
+    let context = context_at(alloc, syntax, at)?;
+    let Some(site) = site_of(syntax.text, &context, at) else {
         return Ok(nothing(alloc));
     };
     completion_in(alloc, guide, &*document, &context, site)

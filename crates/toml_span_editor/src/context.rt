@@ -1,11 +1,12 @@
 //! Finds out what is being written at an offset. The text need not be valid.
+use crate::syntax::Syntax;
 use crate::walk::{Next, Opened, Segment, Walk, is_name, literal_end};
 use std::alloc::{AllocError, Global};
 use toml_span_lex::span::Span;
 use toml_span_lex::stop::Stop;
 use toml_span_lex::tokenizer::Tokenizer;
-use toml_span_syntax::pieces::{Kind, Piece, pieces};
-use toml_span_syntax::statements::{Statement, statements};
+use toml_span_syntax::pieces::{Kind, Piece};
+use toml_span_syntax::statements::Statement;
 
 /// A step of a path, like `Step`, but with an owned name.
 #[derive(Drop)]
@@ -243,13 +244,12 @@ fn nothing_at<'t>(alloc: Global, at: usize) -> Context<'t> {
 /// Returns what is being written at the byte offset `at` of a text, which need not be valid.
 pub(crate) fn context_at<'t>(
     alloc: Global,
-    text: &'t str,
+    syntax: &Syntax<'t>,
     at: usize,
 ) -> Result<Context<'t>, AllocError> {
-    let list = pieces(alloc, text)?;
-    let pieces = list.as_slice();
+    let (text, pieces) = (syntax.text, syntax.pieces.as_slice());
     let count = count_before(pieces, at);
-    let (first, end) = statement_at(statements(alloc, pieces)?.as_slice(), count);
+    let (first, end) = statement_at(syntax.statements.as_slice(), count);
     let mut context = nothing_at(alloc, at);
     let Some(typed) = typed_at(pieces, count, at) else {
         return Ok(context);

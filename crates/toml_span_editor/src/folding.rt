@@ -1,11 +1,12 @@
 //! Finds the parts of a text that an editor can fold. The text need not be valid.
 use crate::spans::span_of;
+use crate::syntax::Syntax;
 use std::alloc::{AllocError, Global};
 use toml_span_lex::span::Span;
 use toml_span_syntax::brackets::closes;
 use toml_span_syntax::heads::StatementKind;
-use toml_span_syntax::pieces::{Kind, Piece, pieces};
-use toml_span_syntax::statements::{Statement, statements};
+use toml_span_syntax::pieces::{Kind, Piece};
+use toml_span_syntax::statements::Statement;
 
 /// A part of a document that can be folded.
 #[derive(Clone, Copy)]
@@ -138,13 +139,11 @@ fn close_fold(
 /// Returns the parts of a text that can be folded: sections that begin with a header, arrays, inline tables and
 /// multi-line strings, and groups of comments. Leaves out parts on one line. Takes time linear in the length of the
 /// text. Fails if an allocation fails.
-pub fn folds(alloc: Global, text: &str) -> Result<Vec<Fold>, AllocError> {
-    let pieces = pieces(alloc, text)?;
-    let pieces = pieces.as_slice();
-    let statements = statements(alloc, pieces)?;
+pub fn folds(alloc: Global, syntax: &Syntax<'_>) -> Result<Vec<Fold>, AllocError> {
+    let (text, pieces) = (syntax.text, syntax.pieces.as_slice());
     let mut folds = Vec::new(alloc);
-    push_sections(text, pieces, statements.as_slice(), &mut folds)?;
-    for statement in &statements {
+    push_sections(text, pieces, syntax.statements.as_slice(), &mut folds)?;
+    for statement in &syntax.statements {
         push_values(alloc, text, pieces, *statement, &mut folds)?;
     }
     push_comments(text, pieces, &mut folds)?;

@@ -29,6 +29,7 @@ mod siblings;
 mod snippets;
 mod spans;
 mod suggestions;
+pub mod syntax;
 pub mod table;
 pub mod tokens;
 mod walk;

@@ -1,9 +1,10 @@
 //! Finds the tokens of a text with their meanings, for syntax highlighting. The text need not be valid.
+use crate::syntax::Syntax;
 use crate::walk::{Next, Walk, is_name, literal_end};
 use std::alloc::{AllocError, Global};
 use toml_span_lex::span::Span;
-use toml_span_syntax::pieces::{Kind, Piece, pieces};
-use toml_span_syntax::statements::{Statement, statements};
+use toml_span_syntax::pieces::{Kind, Piece};
+use toml_span_syntax::statements::Statement;
 
 /// The meaning of a token.
 #[derive(Clone, Copy)]
@@ -108,11 +109,11 @@ fn push_statement(
 /// Returns the tokens of a text in order: keys, values other than tables and arrays, and comments. A string of several
 /// lines has a token for each line, except for empty lines. Takes time linear in the length of the text. Fails if an
 /// allocation fails.
-pub fn tokens(alloc: Global, text: &str) -> Result<Vec<Token>, AllocError> {
-    let pieces = pieces(alloc, text)?;
+pub fn tokens(alloc: Global, syntax: &Syntax<'_>) -> Result<Vec<Token>, AllocError> {
+    let pieces = syntax.pieces.as_slice();
     let mut tokens = Vec::new(alloc);
-    for statement in &statements(alloc, pieces.as_slice())? {
-        push_statement(alloc, text, pieces.as_slice(), *statement, &mut tokens)?;
+    for statement in &syntax.statements {
+        push_statement(alloc, syntax.text, pieces, *statement, &mut tokens)?;
     }
     Ok(tokens)
 }

@@ -49,13 +49,13 @@ fn is_wanted(params: &Value<'_>, kind: &str) -> bool {
     }
 }
 
-/// Returns whether a client wants conversions: actions of the kind `REWRITE`, unless the client asks on its own, for
-/// example since the cursor has moved, and lists no kinds.
-fn wants_conversions(params: &Value<'_>) -> bool {
+/// Returns whether a client wants actions of a kind that is not about a diagnostic at the cursor: as `is_wanted`, but not
+/// if the client asks on its own, for example since the cursor has moved, and lists no kinds.
+fn is_asked_for(params: &Value<'_>, kind: &str) -> bool {
     let trigger = member(params, &["context", "triggerKind"]);
     let is_automatic = trigger.and_then(|kind| kind.as_u64()) == Some(AUTOMATIC);
     let lists_kinds = member(params, &["context", "only"]).is_some();
-    is_wanted(params, REWRITE) && (lists_kinds || !is_automatic)
+    is_wanted(params, kind) && (lists_kinds || !is_automatic)
 }
 
 /// Writes an action of this kind that makes these edits. If the edits repair a diagnostic, names the diagnostic.
@@ -195,13 +195,13 @@ fn write_fixes(
         let guide = lookup.guide_of(request.alloc, name, text)?;
         write_quick_fixes(request, document, guide, reports, span, out)?;
     }
-    if is_wanted(request.params, FIX_ALL) && reports.iter().any(|report| !is_of_schema(report)) {
+    if is_asked_for(request.params, FIX_ALL) && reports.iter().any(|report| !is_of_schema(report)) {
         write_fix_all(request, open.name.as_str(), out)?;
     }
     Ok(())
 }
 
-/// Writes a list of actions: the fixes of `write_fixes`, and if the client wants them (see `wants_conversions`), one
+/// Writes a list of actions: the fixes of `write_fixes`, and if the client asks for them (see `is_asked_for`), one
 /// for each possible conversion of the table or array at the start of `span`. `document` is `None` if the text has
 /// errors. Writes none for a client that only supports commands. Checks the document unless it has been checked. Reads
 /// no files.
@@ -221,7 +221,7 @@ pub(crate) fn write_actions(
             write_fixes(request, document, open, lookup, span, out)?;
         }
         if let Some(document) = document {
-            if wants_conversions(request.params) {
+            if is_asked_for(request.params, REWRITE) {
                 write_conversions(request, document, span.start, out)?;
             }
         }

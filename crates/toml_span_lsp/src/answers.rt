@@ -53,6 +53,6 @@ pub(crate) fn write_completion(
     at: usize,
     out: &mut Json,
 ) -> Result<(), AllocError> {
-    let made = completion_at(request.alloc, guide, request.table.text, document, at)?;
+    let made = completion_at(request.alloc, guide, request.syntax, document, at)?;
     write_items(request, &made, out)
 }

@@ -39,11 +39,13 @@ fn write_symbol(out: &mut Json, table: &PositionTable<'_>, symbol: &Symbol) {
     out.number("kind", symbol_kind(symbol.kind));
     out.range("range", table.range(symbol.span));
     out.range("selectionRange", table.range(symbol.selection));
-    out.array("children");
-    for child in &symbol.children {
-        write_symbol(out, table, child);
+    if !symbol.children.is_empty() {
+        out.array("children");
+        for child in &symbol.children {
+            write_symbol(out, table, child);
+        }
+        out.end_array();
     }
-    out.end_array();
     out.end_object();
 }
 
@@ -91,7 +93,7 @@ pub(crate) fn write_symbols(
 /// Writes the first and last lines of the parts of a text that can be folded. Leaves out parts on one line.
 pub(crate) fn write_folds(request: &Request<'_, '_, '_>, out: &mut Json) -> Result<(), AllocError> {
     out.begin_array();
-    for fold in &folds(request.alloc, request.table.text)? {
+    for fold in &folds(request.alloc, request.syntax)? {
         let place = request.table.range(fold.span);
         let is_before = place.end.character == 0 && place.start.line < place.end.line;
         let end = place.end.line.saturating_sub(if is_before { 1 } else { 0 });

@@ -3,6 +3,7 @@ use crate::settings::Settings;
 use crate::state::Client;
 use json::Value;
 use std::alloc::Global;
+use toml_span_editor::syntax::Syntax;
 use toml_span_editor::table::PositionTable;
 
 /// A request about a document.
@@ -62,6 +63,8 @@ pub(crate) struct Request<'r, 't, 'j> {
     pub uri: &'r str,
     /// The text of the document, with its positions.
     pub table: &'r PositionTable<'t>,
+    /// The text of the document as statements.
+    pub syntax: &'r Syntax<'t>,
     pub params: &'r Value<'j>,
     pub settings: Settings,
     pub client: Client,

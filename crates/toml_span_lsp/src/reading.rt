@@ -3,6 +3,7 @@ use crate::state::{Open, State};
 use std::alloc::{AllocError, Global};
 use toml_span_editor::document::{Document, read, readable};
 use toml_span_editor::positions::Encoding;
+use toml_span_editor::syntax::Syntax;
 use toml_span_editor::table::PositionTable;
 use toml_span_lines::run::BOUND;
 
@@ -30,6 +31,8 @@ pub(crate) struct Reading<'t> {
     pub name: TextName,
     /// The text, with its positions.
     pub table: PositionTable<'t>,
+    /// The text as statements.
+    pub syntax: Syntax<'t>,
     /// The whole document, or `None` if the text has errors.
     pub document: Option<Document<'t>>,
     /// If the text has errors, what can be read of it, as `readable` returns it.
@@ -92,6 +95,7 @@ pub(crate) fn reading_of<'t>(
     Ok(Reading {
         name,
         table: PositionTable::new(alloc, encoding, text)?,
+        syntax: Syntax::new(alloc, text)?,
         document,
         partial,
     })

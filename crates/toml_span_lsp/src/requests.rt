@@ -230,6 +230,7 @@ fn write_known(
         method,
         uri,
         table: &reading.table,
+        syntax: &reading.syntax,
         params,
         settings: settings_of(state, uri),
         client: state.client,

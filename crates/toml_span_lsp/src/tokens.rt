@@ -38,7 +38,7 @@ fn token_numbers(request: &Request<'_, '_, '_>, span: Span) -> Result<Vec<u32>, 
     let (encoding, text) = (request.table.encoding, request.table.text);
     let mut numbers = Vec::new(request.alloc);
     let mut last = 0;
-    for token in &tokens(request.alloc, text)? {
+    for token in &tokens(request.alloc, request.syntax)? {
         let Span { start, end } = token.span;
         if end < span.start || start > span.end {
             continue;
