@@ -2,7 +2,8 @@
 use crate::commands::Command;
 use crate::files::set_write_option;
 use crate::options::search_of;
-use crate::say::{missing_value, option_parts, unexpected};
+use crate::say::unexpected;
+use crate::words::{Argument, arguments_in};
 use std::alloc::{AllocError, Global};
 use toml_span::Stop;
 use toml_span_config::sources::Search;
@@ -27,6 +28,9 @@ const OPTIONS: [&str; 13] = [
     "--stdin-name",
     "-e",
 ];
+
+/// Those of them that have a value. The last one is that of `edit` alone.
+const VALUED: [&str; 4] = ["--wait", "--config", "--stdin-name", "-e"];
 
 /// What to do with the result of the edits.
 #[derive(Clone, Copy, PartialEq, Eq)]
@@ -73,48 +77,6 @@ impl<'w> Arguments<'w> {
     }
 }
 
-/// An option that has a value.
-#[derive(Clone, Copy)]
-enum Valued {
-    Wait,
-    Config,
-    StdinName,
-    Edit,
-}
-
-/// Returns the option of the command with this name, or `None` if no option that has a value has this name.
-fn option_with_value(command: Command, name: &str) -> Option<Valued> {
-    match name {
-        "--wait" => Some(Valued::Wait),
-        "--config" => Some(Valued::Config),
-        "--stdin-name" => Some(Valued::StdinName),
-        "-e" if command == Command::Edit => Some(Valued::Edit),
-        _ => None,
-    }
-}
-
-/// Returns the message that the value of the last option is missing.
-fn missing(alloc: Global, option: Valued) -> Result<String, AllocError> {
-    match option {
-        Valued::Wait => missing_value(alloc, "--wait", "wait"),
-        Valued::Config => missing_value(alloc, "--config", "config"),
-        Valued::StdinName => missing_value(alloc, "--stdin-name", "stdin-name"),
-        Valued::Edit => missing_value(alloc, "-e", "edit"),
-    }
-}
-
-/// The arguments that have been parsed so far.
-#[derive(Drop)]
-struct Reading<'w> {
-    alloc: Global,
-    command: Command,
-    asked: Arguments<'w>,
-    /// The option whose value is the next argument, if any.
-    waiting: Option<Valued>,
-    /// Whether no later argument is an option.
-    is_over: bool,
-}
-
 /// Parses a number of seconds. Fails with a message if `word` is not a number from 0 to `MOST_WAIT`.
 pub(crate) fn seconds(alloc: Global, word: &str) -> Result<u64, Stop<String>> {
     match word.parse::<u64>() {
@@ -125,60 +87,50 @@ pub(crate) fn seconds(alloc: Global, word: &str) -> Result<u64, Stop<String>> {
     }
 }
 
-impl<'w> Reading<'w> {
-    /// Parses `word` as the value of an option, and stores it. Fails with a message if the value is wrong.
-    fn set(&mut self, option: Valued, word: &'w str) -> Result<(), Stop<String>> {
-        match option {
-            Valued::Wait => self.asked.options.wait = seconds(self.alloc, word)?,
-            Valued::Config => self.asked.config = word,
-            Valued::StdinName => self.asked.stdin_name = word,
-            Valued::Edit => self.asked.edits.push(word)?,
+impl<'w> Arguments<'w> {
+    /// Parses `word` as the value of the option `name`, and stores it. Fails with a message if the value is wrong.
+    fn set(&mut self, alloc: Global, name: &str, word: &'w str) -> Result<(), Stop<String>> {
+        match name {
+            "--wait" => self.options.wait = seconds(alloc, word)?,
+            "--config" => self.config = word,
+            "--stdin-name" => self.stdin_name = word,
+            _ => self.edits.push(word)?,
         }
         Ok(())
     }
 
     /// Stores the argument `word`, which begins with a dash and is no option with a value. Fails with a message if it
     /// is an unknown option with two dashes. Any other unknown argument, such as `-1`, is not an option.
-    fn option(&mut self, word: &'w str) -> Result<(), Stop<String>> {
-        if set_write_option(&mut self.asked.options, word) {
+    fn option(&mut self, alloc: Global, word: &'w str) -> Result<(), Stop<String>> {
+        if set_write_option(&mut self.options, word) {
             return Ok(());
         }
         match word {
-            "-h" | "--help" => self.asked.is_help = true,
-            "--string" => self.asked.is_string = true,
-            "--replace-table" => self.asked.replaces_tables = true,
-            "--no-config" => self.asked.has_no_config = true,
-            "--dry-run" => self.asked.show = Show::Text,
-            "--diff" => self.asked.show = Show::Diff,
-            "--" => self.is_over = true,
+            "-h" | "--help" => self.is_help = true,
+            "--string" => self.is_string = true,
+            "--replace-table" => self.replaces_tables = true,
+            "--no-config" => self.has_no_config = true,
+            "--dry-run" => self.show = Show::Text,
+            "--diff" => self.show = Show::Diff,
             _ => {
                 if word.starts_with("--") {
-                    return Err(Stop::Fault(unexpected(self.alloc, word, true, &OPTIONS)?));
+                    return Err(Stop::Fault(unexpected(alloc, word, true, &OPTIONS)?));
                 }
-                self.asked.words.push(word)?;
+                self.words.push(word)?;
             }
         }
         Ok(())
     }
 
-    /// Stores the next argument: an option, the value of the preceding option, or neither. Fails with a message if the
-    /// argument is wrong.
-    fn take(&mut self, word: &'w str) -> Result<(), Stop<String>> {
-        if let Some(option) = self.waiting.take() {
-            return self.set(option, word);
-        }
-        if self.is_over || !word.starts_with('-') {
-            self.asked.words.push(word)?;
-            return Ok(());
-        }
-        let (name, value) = option_parts(word);
-        match (option_with_value(self.command, name), value) {
-            (Some(option), Some(value)) => self.set(option, value),
-            (Some(option), None) => {
-                self.waiting = Some(option);
+    /// Stores an argument. Fails with a message if it is wrong.
+    fn take(&mut self, alloc: Global, argument: Argument<'w>) -> Result<(), Stop<String>> {
+        match argument {
+            Argument::Flag(word) => self.option(alloc, word),
+            Argument::Valued(name, word) => self.set(alloc, name, word),
+            Argument::Other(word) => {
+                self.words.push(word)?;
                 Ok(())
             }
-            (None, _) => self.option(word),
         }
     }
 }
@@ -190,29 +142,25 @@ pub(crate) fn arguments_asked<'w>(
     command: Command,
     words: &'w [String],
 ) -> Result<Arguments<'w>, Stop<String>> {
-    let mut reading = Reading {
-        alloc,
-        command,
-        asked: Arguments {
-            words: Vec::new(alloc),
-            edits: Vec::new(alloc),
-            options: Options::USUAL,
-            show: Show::No,
-            is_string: false,
-            replaces_tables: false,
-            config: "",
-            has_no_config: false,
-            stdin_name: "-",
-            is_help: false,
-        },
-        waiting: None,
-        is_over: false,
+    let mut asked = Arguments {
+        words: Vec::new(alloc),
+        edits: Vec::new(alloc),
+        options: Options::USUAL,
+        show: Show::No,
+        is_string: false,
+        replaces_tables: false,
+        config: "",
+        has_no_config: false,
+        stdin_name: "-",
+        is_help: false,
     };
-    for word in words {
-        reading.take(word.as_str())?;
+    let valued = if command == Command::Edit {
+        VALUED.as_slice()
+    } else {
+        &VALUED[..3]
+    };
+    for argument in &arguments_in(alloc, words, valued)? {
+        asked.take(alloc, *argument)?;
     }
-    match reading.waiting {
-        Some(option) => Err(Stop::Fault(missing(alloc, option)?)),
-        None => Ok(reading.asked),
-    }
+    Ok(asked)
 }

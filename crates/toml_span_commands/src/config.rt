@@ -4,8 +4,8 @@ ghost use Rattle.std.specs.Prelude.{◌≡◌, ◌≤◌, IfOk, false};
 use crate::answers::{Answer, give, helped, misuse, printed, stopped};
 use crate::commands::Command;
 use crate::options::search_of;
-use crate::say::{missing_value, option_parts, unexpected};
-use crate::words::{after_name, has_help};
+use crate::say::unexpected;
+use crate::words::{Argument, after_name, arguments_in, has_help};
 use std::alloc::{AllocError, Global};
 use toml_span::Stop;
 use toml_span_check::input::Host;
@@ -38,26 +38,15 @@ fn asked_of<'w>(alloc: Global, arguments: &'w [String]) -> Result<Asked<'w>, Sto
         has_no_config: false,
         file: None,
     };
-    let mut is_waiting = false;
-    for word in arguments {
-        let word = word.as_str();
-        let (name, value) = option_parts(word);
-        if is_waiting {
-            asked.config = word;
-            is_waiting = false;
-        } else if name == "--config" {
-            asked.config = value.unwrap_or("");
-            is_waiting = value.is_none();
-        } else if word == "--no-config" {
-            asked.has_no_config = true;
-        } else if asked.file.is_some() || (word.starts_with('-') && word != "-") {
-            return Err(Stop::Fault(unexpected(alloc, word, false, &OPTIONS)?));
-        } else {
-            asked.file = Some(word);
+    for argument in &arguments_in(alloc, arguments, &["--config"])? {
+        match *argument {
+            Argument::Valued(_, word) => asked.config = word,
+            Argument::Flag("--no-config") => asked.has_no_config = true,
+            Argument::Other(word) if asked.file.is_none() => asked.file = Some(word),
+            Argument::Flag(word) | Argument::Other(word) => {
+                return Err(Stop::Fault(unexpected(alloc, word, false, &OPTIONS)?));
+            }
         }
-    }
-    if is_waiting {
-        return Err(Stop::Fault(missing_value(alloc, "--config", "config")?));
     }
     Ok(asked)
 }

@@ -10,8 +10,8 @@ use crate::configured::{Configured, Wanted, configured_files};
 use crate::edit::escaped;
 use crate::files::{read_file, replace, set_write_option};
 use crate::options::search_of;
-use crate::say::{missing_value, option_parts, unexpected};
-use crate::words::{after_name, has_help};
+use crate::say::unexpected;
+use crate::words::{Argument, after_name, arguments_in, has_help};
 use std::alloc::{AllocError, Global};
 use std::fmt::Write;
 use std::io::IsTerminal;
@@ -65,57 +65,18 @@ const OPTIONS: [&str; 22] = [
     "--stdin-name",
 ];
 
-/// An option that has a value.
-#[derive(Clone, Copy)]
-enum Valued {
-    Width,
-    Indent,
-    ExpandArrays,
-    BlankLines,
-    Crlf,
-    Wait,
-    Exclude,
-    Config,
-    StdinName,
-}
-
-/// Returns the option with this name, or `None` if no option that has a value has this name.
-fn option_with_value(name: &str) -> Option<Valued> {
-    match name {
-        "--width" => Some(Valued::Width),
-        "--indent" => Some(Valued::Indent),
-        "--expand-arrays" => Some(Valued::ExpandArrays),
-        "--blank-lines" => Some(Valued::BlankLines),
-        "--crlf" => Some(Valued::Crlf),
-        "--wait" => Some(Valued::Wait),
-        "--exclude" => Some(Valued::Exclude),
-        "--config" => Some(Valued::Config),
-        "--stdin-name" => Some(Valued::StdinName),
-        _ => None,
-    }
-}
-
-/// Returns the name of an option, without dashes.
-fn name_of(option: Valued) -> &'static str {
-    match option {
-        Valued::Width => "width",
-        Valued::Indent => "indent",
-        Valued::ExpandArrays => "expand-arrays",
-        Valued::BlankLines => "blank-lines",
-        Valued::Crlf => "crlf",
-        Valued::Wait => "wait",
-        Valued::Exclude => "exclude",
-        Valued::Config => "config",
-        Valued::StdinName => "stdin-name",
-    }
-}
-
-/// Returns the message that the value of the last option is missing.
-fn missing(alloc: Global, option: Valued) -> Result<String, AllocError> {
-    let name = name_of(option);
-    let dashed = format!(in alloc; "--{name}")?;
-    missing_value(alloc, dashed.as_str(), name)
-}
+/// Those of them that have a value.
+const VALUED: [&str; 9] = [
+    "--width",
+    "--indent",
+    "--expand-arrays",
+    "--blank-lines",
+    "--crlf",
+    "--wait",
+    "--exclude",
+    "--config",
+    "--stdin-name",
+];
 
 /// The most bytes of the line that counts files: two numbers of 20 digits, words and a line end.
 const LONGEST_LINE: usize = 80;
@@ -160,10 +121,6 @@ struct Asked<'w> {
     config: &'w str,
     /// Whether to use no configuration file.
     has_no_config: bool,
-    /// The option whose value is the next argument, if any.
-    waiting: Option<Valued>,
-    /// Whether all later arguments are names of files.
-    is_over: bool,
 }
 
 /// Parses `word`, the value of `option`, as a number from `least` to `most`. Fails with a message for any other `word`.
@@ -208,26 +165,24 @@ fn crlf_of(alloc: Global, word: &str) -> Result<Crlf, Stop<String>> {
 }
 
 impl<'w> Asked<'w> {
-    /// Parses `word` as the value of an option, and stores it. Fails with a message if the value is wrong.
-    fn set(&mut self, alloc: Global, option: Valued, word: &'w str) -> Result<(), Stop<String>> {
-        match option {
-            Valued::Width => {
-                self.layer.width = given(number_of(alloc, "--width", word, 0, MOST_COLUMNS)?);
-            }
-            Valued::Indent => {
-                let indent = number_of(alloc, "--indent", word, 0, MOST_SPACES)?;
+    /// Parses `word` as the value of the option `name`, and stores it. Fails with a message if the value is wrong.
+    fn set(&mut self, alloc: Global, name: &str, word: &'w str) -> Result<(), Stop<String>> {
+        match name {
+            "--width" => self.layer.width = given(number_of(alloc, name, word, 0, MOST_COLUMNS)?),
+            "--indent" => {
+                let indent = number_of(alloc, name, word, 0, MOST_SPACES)?;
                 self.layer.indent = given(u8::try_from(indent).unwrap_or(u8::MAX));
             }
-            Valued::BlankLines => {
-                let count = number_of(alloc, "--blank-lines", word, 1, MOST_BLANK_LINES)?;
+            "--blank-lines" => {
+                let count = number_of(alloc, name, word, 1, MOST_BLANK_LINES)?;
                 self.layer.blank_lines = given(u8::try_from(count).unwrap_or(u8::MAX));
             }
-            Valued::ExpandArrays => self.layer.expand_arrays = given(expansion_of(alloc, word)?),
-            Valued::Crlf => self.layer.crlf = given(crlf_of(alloc, word)?),
-            Valued::Config => self.config = word,
-            Valued::StdinName => self.stdin_name = word,
-            Valued::Wait => self.writing.wait = seconds(alloc, word)?,
-            Valued::Exclude => self.excludes.push(word)?,
+            "--expand-arrays" => self.layer.expand_arrays = given(expansion_of(alloc, word)?),
+            "--crlf" => self.layer.crlf = given(crlf_of(alloc, word)?),
+            "--config" => self.config = word,
+            "--stdin-name" => self.stdin_name = word,
+            "--wait" => self.writing.wait = seconds(alloc, word)?,
+            _ => self.excludes.push(word)?,
         }
         Ok(())
     }
@@ -247,30 +202,20 @@ impl<'w> Asked<'w> {
             "--no-config" => self.has_no_config = true,
             "--stdin" => self.names.push("-")?,
             "--quiet" => self.is_quiet = true,
-            "--" => self.is_over = true,
             _ => return Err(Stop::Fault(unexpected(alloc, word, true, &OPTIONS)?)),
         }
         Ok(())
     }
 
-    /// Stores the next argument: an option, the value of the preceding option, or the name of a file. Fails with a
-    /// message if the argument is wrong.
-    fn take(&mut self, alloc: Global, word: &'w str) -> Result<(), Stop<String>> {
-        if let Some(option) = self.waiting.take() {
-            return self.set(alloc, option, word);
-        }
-        if self.is_over || word == "-" || !word.starts_with('-') {
-            self.names.push(word)?;
-            return Ok(());
-        }
-        let (name, value) = option_parts(word);
-        match (option_with_value(name), value) {
-            (Some(option), Some(value)) => self.set(alloc, option, value),
-            (Some(option), None) => {
-                self.waiting = Some(option);
+    /// Stores an argument. Fails with a message if it is wrong.
+    fn take(&mut self, alloc: Global, argument: Argument<'w>) -> Result<(), Stop<String>> {
+        match argument {
+            Argument::Flag(word) => self.option(alloc, word),
+            Argument::Valued(name, word) => self.set(alloc, name, word),
+            Argument::Other(word) => {
+                self.names.push(word)?;
                 Ok(())
             }
-            (None, _) => self.option(alloc, word),
         }
     }
 }
@@ -290,14 +235,9 @@ fn asked_of<'w>(alloc: Global, arguments: &'w [String]) -> Result<Asked<'w>, Sto
         stdin_name: "-",
         config: "",
         has_no_config: false,
-        waiting: None,
-        is_over: false,
     };
-    for word in arguments {
-        asked.take(alloc, word.as_str())?;
-    }
-    if let Some(option) = asked.waiting {
-        return Err(Stop::Fault(missing(alloc, option)?));
+    for argument in &arguments_in(alloc, arguments, &VALUED)? {
+        asked.take(alloc, *argument)?;
     }
     if asked.names.is_empty() {
         asked.names.push(".")?;

@@ -21,6 +21,9 @@ use toml_span_check::words::is_bytes;
 use toml_span_config::sources::Search;
 use toml_span_report::Style;
 
+/// The message that a value of `--schema-map` is wrong.
+pub(crate) const WRONG_MAP: &str = "the value of '--schema-map' must be URL=FILE";
+
 /// A command whose arguments this module parses.
 #[derive(Clone, Copy, PartialEq, Eq)]
 pub enum Query {
@@ -528,7 +531,7 @@ fn message_of(mistake: Mistake) -> &'static str {
         Mistake::Forms =>
             "only one of '--json', '--raw', '--toml', '--tagged' and '--items' can be used",
         Mistake::Path => "the path is not valid UTF-8",
-        Mistake::Map => "the value of '--schema-map' must be URL=FILE",
+        Mistake::Map => WRONG_MAP,
         Mistake::Sarif => "'--format sarif' can only be used with `check`",
         Mistake::Fix =>
             "'--unsafe-fixes', '--diff', '--force', '--change-owner' and '--in-place' need '--fix'",

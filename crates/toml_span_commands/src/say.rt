@@ -71,17 +71,10 @@ pub(crate) fn unexpected(
     format!(in alloc; "unexpected argument '{shown}' found")
 }
 
-/// Returns the message that an option has no value, in the words of clap. `name` is the option without dashes.
-pub(crate) fn missing_value(alloc: Global, option: &str, name: &str) -> Result<String, AllocError> {
+/// Returns the message that an option has no value, in the words of clap.
+pub(crate) fn missing_value(alloc: Global, option: &str) -> Result<String, AllocError> {
+    let name = option.trim_start_matches('-');
     format!(in alloc; "a value is required for '{option} <{name}>' but none was supplied")
-}
-
-/// Returns the name and the value of an argument such as `--name=value`. An argument without `=` is a name.
-pub(crate) fn option_parts<'w>(word: &'w str) -> (&'w str, Option<&'w str>) {
-    match word.split_once('=') {
-        Some((name, value)) => (name, Some(value)),
-        None => (word, None),
-    }
 }
 
 /// Returns a text about wrong arguments: `message`, which says what is wrong, and the usage of the command.

@@ -4,11 +4,13 @@ ghost use Rattle.std.specs.Prelude.{◌≡◌, ◌≤◌, IfOk, false};
 use crate::answers::{Answer, give};
 use crate::commands::Command;
 use crate::help::SCHEMA;
-use crate::say::{say, say_misuse};
+use crate::options::WRONG_MAP;
+use crate::say::{say, say_misuse, unexpected};
 use crate::schemas::SchemaOptions;
-use crate::words::is_help;
+use crate::words::{Argument, arguments_in, is_help};
 use std::alloc::{AllocError, Global};
 use std::fmt::Write;
+use toml_span::Stop;
 use toml_span_check::input::Host;
 use toml_span_lines::sink::Sink;
 use toml_span_lookup::disk::Disk;
@@ -16,8 +18,14 @@ use toml_span_lookup::lookup::Lookup;
 use toml_span_lookup::options::{LocalCopy, Options, Place};
 use toml_span_report::visible::push_visible;
 
+/// The message that the word after `schema` is missing or wrong.
+const NO_TASK: &str = "`schema` needs `check` or `get`";
+
 /// The folder for schemas if none is named.
 const FOLDER: &str = "schemas";
+
+/// The options, which all have a value.
+const VALUED: [&str; 2] = ["--schema-map", "--folder"];
 
 /// The arguments after `schema check` or `schema get`.
 #[derive(Drop)]
@@ -29,38 +37,30 @@ struct Arguments<'w> {
     names: Vec<&'w str>,
 }
 
-/// Parses the arguments after `schema check` or `schema get`. Returns `None` if an option is unknown or has no value.
-fn arguments_in<'w>(
-    alloc: Global,
-    words: &'w [String],
-) -> Result<Option<Arguments<'w>>, AllocError> {
+/// Parses the arguments after `schema check` or `schema get`. Fails with a message if an option is unknown or has no
+/// value, or if no schema is named.
+fn asked_of<'w>(alloc: Global, words: &'w [String]) -> Result<Arguments<'w>, Stop<String>> {
     let mut made = Arguments {
         maps: Vec::new(alloc),
         folder: FOLDER,
         names: Vec::new(alloc),
     };
-    let mut option = "";
-    for word in words {
-        let word = word.as_str();
-        if option == "--schema-map" {
-            if !word.contains('=') {
-                return Ok(None);
+    for argument in &arguments_in(alloc, words, &VALUED)? {
+        match *argument {
+            Argument::Other(word) => made.names.push(word)?,
+            Argument::Valued("--folder", word) => made.folder = word,
+            Argument::Valued(_, word) if word.contains('=') => made.maps.push(word)?,
+            Argument::Valued(_, _) => return Err(Stop::Fault(String::from_str(alloc, WRONG_MAP)?)),
+            Argument::Flag(word) => {
+                return Err(Stop::Fault(unexpected(alloc, word, true, &VALUED)?));
             }
-            made.maps.push(word)?;
-        } else if option == "--folder" {
-            made.folder = word;
-        } else if word == "--schema-map" || word == "--folder" {
-            option = word;
-            continue;
-        } else if word.starts_with("-") {
-            return Ok(None);
-        } else {
-            made.names.push(word)?;
         }
-        option = "";
     }
-    let is_right = option.is_empty() && !made.names.is_empty();
-    Ok(if is_right { Some(made) } else { None })
+    if made.names.is_empty() {
+        let message = "expected the path or the URL of a schema";
+        return Err(Stop::Fault(String::from_str(alloc, message)?));
+    }
+    Ok(made)
 }
 
 /// Appends a local copy to the options, from its address and its path.
@@ -219,25 +219,22 @@ pub fn schema<O: Sink, E: Sink>(
     ensures { IfOk result (λ status. status ≤ 4) }
 {
     let [_, task, rest @ ..] = words else {
-        return say_misuse(
-            alloc,
-            Command::Schema,
-            "`schema` needs `check` or `get`",
-            errors,
-        );
+        return say_misuse(alloc, Command::Schema, NO_TASK, errors);
     };
     if is_help(task.as_str()) || rest.iter().any(|word| is_help(word.as_str())) {
         return Ok(say(out, SCHEMA, 0));
     }
-    let message =
-        "`schema` takes `check [--schema-map URL=FILE].. FILE..` or `get [--folder FOLDER] ADDRESS..`";
-    let Some(arguments) = arguments_in(alloc, rest)? else {
-        return say_misuse(alloc, Command::Schema, message, errors);
+    let arguments = match asked_of(alloc, rest) {
+        Ok(arguments) => arguments,
+        Err(stop) => {
+            let message = stop.fault()?;
+            return say_misuse(alloc, Command::Schema, message.as_str(), errors);
+        }
     };
     let answer = match task.as_str() {
         "check" => check_schemas(alloc, host, &arguments)?,
         "get" => fetch_schemas(alloc, host, &arguments)?,
-        _ => return say_misuse(alloc, Command::Schema, message, errors),
+        _ => return say_misuse(alloc, Command::Schema, NO_TASK, errors),
     };
     Ok(give(&answer, out, errors))
 }

@@ -1,10 +1,12 @@
-//! Reads the arguments of the command line, and tests single arguments.
+//! Reads the arguments of the command line, tests single ones, and tells options from others.
 ghost use Rattle.std.specs.Prelude.{◌≡◌};
 ghost use Rattle.toml_span_commands.specs.Words as spec;
 
-use std::alloc::AllocError;
+use crate::say::missing_value;
+use std::alloc::{AllocError, Global};
 use std::env::FillError;
 use std::rt::Env;
+use toml_span::Stop;
 use toml_span_check::words::word_text;
 
 /// Returns the bytes of the argument at the position `at`, or `None` after the last argument.
@@ -86,4 +88,48 @@ pub fn is_file(word: &str) -> bool
     ensures { result ≡ spec.is_file word.now }
 {
     begins_with(word, b'-') || has(word, b'.') || has(word, b'/') || has(word, 0)
+}
+
+/// An argument of a command.
+#[derive(Clone, Copy)]
+pub(crate) enum Argument<'w> {
+    /// An option without a value, such as `--check`, or an unknown argument that begins with a dash.
+    Flag(&'w str),
+    /// The name of an option, and its value.
+    Valued(&'w str, &'w str),
+    /// Any other argument, such as the name of a file.
+    Other(&'w str),
+}
+
+/// Returns the arguments `words` of a command whose options `valued` have a value: the next argument, or what follows
+/// `=`. After `--`, which is left out, no argument is an option. Fails with a message if the last option has no value.
+pub(crate) fn arguments_in<'w>(
+    alloc: Global,
+    words: &'w [String],
+    valued: &[&str],
+) -> Result<Vec<Argument<'w>>, Stop<String>> {
+    let mut made = Vec::new(alloc);
+    let mut waiting = None;
+    let mut is_over = false;
+    for word in words {
+        let word = word.as_str();
+        let (name, value) = word.split_once('=').unwrap_or((word, ""));
+        if let Some(option) = waiting.take() {
+            made.push(Argument::Valued(option, word))?;
+        } else if is_over || word == "-" || !word.starts_with('-') {
+            made.push(Argument::Other(word))?;
+        } else if word == "--" {
+            is_over = true;
+        } else if !valued.contains(&name) {
+            made.push(Argument::Flag(word))?;
+        } else if name.len() < word.len() {
+            made.push(Argument::Valued(name, value))?;
+        } else {
+            waiting = Some(name);
+        }
+    }
+    match waiting {
+        Some(option) => Err(Stop::Fault(missing_value(alloc, option)?)),
+        None => Ok(made),
+    }
 }
