@@ -64,6 +64,17 @@ pub(crate) fn misuse(alloc: Global, command: Command, message: &str) -> Result<A
     })
 }
 
+/// Returns the answer for wrong arguments. `stop` has the message that says what is wrong. Fails if `stop` is
+/// `Stop::Memory`.
+pub(crate) fn misused(
+    alloc: Global,
+    command: Command,
+    stop: Stop<String>,
+) -> Result<Answer, AllocError> {
+    let message = stop.fault()?;
+    misuse(alloc, command, message.as_str())
+}
+
 /// Returns the answer of a command that fails with status 2. `stop` has the message for standard error. Fails if `stop`
 /// is `Stop::Memory`.
 pub(crate) fn stopped(alloc: Global, stop: Stop<String>) -> Result<Answer, AllocError> {

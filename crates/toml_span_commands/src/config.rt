@@ -1,7 +1,7 @@
 //! The command `config`.
 ghost use Rattle.std.specs.Prelude.{◌≡◌, ◌≤◌, IfOk, false};
 
-use crate::answers::{Answer, give, helped, misuse, printed, stopped};
+use crate::answers::{Answer, give, helped, misused, printed, stopped};
 use crate::commands::Command;
 use crate::options::search_of;
 use crate::say::unexpected;
@@ -204,10 +204,7 @@ fn answer_of(alloc: Global, arguments: &[String], host: &mut Host) -> Result<Ans
     }
     let asked = match asked_of(alloc, arguments) {
         Ok(asked) => asked,
-        Err(stop) => {
-            let message = stop.fault()?;
-            return misuse(alloc, Command::Config, message.as_str());
-        }
+        Err(stop) => return misused(alloc, Command::Config, stop),
     };
     match shown(alloc, asked, host) {
         Ok(text) => Ok(printed(alloc, text)),

@@ -1,7 +1,7 @@
 //! The commands that edit a file.
 ghost use Rattle.std.specs.Prelude.{◌≡◌, ◌≤◌, IfOk, false};
 
-use crate::answers::{Answer, failed, give, misuse, printed, stopped};
+use crate::answers::{Answer, failed, give, misuse, misused, printed, stopped};
 use crate::arguments::{Arguments, Show, arguments_asked};
 use crate::changes::{PathEdit, change_of, count_of, option_changes, script_changes};
 use crate::commands::{Command, help_of};
@@ -209,10 +209,7 @@ fn edit_by_script(
     }
     match option_changes(alloc, asked.edits.as_slice()) {
         Ok(changes) => perform(alloc, *file, changes.as_slice(), asked, host),
-        Err(stop) => {
-            let message = stop.fault()?;
-            misuse(alloc, Command::Edit, message.as_str())
-        }
+        Err(stop) => misused(alloc, Command::Edit, stop),
     }
 }
 
@@ -248,10 +245,7 @@ fn answer_of(
     }
     let asked = match arguments_asked(alloc, command, words) {
         Ok(asked) => asked,
-        Err(stop) => {
-            let message = stop.fault()?;
-            return misuse(alloc, command, message.as_str());
-        }
+        Err(stop) => return misused(alloc, command, stop),
     };
     if asked.is_help {
         return Ok(printed(alloc, edit_help(alloc, command)?));

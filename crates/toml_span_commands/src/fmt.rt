@@ -3,7 +3,7 @@ ghost use Rattle.std.specs.Prelude.{◌≡◌, ◌≤◌, IfOk, false};
 ghost use Rattle.std.specs.Str.{IsValidUpTo};
 ghost use Rattle.toml_span_commands.specs.Fmt.{FormatsAs};
 
-use crate::answers::{Answer, failed, give, helped, misuse, printed, stopped};
+use crate::answers::{Answer, failed, give, helped, misused, printed, stopped};
 use crate::arguments::seconds;
 use crate::commands::Command;
 use crate::configured::{Configured, Wanted, configured_files};
@@ -523,10 +523,7 @@ fn answer_of(alloc: Global, arguments: &[String], host: &mut Host) -> Result<Ans
     }
     match asked_of(alloc, arguments) {
         Ok(asked) => format_all(alloc, &asked, host),
-        Err(stop) => {
-            let message = stop.fault()?;
-            misuse(alloc, Command::Fmt, message.as_str())
-        }
+        Err(stop) => misused(alloc, Command::Fmt, stop),
     }
 }
 
