@@ -10,7 +10,7 @@ use crate::document::Document;
 use crate::duplicates::without_duplicate;
 use crate::edits::{Edit, differences, edited};
 use crate::partial::partial_reports;
-use crate::positions::Range;
+use crate::positions::{Encoding, Range};
 use crate::spans::{main_span, touches};
 use crate::table::PositionTable;
 use std::alloc::{AllocError, Global};
@@ -178,6 +178,24 @@ fn diagnostics_of(
     Ok(found)
 }
 
+/// Converts reports on a text to diagnostics.
+fn shown(
+    alloc: Global,
+    encoding: Encoding,
+    text: &str,
+    reports: &[Report],
+) -> Result<Vec<Diagnostic>, AllocError>
+    ensures { IfOk result (λ found. map spec.diagnostic_content found.items
+        ≡ map (spec.diagnostic_of encoding text.now) (map report_content reports.now)) }
+{
+    if let [] = reports {
+        // (most texts have none, so they need no table)
+        return Ok(Vec::new(alloc));
+    }
+    let table = PositionTable::new(alloc, encoding, text)?;
+    diagnostics_of(alloc, &table, reports)
+}
+
 /// The diagnostics of a text, and any reason why the text can't be checked against its schema.
 #[derive(Drop)]
 pub struct Diagnosed {
@@ -242,24 +260,25 @@ fn text_reports<S: Schemas>(
     }
 }
 
-/// Returns the diagnostics of the text of `table`, in the order in which `toml-span check` prints reports. For a text
-/// with errors, they are the reports of `check`, and then what `schemas` finds in what can be read, except for what may
-/// be wrong. For valid TOML, they report syntax that `version` lacks, and then what `schemas` finds. `name` is the name
-/// of the file. Fails if an allocation fails.
+/// Returns the diagnostics of a text, in the order in which `toml-span check` prints reports. For a text with errors,
+/// they are the reports of `check`, and then what `schemas` finds in what can be read, except for what may be wrong. For
+/// valid TOML, they report syntax that `version` lacks, and then what `schemas` finds. `name` is the name of the file.
+/// Fails if an allocation fails.
 pub fn diagnostics<S: Schemas>(
     alloc: Global,
-    table: &PositionTable<'_>,
+    encoding: Encoding,
     version: Version,
     chooser: Chooser,
     name: &str,
+    text: &str,
     schemas: &mut S,
 ) -> Result<Diagnosed, AllocError>
-    ensures { IfOk result (λ made. spec.Diagnoses S.says version chooser name.now table.now.encoding table.now.text.now
+    ensures { IfOk result (λ made. spec.Diagnoses S.says version chooser name.now encoding text.now
         (map spec.diagnostic_content made.diagnostics.items) (string_bytes made.complaint)) }
 {
-    let found = text_reports(alloc, version, chooser, name, table.text, schemas)?;
+    let found = text_reports(alloc, version, chooser, name, text, schemas)?;
     Ok(Diagnosed {
-        diagnostics: diagnostics_of(alloc, table, found.reports.as_slice())?,
+        diagnostics: shown(alloc, encoding, text, found.reports.as_slice())?,
         reports: found.reports,
         complaint: found.complaint,
     })
@@ -283,21 +302,21 @@ fn plain_reports(
     }
 }
 
-/// Returns the diagnostics of the text of `table`, a text without a schema, in the order in which `toml-span check`
-/// prints reports. For a text with errors, they are the reports of `check`. For valid TOML, they report syntax that
+/// Returns the diagnostics of a text without a schema, in the order in which `toml-span check` prints reports. For a text with errors, they are the reports of `check`. For valid TOML, they report syntax that
 /// `version` lacks. `name` is the name of the file. Fails if an allocation fails.
 pub fn plain_diagnostics(
     alloc: Global,
-    table: &PositionTable<'_>,
+    encoding: Encoding,
     version: Version,
     name: &str,
+    text: &str,
 ) -> Result<Diagnosed, AllocError>
-    ensures { IfOk result (λ made. spec.DiagnosesPlainly version name.now table.now.encoding table.now.text.now
+    ensures { IfOk result (λ made. spec.DiagnosesPlainly version name.now encoding text.now
         (map spec.diagnostic_content made.diagnostics.items) (string_bytes made.complaint)) }
 {
-    let reports = plain_reports(alloc, version, name, table.text)?;
+    let reports = plain_reports(alloc, version, name, text)?;
     Ok(Diagnosed {
-        diagnostics: diagnostics_of(alloc, table, reports.as_slice())?,
+        diagnostics: shown(alloc, encoding, text, reports.as_slice())?,
         reports,
         complaint: String::new(alloc),
     })

@@ -12,7 +12,6 @@ use toml_span_editor::diagnostics::{
     Diagnosed, Diagnostic, Related, diagnostics, plain_diagnostics,
 };
 use toml_span_editor::positions::{Encoding, FIRST, Position, Range, position_at};
-use toml_span_editor::table::PositionTable;
 use toml_span_lookup::directive::directive_of;
 use toml_span_lookup::lookup::Lookup;
 use toml_span_report::Severity;
@@ -105,11 +104,10 @@ fn diagnosed(
 {
     let (name, text) = (document.name.as_str(), document.text.as_str());
     let (version, chooser) = (settings.version, lookup.chooser());
-    let table = PositionTable::new(alloc, encoding, text)?;
     if lookup.has_no_schema(alloc, name, text)? {
-        plain_diagnostics(alloc, &table, version, name)
+        plain_diagnostics(alloc, encoding, version, name, text)
     } else {
-        diagnostics(alloc, &table, version, chooser, name, lookup)
+        diagnostics(alloc, encoding, version, chooser, name, text, lookup)
     }
 }
 
