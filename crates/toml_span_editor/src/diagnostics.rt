@@ -302,8 +302,9 @@ fn plain_reports(
     }
 }
 
-/// Returns the diagnostics of a text without a schema, in the order in which `toml-span check` prints reports. For a text with errors, they are the reports of `check`. For valid TOML, they report syntax that
-/// `version` lacks. `name` is the name of the file. Fails if an allocation fails.
+/// Returns the diagnostics of a text without a schema, in the order in which `toml-span check` prints reports. For a text
+/// with errors, they are the reports of `check`. For valid TOML, they report syntax that `version` lacks. `name` is the
+/// name of the file. Fails if an allocation fails.
 pub fn plain_diagnostics(
     alloc: Global,
     encoding: Encoding,
