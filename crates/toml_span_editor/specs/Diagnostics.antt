@@ -116,8 +116,8 @@ Diagnoses says version chooser name encoding text diagnostics complaint =
     (reports : List ReportContent) × AreReports says version chooser name text reports complaint
     × (diagnostics ≡ map (diagnostic_of encoding text) reports)
 
--- `reports` are the reports on `text`, the content of the file `name`, which has no schema. If `text` is valid TOML, they
--- are about syntax that `version` lacks. Otherwise, they are those that `Checks` allows.
+-- `reports` are the reports on `text`, the content of the file `name`, which has no schema. If `text` is valid TOML,
+-- they are about syntax that `version` lacks. Otherwise, they are those that `Checks` allows.
 abbrev pub ArePlainReports : Version → List ℕ → List ℕ → List ReportContent → Type 0
 ArePlainReports version name text reports =
     (((root : Value) × IsTree text depth_limit root) × Lacks version name text reports) ⊎ HasErrors text reports
