@@ -46,7 +46,7 @@ pub(crate) fn similar_line(
     }
 }
 
-/// Returns the message that an argument is unexpected, in the words of clap. If one of the options `names` is similar, a
+/// Returns the message that an argument is unexpected, in the words of clap, which names an option without its value. If one of the options `names` is similar, a
 /// second line names it. Otherwise, it says how to pass an argument with two dashes as a value, if the command has
 /// the option `--` (`has_dashes`).
 pub(crate) fn unexpected(
@@ -55,7 +55,11 @@ pub(crate) fn unexpected(
     has_dashes: bool,
     names: &[&str],
 ) -> Result<String, AllocError> {
-    let word = shown_word(alloc, word)?;
+    let name = match word.split_once('=') {
+        Some((name, _)) if word.starts_with("--") => name,
+        _ => word,
+    };
+    let word = shown_word(alloc, name)?;
     let shown = visible(alloc, word.as_str())?;
     let shown = shown.as_str();
     if let Some(name) = nearest(alloc, word.as_str(), names)? {
