@@ -46,9 +46,9 @@ pub(crate) fn similar_line(
     }
 }
 
-/// Returns the message that an argument is unexpected, in the words of clap, which names an option without its value. If one of the options `names` is similar, a
-/// second line names it. Otherwise, it says how to pass an argument with two dashes as a value, if the command has
-/// the option `--` (`has_dashes`).
+/// Returns the message that an argument is unexpected, in the words of clap, which names an option without its value. If
+/// one of the options `names` is similar, a second line names it. Otherwise, it says how to pass an argument with two
+/// dashes as a value, if the command has the option `--` (`has_dashes`).
 pub(crate) fn unexpected(
     alloc: Global,
     word: &str,
