@@ -29,7 +29,7 @@ const OPTIONS: [&str; 13] = [
     "-e",
 ];
 
-/// Those of them that have a value. The last one is that of `edit` alone.
+/// The options that have a value. Only `edit` has the last one.
 const VALUED: [&str; 4] = ["--wait", "--config", "--stdin-name", "-e"];
 
 /// What to do with the result of the edits.

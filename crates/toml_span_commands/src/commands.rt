@@ -79,7 +79,8 @@ pub(crate) fn arguments_of(command: Command) -> &'static str {
         Command::Lsp => "lsp",
         Command::Config => "config [OPTION].. [FILE]",
         Command::Explain => "explain [CODE]",
-        Command::Schema => "schema check [OPTION].. FILE..",
+        Command::Schema =>
+            "schema check [OPTION].. FILE..\n       toml-span schema get [OPTION].. ADDRESS..",
         Command::Help => "help [COMMAND]",
     }
 }

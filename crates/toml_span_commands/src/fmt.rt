@@ -65,7 +65,7 @@ const OPTIONS: [&str; 22] = [
     "--stdin-name",
 ];
 
-/// Those of them that have a value.
+/// The options that have a value.
 const VALUED: [&str; 9] = [
     "--width",
     "--indent",

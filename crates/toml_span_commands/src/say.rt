@@ -46,38 +46,46 @@ pub(crate) fn similar_line(
     }
 }
 
-/// Returns the message that an argument is unexpected, in the words of clap, which names an option without its value. If
-/// one of the options `names` is similar, a second line names it. Otherwise, it says how to pass an argument with two
-/// dashes as a value, if the command has the option `--` (`has_dashes`).
+/// Returns the message that an argument is unexpected, in the words of clap. An option is named without its value. If one
+/// of the options `names` is similar, a second line names it. Otherwise, if the command has the option `--`
+/// (`has_dashes`), a second line says how to pass an argument with two dashes as a value.
 pub(crate) fn unexpected(
     alloc: Global,
     word: &str,
     has_dashes: bool,
     names: &[&str],
 ) -> Result<String, AllocError> {
-    let name = match word.split_once('=') {
-        Some((name, _)) if word.starts_with("--") => name,
-        _ => word,
+    let shown = shown_word(alloc, word)?;
+    let shown = visible(alloc, shown.as_str())?;
+    let name = match shown.as_str().split_once('=') {
+        Some((name, value)) if names.contains(&name) => {
+            return format!(in alloc;
+                "unexpected value '{value}' for '{name}' found; no more were expected"
+            );
+        }
+        Some((name, _)) if name.len() > 2 && name.starts_with("--") => name,
+        _ => shown.as_str(),
     };
-    let word = shown_word(alloc, name)?;
-    let shown = visible(alloc, word.as_str())?;
-    let shown = shown.as_str();
-    if let Some(name) = nearest(alloc, word.as_str(), names)? {
+    if let Some(similar) = nearest(alloc, name, names)? {
         return format!(in alloc;
-            "unexpected argument '{shown}' found\n\n  tip: a similar argument exists: '{name}'"
+            "unexpected argument '{name}' found\n\n  tip: a similar argument exists: '{similar}'"
         );
     }
-    if has_dashes && shown.starts_with('-') {
+    if has_dashes && name.starts_with('-') {
         return format!(in alloc;
-            "unexpected argument '{shown}' found\n\n  tip: to pass '{shown}' as a value, use '-- {shown}'"
+            "unexpected argument '{name}' found\n\n  tip: to pass '{name}' as a value, use '-- {name}'"
         );
     }
-    format!(in alloc; "unexpected argument '{shown}' found")
+    format!(in alloc; "unexpected argument '{name}' found")
 }
 
 /// Returns the message that an option has no value, in the words of clap.
 pub(crate) fn missing_value(alloc: Global, option: &str) -> Result<String, AllocError> {
-    let name = option.trim_start_matches('-');
+    let name = if option == "-e" {
+        "edit"
+    } else {
+        option.trim_start_matches('-')
+    };
     format!(in alloc; "a value is required for '{option} <{name}>' but none was supplied")
 }
 

@@ -24,7 +24,10 @@ const NO_TASK: &str = "`schema` needs `check` or `get`";
 /// The folder for schemas if none is named.
 const FOLDER: &str = "schemas";
 
-/// The options, which all have a value.
+/// The options.
+const OPTIONS: [&str; 3] = ["--help", "--schema-map", "--folder"];
+
+/// The options that have a value.
 const VALUED: [&str; 2] = ["--schema-map", "--folder"];
 
 /// The arguments after `schema check` or `schema get`.
@@ -47,12 +50,12 @@ fn asked_of<'w>(alloc: Global, words: &'w [String]) -> Result<Arguments<'w>, Sto
     };
     for argument in &arguments_in(alloc, words, &VALUED)? {
         match *argument {
-            Argument::Other(word) => made.names.push(word)?,
+            Argument::Other(word) if !word.starts_with('-') => made.names.push(word)?,
             Argument::Valued("--folder", word) => made.folder = word,
             Argument::Valued(_, word) if word.contains('=') => made.maps.push(word)?,
             Argument::Valued(_, _) => return Err(Stop::Fault(String::from_str(alloc, WRONG_MAP)?)),
-            Argument::Flag(word) => {
-                return Err(Stop::Fault(unexpected(alloc, word, true, &VALUED)?));
+            Argument::Flag(word) | Argument::Other(word) => {
+                return Err(Stop::Fault(unexpected(alloc, word, false, &OPTIONS)?));
             }
         }
     }
@@ -224,6 +227,10 @@ pub fn schema<O: Sink, E: Sink>(
     if is_help(task.as_str()) || rest.iter().any(|word| is_help(word.as_str())) {
         return Ok(say(out, SCHEMA, 0));
     }
+    let is_check = task.as_str() == "check";
+    if !is_check && task.as_str() != "get" {
+        return say_misuse(alloc, Command::Schema, NO_TASK, errors);
+    }
     let arguments = match asked_of(alloc, rest) {
         Ok(arguments) => arguments,
         Err(stop) => {
@@ -231,10 +238,10 @@ pub fn schema<O: Sink, E: Sink>(
             return say_misuse(alloc, Command::Schema, message.as_str(), errors);
         }
     };
-    let answer = match task.as_str() {
-        "check" => check_schemas(alloc, host, &arguments)?,
-        "get" => fetch_schemas(alloc, host, &arguments)?,
-        _ => return say_misuse(alloc, Command::Schema, NO_TASK, errors),
+    let answer = if is_check {
+        check_schemas(alloc, host, &arguments)?
+    } else {
+        fetch_schemas(alloc, host, &arguments)?
     };
     Ok(give(&answer, out, errors))
 }

@@ -1,4 +1,4 @@
-//! Reads the arguments of the command line, tests single ones, and tells options from others.
+//! Reads the arguments of the command line, tests single ones, and separates options from other arguments.
 ghost use Rattle.std.specs.Prelude.{◌≡◌};
 ghost use Rattle.toml_span_commands.specs.Words as spec;
 
@@ -101,8 +101,9 @@ pub(crate) enum Argument<'w> {
     Other(&'w str),
 }
 
-/// Returns the arguments `words` of a command whose options `valued` have a value: the next argument, or what follows
-/// `=`. After `--`, which is left out, no argument is an option. Fails with a message if the last option has no value.
+/// Splits `words`, the arguments of a command. An option in `valued` has a value: the text after `=`, or the next
+/// argument. `--` is left out, and no argument after it is an option. Fails with a message if the value of the last
+/// argument is missing.
 pub(crate) fn arguments_in<'w>(
     alloc: Global,
     words: &'w [String],

@@ -17,8 +17,9 @@ use Rattle.toml_span_check.specs.Schemas.{Says}
 use Rattle.toml_span_check.specs.declared.fixing.FixLevel.TheVariants.{Safe}
 use Rattle.toml_span_check.specs.declared.newer.Version.{Version}
 use Rattle.toml_span_check.specs.declared.schemas.Chooser.{Chooser}
-use Rattle.toml_span_report.specs.Report.{ReportLabel, ReportContent}
+use Rattle.toml_span_report.specs.Report.{ReportLabel, ReportContent, report_content}
 use Rattle.toml_span_report.specs.declared.report.Severity.{Severity}
+use Rattle.toml_span_editor.specs.declared.diagnostics.Diagnosed.{Diagnosed}
 use Rattle.toml_span_editor.specs.declared.diagnostics.Diagnostic.{Diagnostic}
 use Rattle.toml_span_editor.specs.declared.diagnostics.Related.{Related}
 use Rattle.toml_span_editor.specs.declared.positions.Encoding.{Encoding}
@@ -109,25 +110,30 @@ AreReports says version chooser name text reports complaint =
     ⊎ ((error : Error) × IsRefusal text depth_limit (Fault error) × AreTextReports says chooser name text reports
     × (complaint ≡ []))
 
--- `diagnostics` are the reports on the text (see `AreReports`) as an editor shows them, in the same order.
-abbrev pub Diagnoses : Says → Version → Chooser → List ℕ → Encoding → List ℕ → List DiagnosticContent → List ℕ
-    → Type 0
-Diagnoses says version chooser name encoding text diagnostics complaint =
-    (reports : List ReportContent) × AreReports says version chooser name text reports complaint
-    × (diagnostics ≡ map (diagnostic_of encoding text) reports)
+-- The diagnostics are the reports on `text` as an editor shows them, in the same order.
+abbrev pub Shows : Encoding → List ℕ → Diagnosed → Type 0
+Shows encoding text made =
+    map diagnostic_content made.diagnostics.items
+    ≡ map (diagnostic_of encoding text) (map report_content made.reports.items)
+
+-- `made` has the reports on the text (see `AreReports`) and their diagnostics.
+abbrev pub Diagnoses : Says → Version → Chooser → List ℕ → Encoding → List ℕ → Diagnosed → Type 0
+Diagnoses says version chooser name encoding text made =
+    AreReports says version chooser name text (map report_content made.reports.items) (string_bytes made.complaint)
+    × Shows encoding text made
 
 -- `reports` are the reports on `text`, the content of the file `name`, which has no schema. If `text` is valid TOML,
 -- they are about syntax that `version` lacks. Otherwise, they are those that `Checks` allows.
-abbrev pub ArePlainReports : Version → List ℕ → List ℕ → List ReportContent → Type 0
-ArePlainReports version name text reports =
+abbrev pub AreReportsWithoutSchema : Version → List ℕ → List ℕ → List ReportContent → Type 0
+AreReportsWithoutSchema version name text reports =
     (((root : Value) × IsTree text depth_limit root) × Lacks version name text reports) ⊎ HasErrors text reports
 
--- `diagnostics` are the reports on a text without a schema (see `ArePlainReports`) as an editor shows them, in the same
--- order. The complaint is empty.
-abbrev pub DiagnosesPlainly : Version → List ℕ → Encoding → List ℕ → List DiagnosticContent → List ℕ → Type 0
-DiagnosesPlainly version name encoding text diagnostics complaint =
-    (reports : List ReportContent) × ArePlainReports version name text reports
-    × (diagnostics ≡ map (diagnostic_of encoding text) reports) × (complaint ≡ [])
+-- `made` has the reports on a text without a schema (see `AreReportsWithoutSchema`) and their diagnostics, and no
+-- complaint.
+abbrev pub DiagnosesWithoutSchema : Version → List ℕ → Encoding → List ℕ → Diagnosed → Type 0
+DiagnosesWithoutSchema version name encoding text made =
+    AreReportsWithoutSchema version name text (map report_content made.reports.items)
+    × (string_bytes made.complaint ≡ []) × Shows encoding text made
 
 -- The edits make of the text what `check --fix` writes.
 abbrev pub RepairsAll : Version → List ℕ → List ℕ → List (Span × List ℕ) → Type 0

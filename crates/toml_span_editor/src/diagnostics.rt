@@ -179,7 +179,7 @@ fn diagnostics_of(
 }
 
 /// Converts reports on a text to diagnostics.
-fn shown(
+fn diagnostics_in(
     alloc: Global,
     encoding: Encoding,
     text: &str,
@@ -189,7 +189,7 @@ fn shown(
         ≡ map (spec.diagnostic_of encoding text.now) (map report_content reports.now)) }
 {
     if let [] = reports {
-        // (most texts have none, so they need no table)
+        // (most texts have none, and need no table)
         return Ok(Vec::new(alloc));
     }
     let table = PositionTable::new(alloc, encoding, text)?;
@@ -273,12 +273,11 @@ pub fn diagnostics<S: Schemas>(
     text: &str,
     schemas: &mut S,
 ) -> Result<Diagnosed, AllocError>
-    ensures { IfOk result (λ made. spec.Diagnoses S.says version chooser name.now encoding text.now
-        (map spec.diagnostic_content made.diagnostics.items) (string_bytes made.complaint)) }
+    ensures { IfOk result (spec.Diagnoses S.says version chooser name.now encoding text.now) }
 {
     let found = text_reports(alloc, version, chooser, name, text, schemas)?;
     Ok(Diagnosed {
-        diagnostics: shown(alloc, encoding, text, found.reports.as_slice())?,
+        diagnostics: diagnostics_in(alloc, encoding, text, found.reports.as_slice())?,
         reports: found.reports,
         complaint: found.complaint,
     })
@@ -286,13 +285,13 @@ pub fn diagnostics<S: Schemas>(
 
 /// Returns the reports on a text without a schema: those of `check` on a text with errors, otherwise those on syntax
 /// that `version` lacks. `name` is the name of the file.
-fn plain_reports(
+fn reports_without_schema(
     alloc: Global,
     version: Version,
     name: &str,
     text: &str,
 ) -> Result<Vec<Report>, AllocError>
-    ensures { IfOk result (λ reports. spec.ArePlainReports version name.now text.now
+    ensures { IfOk result (λ reports. spec.AreReportsWithoutSchema version name.now text.now
         (map report_content reports.items)) }
 {
     match parse_with_reports(alloc, text) {
@@ -305,19 +304,18 @@ fn plain_reports(
 /// Returns the diagnostics of a text without a schema, in the order in which `toml-span check` prints reports. For a text
 /// with errors, they are the reports of `check`. For valid TOML, they report syntax that `version` lacks. `name` is the
 /// name of the file. Fails if an allocation fails.
-pub fn plain_diagnostics(
+pub fn diagnostics_without_schema(
     alloc: Global,
     encoding: Encoding,
     version: Version,
     name: &str,
     text: &str,
 ) -> Result<Diagnosed, AllocError>
-    ensures { IfOk result (λ made. spec.DiagnosesPlainly version name.now encoding text.now
-        (map spec.diagnostic_content made.diagnostics.items) (string_bytes made.complaint)) }
+    ensures { IfOk result (spec.DiagnosesWithoutSchema version name.now encoding text.now) }
 {
-    let reports = plain_reports(alloc, version, name, text)?;
+    let reports = reports_without_schema(alloc, version, name, text)?;
     Ok(Diagnosed {
-        diagnostics: shown(alloc, encoding, text, reports.as_slice())?,
+        diagnostics: diagnostics_in(alloc, encoding, text, reports.as_slice())?,
         reports,
         complaint: String::new(alloc),
     })

@@ -90,7 +90,7 @@ fn after(encoding: Encoding, position: Position, byte: u8, next: u8) -> Position
 {
     let Position { line, character } = position;
     if byte >= b' ' && byte <= b'~' {
-        // (most bytes, told by one test)
+        // (one test for most bytes)
         Position {
             line,
             character: plus(character, 1),

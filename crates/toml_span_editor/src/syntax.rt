@@ -1,4 +1,4 @@
-//! A text as statements, for all that looks at a text which need not be valid.
+//! The pieces and statements of a text, for features that also work on texts with errors.
 use std::alloc::{AllocError, Global};
 use toml_span_syntax::pieces::{Piece, pieces};
 use toml_span_syntax::statements::{Statement, statements};

@@ -1,5 +1,5 @@
 -- The results of checking documents against schemas in files.
-use Rattle.std.specs.Prelude.{◌≡◌, ◌==◌, ◌&&◌, ◌⊎◌, ⊤, ℕ, Bool, true, false, not, List, [], ◌∷◌, ◌++◌, All}
+use Rattle.std.specs.Prelude.{◌≡◌, ◌==◌, ◌&&◌, ◌⊎◌, ℕ, Bool, true, false, List, [], ◌∷◌, ◌++◌, All}
 use Rattle.std.specs.Prelude.{Option, None, Some, codes, length, string_bytes, if◌then◌else◌}
 use Rattle.std.specs.Str.{bytes_eq}
 use Rattle.toml_span_check.specs.Schemas.{Says, no_schema}
@@ -25,17 +25,22 @@ chooser_of lookup =
     then Files
     else Arguments
 
--- If only directives choose a schema, `is_lacking` says whether the text has none: no comment before the first header
--- or assignment begins with `#:schema`, and the first key is not `"$schema"`. What options choose is left open, since
--- catalogs have no contract.
-abbrev pub LacksSchema : Chooser → List ℕ → Bool → Type 0
-LacksSchema Files text is_lacking = is_lacking ≡ not (names_schema text)
-LacksSchema Arguments text is_lacking = ⊤
-
 -- options may choose a schema, or a comment before the first header or assignment begins with `#:schema`, or the first
 -- key is `"$schema"`
 abbrev pub MayHaveSchema : Chooser → List ℕ → Type 0
 MayHaveSchema chooser text = (chooser ≡ Arguments) ⊎ (names_schema text ≡ true)
+
+-- The options name no schema, and either they name a catalog, whose choice is left open since files have no contract,
+-- or no comment before the first header or assignment begins with `#:schema` and the first key is not `"$schema"`.
+abbrev pub MayLackSchema : Lookup → List ℕ → Type 0
+MayLackSchema lookup text =
+    (length (string_bytes lookup.options.schema) ≡ 0)
+    × (((length (string_bytes lookup.options.catalog) == 0) ≡ false) ⊎ (names_schema text ≡ false))
+
+-- `has_none` says whether a file with this text has no schema.
+abbrev pub TellsNoSchema : Lookup → List ℕ → Bool → Type 0
+TellsNoSchema lookup text true = MayLackSchema lookup text
+TellsNoSchema lookup text false = MayHaveSchema (chooser_of lookup) text
 
 -- only directives choose a schema, no comment before the first header or assignment begins with `#:schema`, and the
 -- first key is not `"$schema"`

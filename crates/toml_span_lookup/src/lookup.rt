@@ -1,7 +1,7 @@
 //! Finds the schemas of files, and checks documents against them.
 ghost use Rattle.std.specs.Prelude.{◌≡◌, IfOk, map, option_map, string_bytes};
 ghost use Rattle.toml_span_lookup.specs.Findings as spec;
-ghost use Rattle.toml_span_lookup.specs.Findings.{AddsWarnings, LacksSchema, ReportsFor, ReportsOf, file_says};
+ghost use Rattle.toml_span_lookup.specs.Findings.{AddsWarnings, ReportsFor, ReportsOf, TellsNoSchema, file_says};
 ghost use Rattle.toml_span_report.specs.Report.{report_content};
 ghost use Rattle.toml_span_tree.specs.Value.{view};
 
@@ -157,12 +157,16 @@ impl Lookup {
         }
     }
 
-    /// Returns whether the file `name`, whose content is `text`, has no schema, as far as the catalog has been read.
-    /// Reads no files. Fails if an allocation fails.
+    /// Returns whether the file `name`, whose content is `text`, has no schema. A catalog only counts if it has been
+    /// read. Reads no files. Fails if an allocation fails.
+    #[tactic(auto, unfolding(crate::specs::Findings::chooser_of))]
     pub fn has_no_schema(&self, alloc: Global, name: &str, text: &str) -> Result<bool, AllocError>
-        ensures { IfOk result (LacksSchema (spec.chooser_of self.now) text.now) }
+        ensures { IfOk result (TellsNoSchema self.now text.now) }
     {
-        if self.chooser() == Chooser::Files {
+        if !self.options.schema.is_empty() {
+            return Ok(false);
+        }
+        if self.options.catalog.is_empty() {
             return Ok(!names_schema(text));
         }
         Ok(matches!(self.choice(alloc, name, text)?, Choice::None))

@@ -1,18 +1,17 @@
 -- The diagnostics of open documents.
-use Rattle.std.specs.Prelude.{◌⊎◌, ℕ, true, false, List, map, string_bytes}
+use Rattle.std.specs.Prelude.{◌⊎◌, ℕ, List}
 use Rattle.toml_span_check.specs.declared.newer.Version.{Version}
-use Rattle.toml_span_check.specs.declared.schemas.Chooser.{Chooser}
-use Rattle.toml_span_editor.specs.Diagnostics.{Diagnoses, DiagnosesPlainly, diagnostic_content}
+use Rattle.toml_span_editor.specs.Diagnostics.{Diagnoses, DiagnosesWithoutSchema}
 use Rattle.toml_span_editor.specs.declared.diagnostics.Diagnosed.{Diagnosed}
 use Rattle.toml_span_editor.specs.declared.positions.Encoding.{Encoding}
-use Rattle.toml_span_lookup.specs.Findings.{LacksSchema, file_says}
+use Rattle.toml_span_lookup.specs.Findings.{MayHaveSchema, MayLackSchema, chooser_of, file_says}
+use Rattle.toml_span_lookup.specs.declared.lookup.Lookup.{Lookup}
 
--- `made` has the diagnostics of `text`, the text of the file `name`. They are those of `toml-span check` with the
--- schema that the file or the settings choose, if there is one. `chooser` says which of the two chooses it. The relation
--- leaves open which schema settings choose.
-abbrev pub AreChecked : Chooser → Version → List ℕ → Encoding → List ℕ → Diagnosed → Type 0
-AreChecked chooser version name encoding text made =
-    (LacksSchema chooser text true × DiagnosesPlainly version name encoding text
-    (map diagnostic_content made.diagnostics.items) (string_bytes made.complaint))
-    ⊎ (LacksSchema chooser text false × Diagnoses file_says version chooser name encoding text
-    (map diagnostic_content made.diagnostics.items) (string_bytes made.complaint))
+-- `made` has the diagnostics of `text`, the text of the file `name`. They are those of `toml-span check`, with the
+-- schema of the file if it has one. `lookup` says whether settings may choose the schema, or only the file. The relation
+-- leaves open which schema is chosen, whether it can be used, and whether a catalog has one for the file.
+abbrev pub AreChecked : Lookup → Version → List ℕ → Encoding → List ℕ → Diagnosed → Type 0
+AreChecked lookup version name encoding text made =
+    (MayLackSchema lookup text × DiagnosesWithoutSchema version name encoding text made)
+    ⊎ (MayHaveSchema (chooser_of lookup) text
+    × Diagnoses file_says version (chooser_of lookup) name encoding text made)

@@ -49,13 +49,13 @@ fn is_wanted(params: &Value<'_>, kind: &str) -> bool {
     }
 }
 
-/// Returns whether a client wants actions of a kind that is not about a diagnostic at the cursor: as `is_wanted`, but not
-/// if the client asks on its own, for example since the cursor has moved, and lists no kinds.
+/// Returns whether to list actions of a kind that is not about a diagnostic at the cursor: the client wants the kind (see
+/// `is_wanted`), and the user made the request or the client lists kinds.
 fn is_asked_for(params: &Value<'_>, kind: &str) -> bool {
     let trigger = member(params, &["context", "triggerKind"]);
-    let is_automatic = trigger.and_then(|kind| kind.as_u64()) == Some(AUTOMATIC);
-    let lists_kinds = member(params, &["context", "only"]).is_some();
-    is_wanted(params, kind) && (lists_kinds || !is_automatic)
+    let is_automatic = trigger.and_then(|number| number.as_u64()) == Some(AUTOMATIC);
+    let only = member(params, &["context", "only"]);
+    is_wanted(params, kind) && (!is_automatic || matches!(only, Some(Value::Array(_))))
 }
 
 /// Writes an action of this kind that makes these edits. If the edits repair a diagnostic, names the diagnostic.
@@ -180,7 +180,8 @@ fn is_of_schema(report: &Report) -> bool {
 }
 
 /// Writes an action for each repair of a diagnostic of the open document that touches `span`, one for each missing key
-/// of a table there, and one with the edits of `all_repairs`. Leaves out kinds that the client does not want.
+/// of a table there, and if the client asks for it (see `is_asked_for`), one with the edits of `all_repairs`. Leaves out kinds that the
+/// client does not want.
 fn write_fixes(
     request: &Request<'_, '_, '_>,
     document: Option<&Document<'_>>,

@@ -7,6 +7,7 @@ use toml_span_editor::completion::completion_at;
 use toml_span_editor::document::Document;
 use toml_span_editor::hover::hover_at;
 use toml_span_editor::keys::definition;
+use toml_span_editor::syntax::Syntax;
 use toml_span_schema::Guide;
 
 /// Writes the location where the key at an offset is defined, or null if there is no key at the offset.
@@ -53,6 +54,13 @@ pub(crate) fn write_completion(
     at: usize,
     out: &mut Json,
 ) -> Result<(), AllocError> {
-    let made = completion_at(request.alloc, guide, request.syntax, document, at)?;
+    let alloc = request.alloc;
+    let made = match request.syntax {
+        Some(syntax) => completion_at(alloc, guide, syntax, document, at)?,
+        None => {
+            let syntax = Syntax::new(alloc, request.table.text)?;
+            completion_at(alloc, guide, &syntax, document, at)?
+        }
+    };
     write_items(request, &made, out)
 }

@@ -9,6 +9,7 @@ use toml_span_editor::folding::folds;
 use toml_span_editor::keys::mentions;
 use toml_span_editor::outline::{Symbol, outline};
 use toml_span_editor::selection::selections;
+use toml_span_editor::syntax::Syntax;
 use toml_span_editor::table::PositionTable;
 
 /// Returns the number for the kind of a value (LSP 3.17, SymbolKind).
@@ -92,8 +93,13 @@ pub(crate) fn write_symbols(
 
 /// Writes the first and last lines of the parts of a text that can be folded. Leaves out parts on one line.
 pub(crate) fn write_folds(request: &Request<'_, '_, '_>, out: &mut Json) -> Result<(), AllocError> {
+    let alloc = request.alloc;
+    let folds = match request.syntax {
+        Some(syntax) => folds(alloc, syntax)?,
+        None => folds(alloc, &Syntax::new(alloc, request.table.text)?)?,
+    };
     out.begin_array();
-    for fold in &folds(request.alloc, request.syntax)? {
+    for fold in &folds {
         let place = request.table.range(fold.span);
         let is_before = place.end.character == 0 && place.start.line < place.end.line;
         let end = place.end.line.saturating_sub(if is_before { 1 } else { 0 });

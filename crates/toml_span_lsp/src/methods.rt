@@ -63,8 +63,8 @@ pub(crate) struct Request<'r, 't, 'j> {
     pub uri: &'r str,
     /// The text of the document, with its positions.
     pub table: &'r PositionTable<'t>,
-    /// The text of the document as statements.
-    pub syntax: &'r Syntax<'t>,
+    /// The pieces and statements of the text, if they are kept.
+    pub syntax: Option<&'r Syntax<'t>>,
     pub params: &'r Value<'j>,
     pub settings: Settings,
     pub client: Client,

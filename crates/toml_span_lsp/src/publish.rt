@@ -1,6 +1,5 @@
 //! Writes diagnostics: as notifications by the server, and as answers to requests of the client.
 ghost use Rattle.std.specs.Prelude.{IfOk, string_bytes};
-ghost use Rattle.toml_span_lookup.specs.Findings.{chooser_of};
 ghost use Rattle.toml_span_lsp.specs.Diagnosed.{AreChecked};
 
 use crate::outgoing::{Json, Outbox, ServerCall, write_location};
@@ -9,7 +8,7 @@ use crate::settings::Settings;
 use crate::state::{Client, Findings, Open, State};
 use std::alloc::{AllocError, Global};
 use toml_span_editor::diagnostics::{
-    Diagnosed, Diagnostic, Related, diagnostics, plain_diagnostics,
+    Diagnosed, Diagnostic, Related, diagnostics, diagnostics_without_schema,
 };
 use toml_span_editor::positions::{Encoding, FIRST, Position, Range, position_at};
 use toml_span_lookup::directive::directive_of;
@@ -99,13 +98,13 @@ fn diagnosed(
     document: &Open,
     lookup: &mut Lookup,
 ) -> Result<Diagnosed, AllocError>
-    ensures { IfOk result (AreChecked (chooser_of lookup.old) settings.version (string_bytes document.now.name)
-        encoding (string_bytes document.now.text)) }
+    ensures { IfOk result (AreChecked lookup.old settings.version (string_bytes document.now.name) encoding
+        (string_bytes document.now.text)) }
 {
     let (name, text) = (document.name.as_str(), document.text.as_str());
     let (version, chooser) = (settings.version, lookup.chooser());
     if lookup.has_no_schema(alloc, name, text)? {
-        plain_diagnostics(alloc, encoding, version, name, text)
+        diagnostics_without_schema(alloc, encoding, version, name, text)
     } else {
         diagnostics(alloc, encoding, version, chooser, name, text, lookup)
     }

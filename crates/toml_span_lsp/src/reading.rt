@@ -7,6 +7,10 @@ use toml_span_editor::syntax::Syntax;
 use toml_span_editor::table::PositionTable;
 use toml_span_lines::run::BOUND;
 
+/// The length of a text in bytes up to which it has an outline and semantic tokens, and its statements are kept. A longer
+/// one has the tokens of ranges.
+pub(crate) const LARGE: usize = 4_194_304;
+
 /// A text of an open document.
 #[derive(Drop)]
 pub(crate) struct TextName {
@@ -31,8 +35,8 @@ pub(crate) struct Reading<'t> {
     pub name: TextName,
     /// The text, with its positions.
     pub table: PositionTable<'t>,
-    /// The text as statements.
-    pub syntax: Syntax<'t>,
+    /// The pieces and statements of the text, unless it is longer than `LARGE`.
+    pub syntax: Option<Syntax<'t>>,
     /// The whole document, or `None` if the text has errors.
     pub document: Option<Document<'t>>,
     /// If the text has errors, what can be read of it, as `readable` returns it.
@@ -92,10 +96,15 @@ pub(crate) fn reading_of<'t>(
         Some(_) => None,
         None => read(alloc, kept)?,
     };
+    let syntax = if text.len() > LARGE {
+        None
+    } else {
+        Some(Syntax::new(alloc, text)?)
+    };
     Ok(Reading {
         name,
         table: PositionTable::new(alloc, encoding, text)?,
-        syntax: Syntax::new(alloc, text)?,
+        syntax,
         document,
         partial,
     })

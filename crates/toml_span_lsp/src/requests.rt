@@ -10,7 +10,7 @@ use crate::lists::{
 use crate::methods::{Method, Request};
 use crate::outgoing::Json;
 use crate::publish::write_report;
-use crate::reading::{Reading, TextName, is_too_long, kept_of, reading_of, text_of};
+use crate::reading::{LARGE, Reading, TextName, is_too_long, kept_of, reading_of, text_of};
 use crate::refusal::{INVALID_PARAMS, REQUEST_FAILED, Refusal, refused};
 use crate::settings::Settings;
 use crate::state::State;
@@ -21,10 +21,6 @@ use toml_span_editor::document::{Document, read};
 use toml_span_editor::positions::offset_at;
 use toml_span_lex::stop::Stop;
 use toml_span_schema::Guide;
-
-/// The length of a text in bytes up to which it has an outline and semantic tokens. A longer one has the tokens of
-/// ranges.
-const LARGE: usize = 4_194_304;
 
 /// Why a request without a valid range is refused.
 const NO_RANGE: &str = "`range` must have a `start` and an `end`";
@@ -230,7 +226,7 @@ fn write_known(
         method,
         uri,
         table: &reading.table,
-        syntax: &reading.syntax,
+        syntax: reading.syntax.as_ref(),
         params,
         settings: settings_of(state, uri),
         client: state.client,

@@ -5,6 +5,7 @@ use crate::outgoing::Json;
 use crate::state::{SentTokens, State};
 use std::alloc::AllocError;
 use toml_span_editor::positions::{Encoding, Position, position_at};
+use toml_span_editor::syntax::Syntax;
 use toml_span_editor::tokens::{Meaning, tokens};
 use toml_span_lex::span::Span;
 
@@ -36,9 +37,14 @@ fn moved(encoding: Encoding, text: &str, from: usize, to: usize) -> Position {
 /// length, the type, and 0 for no modifiers. Takes time linear in the length of the text.
 fn token_numbers(request: &Request<'_, '_, '_>, span: Span) -> Result<Vec<u32>, AllocError> {
     let (encoding, text) = (request.table.encoding, request.table.text);
-    let mut numbers = Vec::new(request.alloc);
+    let alloc = request.alloc;
+    let tokens = match request.syntax {
+        Some(syntax) => tokens(alloc, syntax)?,
+        None => tokens(alloc, &Syntax::new(alloc, text)?)?,
+    };
+    let mut numbers = Vec::new(alloc);
     let mut last = 0;
-    for token in &tokens(request.alloc, request.syntax)? {
+    for token in &tokens {
         let Span { start, end } = token.span;
         if end < span.start || start > span.end {
             continue;
