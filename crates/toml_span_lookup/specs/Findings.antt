@@ -1,6 +1,7 @@
 -- The results of checking documents against schemas in files.
 use Rattle.std.specs.Prelude.{◌≡◌, ◌==◌, ◌&&◌, ◌⊎◌, ℕ, Bool, true, false, List, [], ◌∷◌, ◌++◌, All}
-use Rattle.std.specs.Prelude.{Option, None, Some, codes, length, string_bytes, if◌then◌else◌}
+use Rattle.std.specs.Prelude.{Option, None, Some, String, codes, length, string_bytes, if◌then◌else◌}
+use Rattle.std.specs.Global.{Global}
 use Rattle.std.specs.Str.{bytes_eq}
 use Rattle.toml_span_check.specs.Schemas.{Says, no_schema}
 use Rattle.toml_span_check.specs.declared.schemas.Chooser.{Chooser}
@@ -18,12 +19,14 @@ use Rattle.toml_span_schema.specs.declared.guide.Guide.{Guide}
 use Rattle.toml_span_schema.specs.declared.schema.Schema.{Schema}
 use Rattle.toml_span_tree.specs.Node.{Node}
 
+-- whether a text, such as the path of a schema, is empty
+abbrev pub is_empty : String Global → Bool
+is_empty text = length (string_bytes text) == 0
+
 -- `Arguments` if the options name a schema or a catalog, otherwise `Files`
 unfoldable pub chooser_of : Lookup → Chooser
 chooser_of lookup =
-    if length (string_bytes lookup.options.schema) == 0 && length (string_bytes lookup.options.catalog) == 0
-    then Files
-    else Arguments
+    if is_empty lookup.options.schema && is_empty lookup.options.catalog then Files else Arguments
 
 -- options may choose a schema, or a comment before the first header or assignment begins with `#:schema`, or the first
 -- key is `"$schema"`
@@ -34,8 +37,8 @@ MayHaveSchema chooser text = (chooser ≡ Arguments) ⊎ (names_schema text ≡ 
 -- or no comment before the first header or assignment begins with `#:schema` and the first key is not `"$schema"`.
 abbrev pub MayLackSchema : Lookup → List ℕ → Type 0
 MayLackSchema lookup text =
-    (length (string_bytes lookup.options.schema) ≡ 0)
-    × (((length (string_bytes lookup.options.catalog) == 0) ≡ false) ⊎ (names_schema text ≡ false))
+    (is_empty lookup.options.schema ≡ true)
+    × ((is_empty lookup.options.catalog ≡ false) ⊎ (names_schema text ≡ false))
 
 -- `has_none` says whether a file with this text has no schema.
 abbrev pub TellsNoSchema : Lookup → List ℕ → Bool → Type 0

@@ -64,6 +64,7 @@ impl Lookup {
     }
 
     /// Returns `Arguments` if the options name a schema or a catalog, otherwise `Files`.
+    #[tactic(auto, unfolding(crate::specs::Findings::chooser_of))]
     pub fn chooser(&self) -> Chooser
         ensures { result ≡ spec.chooser_of self.now }
     {
