@@ -46,6 +46,25 @@ pub(crate) fn similar_line(
     }
 }
 
+/// Returns whether `name` is one of `names`.
+fn is_among(name: &str, names: &[&str]) -> bool {
+    for one in names {
+        if *one == name {
+            return true;
+        }
+    }
+    false
+}
+
+/// Returns the name and the value of an argument such as `--name=value`. Any other argument is a name, and has an empty
+/// value.
+fn option_parts(word: &str) -> (&str, &str) {
+    match word.split_once('=') {
+        Some((name, value)) if name.len() > 2 && name.starts_with("--") => (name, value),
+        _ => (word, ""),
+    }
+}
+
 /// Returns the message that an argument is unexpected, in the words of clap. An option is named without its value. If one
 /// of the options `names` is similar, a second line names it. Otherwise, if the command has the option `--`
 /// (`has_dashes`), a second line says how to pass an argument with two dashes as a value.
@@ -57,15 +76,12 @@ pub(crate) fn unexpected(
 ) -> Result<String, AllocError> {
     let shown = shown_word(alloc, word)?;
     let shown = visible(alloc, shown.as_str())?;
-    let name = match shown.as_str().split_once('=') {
-        Some((name, value)) if names.contains(&name) => {
-            return format!(in alloc;
-                "unexpected value '{value}' for '{name}' found; no more were expected"
-            );
-        }
-        Some((name, _)) if name.len() > 2 && name.starts_with("--") => name,
-        _ => shown.as_str(),
-    };
+    let (name, value) = option_parts(shown.as_str());
+    if !value.is_empty() && is_among(name, names) {
+        return format!(in alloc;
+            "unexpected value '{value}' for '{name}' found; no more were expected"
+        );
+    }
     if let Some(similar) = nearest(alloc, name, names)? {
         return format!(in alloc;
             "unexpected argument '{name}' found\n\n  tip: a similar argument exists: '{similar}'"
