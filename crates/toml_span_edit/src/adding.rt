@@ -126,16 +126,16 @@ pub(crate) fn put_lines(text: &str, at: usize, lines: &str, plan: &mut Plan)
     plan.put(point(at), "", gap_at(text, at), lines);
 }
 
-/// Adds to `plan` the insertion of an entry with the key `key` and the value `item` at the byte offset `at`: its comment
-/// lines, and a line that begins with the indent `front`.
+/// Adds to `plan` the insertion of an entry with the key `key` and the value `item` at the byte offset `at`: its
+/// comment lines, and a line that begins with the indent `front`.
 fn put_line(text: &str, at: usize, front: &str, key: &str, item: Item<'_>, plan: &mut Plan) {
     put_lines(text, at, item.above, plan);
     plan.put(point(at), front, key, " = ");
     plan.put(point(at), item.value, item.note, line_end(text));
 }
 
-/// Adds to `plan` the insertion of an entry with the key `key` and the value `item` at the offset that `top_of` returns.
-/// If comments are above this offset, and the next line is not blank, a blank line follows.
+/// Adds to `plan` the insertion of an entry with the key `key` and the value `item` at the offset that `top_of`
+/// returns. If comments are above this offset, and the next line is not blank, a blank line follows.
 fn put_at_top(text: &str, key: &str, item: Item<'_>, plan: &mut Plan) {
     let at = top_of(text);
     put_line(text, at, "", key, item, plan);

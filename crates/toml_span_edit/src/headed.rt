@@ -27,8 +27,8 @@ pub(crate) fn is_inline(document: Document<'_, '_>, value: &str) -> Edited<bool>
 }
 
 /// Returns a section for a new element of an array of tables: the header `[[header]]`, and a line for each pair of
-/// `value`. `end` is the line end. Fails with `NoValue` if `value` is not a TOML value, and with `NoInlineTable` if it is
-/// not an inline table.
+/// `value`. `end` is the line end. Fails with `NoValue` if `value` is not a TOML value, and with `NoInlineTable` if it
+/// is not an inline table.
 pub(crate) fn element_text(alloc: Global, end: &str, header: &str, value: &str) -> Edited<String> {
     let probe = probe_text(alloc, value)?;
     let sections = probed(alloc, probe.as_str(), value)?;

@@ -174,8 +174,8 @@ pub(crate) fn is_in_braces(mentions: &[PathMention<'_, '_>]) -> bool {
     false
 }
 
-/// Adds to `plan` the insertion of a header of the table around the value at `path`, above the first header of the value,
-/// if the table exists only because of this value. Only headers must name the value.
+/// Adds to `plan` the insertion of a header of the table around the value at `path`, above the first header of the
+/// value, if the table exists only because of this value. Only headers must name the value.
 pub(crate) fn keep_header(
     document: Document<'_, '_>,
     path: &[&str],

@@ -116,8 +116,8 @@ fn cut_all(
     cut_run(text, open, cuts_comments, plan);
 }
 
-/// Returns whether a table exists only because of one value in it: whether all mentions of the table, `table`, only name
-/// it on the way to a value inside it, by a longer header or a dotted key. `values` is the number of mentions of the
+/// Returns whether a table exists only because of one value in it: whether all of `table`, the mentions of the table,
+/// name it on the way to this value, by a longer header or a dotted key. `values` is the number of mentions of the
 /// value.
 pub(crate) fn is_implied(table: &[PathMention<'_, '_>], values: usize) -> bool {
     for mention in table {

@@ -29,9 +29,9 @@ pub(crate) enum Written {
     Nowhere,
 }
 
-/// Returns how the value at `path` is written, if `value` is a TOML value. `old` is the tree of `text`. Scalars are always
-/// written as literals. Fails with `NoValue` if `value` is not a TOML value, and with `WouldDiffer` if `text` can't be
-/// split into sections.
+/// Returns how the value at `path` is written, if `value` is a TOML value. `old` is the tree of `text`. Scalars are
+/// always written as literals. Fails with `NoValue` if `value` is not a TOML value, and with `WouldDiffer` if `text`
+/// can't be split into sections.
 pub(crate) fn how_written(
     alloc: Global,
     text: &str,

@@ -457,8 +457,8 @@ fn site_of(
     }
 }
 
-/// Returns `without`, a text without the value `value` at `path`, with this value as one TOML value at `target`. Headers
-/// or dotted keys define it in `document`. Fails with a reason if this is not possible.
+/// Returns `without`, a text without the value `value` at `path`, with this value as one TOML value at `target`.
+/// Headers or dotted keys define it in `document`. Fails with a reason if this is not possible.
 fn inline_moved(
     document: Document<'_, '_>,
     without: &str,
