@@ -1,5 +1,5 @@
 -- Edits that are made one after the other, and paths without their last segment.
-use Rattle.toml_span_lex.proofs.Common.{arith, ◌≡◌, ◌<◌, ◌≤◌, ℕ, ◌+◌, ◌-◌, List, [], ◌∷◌, ◌++◌, length, take, take_more, get_or, map, map-append, refl, sym, ap, subst, ◌∙◌, Bor, Result, Ok, Err, IfOk, OnOk, ◌⊎◌, inl, inr, String, Global, string_bytes}
+use Rattle.toml_span_lex.proofs.Common.{arith, ◌≡◌, ◌<◌, ◌≤◌, ℕ, ◌+◌, ◌-◌, List, [], ◌∷◌, ◌++◌, length, take, take_more, get_or, map, map-append, refl, sym, ap, subst, ◌∙◌, Bor, Result, Ok, Err, IfOk, OnOk, ◌⊎◌, inl, inr, String, Global, string_bytes, Some}
 use Rattle.std.proofs.lemmas.List.{take_all}
 use Rattle.toml_span_read.specs.Data.{depth_limit}
 use Rattle.toml_span_tree.specs.Node.{Node}
@@ -9,6 +9,7 @@ use Rattle.toml_span.specs.Parsing.{IsTree}
 use Rattle.toml_span_edit.specs.Comments.{AddsNoComment}
 use Rattle.toml_span_edit.specs.Edited.{EditMade, EditsMade, IsMade, IsMoved}
 use Rattle.toml_span_edit.specs.Kept.{IsInserted, IsRemoved, IsMovedText, HasOtherHeaders, AreKeysReplaced, Keeps}
+use Rattle.toml_span_edit.specs.Paths.{found}
 use Rattle.toml_span_edit.specs.declared.edits.Change.{Change}
 use Rattle.toml_span_edit.specs.declared.edits.Change.TheVariants as changes
 use Rattle.toml_span_edit.specs.declared.edits.Edit.{Edit}
@@ -74,14 +75,15 @@ moved_of path n text without mid new e r (inl i) = inl (without, r, subst (λ (m
 moved_of path n text without mid new e r (inr h) = inr h
 
 -- a value that is moved, in its tree and in its text, is an edit that is made
-pub edit_moved : {E : Type 0} (e : Edit) (target : Bor (List (Bor (List ℕ)))) (root : Value) (text : List ℕ) →
-    e.change ≡ changes.MoveTo target → IsTree text depth_limit root → (r : Result (String Global) E) →
-    IfOk r (λ new. IsMoved (map now_of target.now) (map now_of e.path.now) (view root) (string_bytes new)) →
+pub edit_moved : {E : Type 0} (e : Edit) (target : Bor (List (Bor (List ℕ)))) (w : Node) (root : Value) (text : List ℕ) →
+    e.change ≡ changes.MoveTo target → IsTree text depth_limit root → found (map now_of e.path.now) (view root) ≡ Some w →
+    (r : Result (String Global) E) →
+    IfOk r (λ new. IsMoved (map now_of target.now) (map now_of e.path.now) w (view root) (string_bytes new)) →
     IfOk r (λ new. IsMovedText (map now_of e.path.now) (view root) text (string_bytes new)) →
     IfOk r (λ new. AddsNoComment [] text (string_bytes new)) → IfOk r (λ new. EditMade e text (string_bytes new))
-edit_moved e target root text is tree (Ok new) (w, mid, was, gone, (after, read, put)) kept none =
+edit_moved e target w root text is tree was (Ok new) (mid, gone, (after, read, put)) kept none =
     let path : List (List ℕ) = map now_of e.path.now in
     let made : IsMade (changes.MoveTo target) path (view root) (string_bytes new) = (after, read, (w, mid, was, gone, put)) in
     let keeps : Keeps (changes.MoveTo target) path (view root) text (string_bytes new) = (kept, none) in
     (root, tree, subst (λ (c : Change). IsMade c path (view root) (string_bytes new)) (sym is) made, subst (λ (c : Change). Keeps c path (view root) text (string_bytes new)) (sym is) keeps)
-edit_moved e target root text is tree (Err x) moved kept none = moved
+edit_moved e target w root text is tree was (Err x) moved kept none = moved

@@ -19,6 +19,10 @@ abbrev pub comments : List ℕ → List Piece → List (List ℕ)
 comments text [] = []
 comments text (piece ∷ pieces) = comment text piece ++ comments text pieces
 
+-- The comments of a text are appended to a list.
+abbrev pub AppendsComments : List ℕ → List (List ℕ) → List (List ℕ) → Type 0
+AppendsComments text old new = (ps : List Piece) × Covers text 0 ps (length text) × (new ≡ old ++ comments text ps)
+
 -- These are the comments of a text and of a value, in some order.
 abbrev pub AreComments : List ℕ → List ℕ → List (List ℕ) → Type 0
 AreComments text value cs =

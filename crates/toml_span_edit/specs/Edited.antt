@@ -94,10 +94,9 @@ IsMade change path n new = (root : Value) × IsTree new depth_limit root × Make
 abbrev pub IsPutBack : Path → Node → Node → List ℕ → Type 0
 IsPutBack path w n new = (root : Value) × IsTree new depth_limit root × IsPut path w n (view root)
 
--- The text `new` is a document, and its tree is `n` with the value at `path` moved to `target`.
-abbrev pub IsMoved : Path → Path → Node → List ℕ → Type 0
-IsMoved target path n new =
-    (w mid : Node) × (found path n ≡ Some w) × IsGone path n mid × IsPutBack target w mid new
+-- The text `new` is a document, and its tree is `n` with `w`, the value at `path`, moved to `target`.
+abbrev pub IsMoved : Path → Path → Node → Node → List ℕ → Type 0
+IsMoved target path w n new = (mid : Node) × IsGone path n mid × IsPutBack target w mid new
 
 -- Both texts are documents, and the tree of the second is the tree of the first with this edit made. The bytes that the
 -- edit must keep (see `Keeps`) are the same.

@@ -1,5 +1,5 @@
 //! Adds entries to existing tables.
-ghost use Rattle.std.specs.Prelude.{◌≡◌, OnOk, true};
+ghost use Rattle.std.specs.Prelude.{◌≡◌, false, true};
 ghost use Rattle.std.specs.List.{list_all};
 ghost use Rattle.toml_span_edit.specs.Kept.{InsertsLines, is_line_end};
 
@@ -10,7 +10,8 @@ use crate::lines::{begins_line, indent, is_directive, is_open, line_end, part, p
 use crate::mentions::{Home, PathMention, opens_element};
 use crate::plan::Plan;
 use crate::reach::after_line;
-use crate::reason::Reason;
+use crate::reason::{Edited, Reason, already_there};
+use crate::text::joined;
 use std::alloc::AllocError;
 use toml_span::Stop;
 use toml_span_lex::tokenizer::first_place;
@@ -119,32 +120,29 @@ fn gap_at(text: &str, at: usize) -> &'static str
 
 /// Adds to `plan` the insertion of `lines` at the byte offset `at`, and of a line end before them if `at` is not at the
 /// start of a line.
-pub(crate) fn put_lines(
-    document: Document<'_, '_>,
-    at: usize,
-    lines: &str,
-    plan: &mut Plan,
-) -> Result<(), AllocError>
-    ensures { OnOk result (InsertsLines at lines.now plan.old plan.new) }
+pub(crate) fn put_lines(text: &str, at: usize, lines: &str, plan: &mut Plan)
+    ensures { plan.new.is_refused ≡ false → InsertsLines at lines.now plan.old plan.new }
 {
-    let mut new = String::from_str(document.alloc, gap_at(document.text, at))?;
-    new.push_str(lines)?;
-    plan.put(point(at), new)
+    plan.put(point(at), "", gap_at(text, at), lines);
 }
 
-/// Adds to `plan` the insertion of `lines` at the offset that `top_of` returns. If comments are above this offset, and
-/// the next line is not blank, a blank line follows.
-fn put_at_top(document: Document<'_, '_>, lines: &str, plan: &mut Plan) -> Result<(), AllocError> {
-    let (text, end) = (document.text, line_end(document.text));
+/// Adds to `plan` the insertion of an entry with the key `key` and the value `item` at the byte offset `at`: its
+/// comment lines, and a line that begins with the indent `front`.
+fn put_line(text: &str, at: usize, front: &str, key: &str, item: Item<'_>, plan: &mut Plan) {
+    put_lines(text, at, item.above, plan);
+    plan.put(point(at), front, key, " = ");
+    plan.put(point(at), item.value, item.note, line_end(text));
+}
+
+/// Adds to `plan` the insertion of an entry with the key `key` and the value `item` at the offset that `top_of`
+/// returns. If comments are above this offset, and the next line is not blank, a blank line follows.
+fn put_at_top(text: &str, key: &str, item: Item<'_>, plan: &mut Plan) {
     let at = top_of(text);
+    put_line(text, at, "", key, item, plan);
     let is_blank = part(text, at, after_line(text, at)).trim().is_empty();
-    let gap = if at > first_place(text) && !is_blank {
-        end
-    } else {
-        ""
-    };
-    let lines = format!(in document.alloc; "{lines}{gap}")?;
-    put_lines(document, at, lines.as_str(), plan)
+    if at > first_place(text) && !is_blank {
+        plan.put(point(at), line_end(text), "", "");
+    }
 }
 
 /// Returns the indent of a new line in a section: the indent of the section's last assignment or, without assignments,
@@ -158,19 +156,6 @@ fn body_indent<'s>(text: &'s str, section: &Section<'_>) -> &'s str {
     }
 }
 
-/// Returns the lines of an entry with the key `key` and the value `item`: its comment lines, and a line that begins
-/// with the indent `front`.
-fn lines_of(
-    document: Document<'_, '_>,
-    front: &str,
-    key: &str,
-    item: Item<'_>,
-) -> Result<String, AllocError> {
-    let Item { above, value, note } = item;
-    let end = line_end(document.text);
-    format!(in document.alloc; "{above}{front}{key} = {value}{note}{end}")
-}
-
 /// Adds to `plan` the insertion of an entry with the key `key` and the value `item` into `list`, as the pair at
 /// `index`.
 fn put_pair(
@@ -182,10 +167,16 @@ fn put_pair(
     plan: &mut Plan,
 ) -> Result<(), AllocError> {
     let Item { above, value, note } = item;
-    let pair = format!(in document.alloc; "{key} = {value}")?;
+    let pair = joined(document.alloc, key, " = ", value)?;
     let value = pair.as_str();
-    let item = Item { above, value, note };
-    put_item(document.alloc, document.text, list, index, item, plan)
+    put_item(
+        document.text,
+        list,
+        index,
+        Item { above, value, note },
+        plan,
+    );
+    Ok(())
 }
 
 /// Adds to `plan` the insertion of an entry with the key `key` and the value `item` at `target`. Its comments are left
@@ -197,31 +188,31 @@ pub(crate) fn put_entry(
     item: Item<'_>,
     plan: &mut Plan,
 ) -> Result<(), AllocError> {
-    let (alloc, text, end) = (document.alloc, document.text, line_end(document.text));
+    let text = document.text;
     match target {
-        EntrySite::Top => {
-            let lines = lines_of(document, "", key, item)?;
-            put_at_top(document, lines.as_str(), plan)
-        }
+        EntrySite::Top => put_at_top(text, key, item, plan),
         EntrySite::Body(section) => {
-            let lines = lines_of(document, body_indent(text, section), key, item)?;
             let at = section_lines(text, section).end;
-            put_lines(document, at, lines.as_str(), plan)
+            put_line(text, at, body_indent(text, section), key, item, plan);
         }
         EntrySite::Dotted(assignment, index, home) => {
             let table = document.dotted_text(assignment, index);
-            let key = format!(in alloc; "{table}.{key}")?;
-            put_sibling(document, assignment, home, key.as_str(), item, plan)
+            let key = joined(document.alloc, table, ".", key)?;
+            return put_sibling(document, assignment, home, key.as_str(), item, plan);
         }
-        EntrySite::Braces(list) => put_pair(document, list, count_of(list), key, item, plan),
+        EntrySite::Braces(list) => {
+            return put_pair(document, list, count_of(list), key, item, plan);
+        }
         EntrySite::Header(section, index) => {
-            let header = document.header_text(section, index);
-            let lines = lines_of(document, "", key, item)?;
-            let lines = format!(in alloc; "[{header}]{end}{lines}{end}")?;
+            let (header, end) = (document.header_text(section, index), line_end(text));
             let at = document.above(section.header_span.start);
-            put_lines(document, at, lines.as_str(), plan)
+            put_lines(text, at, "[", plan);
+            plan.put(point(at), header, "]", end);
+            put_line(text, at, "", key, item, plan);
+            plan.put(point(at), end, "", "");
         }
     }
+    Ok(())
 }
 
 /// Adds to `plan` the insertion of an entry with the dotted key `key` and the value `item` after `assignment`. `home`
@@ -234,21 +225,17 @@ fn put_sibling(
     item: Item<'_>,
     plan: &mut Plan,
 ) -> Result<(), AllocError> {
+    let text = document.text;
     match home {
         Home::Lines => {
-            let front = indent(document.text, assignment.extent.start);
-            let lines = lines_of(document, front, key, item)?;
-            let at = assignment_lines(document.text, assignment).end;
-            put_lines(document, at, lines.as_str(), plan)
+            let front = indent(text, assignment.extent.start);
+            let at = assignment_lines(text, assignment).end;
+            put_line(text, at, front, key, item, plan);
+            Ok(())
         }
-        Home::Braces(list, index) => put_pair(
-            document,
-            list,
-            index.saturating_add(1),
-            key,
-            item,
-            plan,
-        ),
+        Home::Braces(list, index) => {
+            put_pair(document, list, index.saturating_add(1), key, item, plan)
+        }
     }
 }
 
@@ -270,7 +257,7 @@ fn root_entry_site<'s, 'de>(mentions: &[PathMention<'s, 'de>]) -> EntrySite<'s, 
 pub(crate) fn table_entry_site<'s, 'de>(
     document: Document<'s, 'de>,
     path: &[&str],
-) -> Result<EntrySite<'s, 'de>, Stop<Reason>> {
+) -> Edited<EntrySite<'s, 'de>> {
     let mentions = document.mentions(path)?;
     if path.is_empty() {
         return Ok(root_entry_site(mentions.as_slice()));
@@ -289,14 +276,14 @@ pub(crate) fn add(
     path: &[&str],
     value: &str,
     plan: &mut Plan,
-) -> Result<(), Stop<Reason>> {
+) -> Edited<()> {
     check_value(document.alloc, value)?;
     let [front @ .., name] = path else {
-        return Err(Stop::Fault(Reason::AlreadyThere(String::new(document.alloc))));
+        return Err(already_there(document.alloc));
     };
     let target = table_entry_site(document, front)?;
-    if !document.mentions(path)?.is_empty() {
-        return Err(Stop::Fault(Reason::AlreadyThere(String::new(document.alloc))));
+    if document.has(path)? {
+        return Err(already_there(document.alloc));
     }
     let key = key_text(document.alloc, *name)?;
     put_entry(document, target, key.as_str(), bare(value), plan)?;

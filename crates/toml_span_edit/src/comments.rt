@@ -4,7 +4,7 @@ ghost use Rattle.std.specs.Str.{bytes_eq};
 ghost use Rattle.toml_span_edit.specs.Comments as spec;
 
 use crate::kept::bytes_of;
-use crate::reason::Reason;
+use crate::reason::{Edited, Reason};
 use std::alloc::{AllocError, Global};
 use toml_span::Stop;
 use toml_span_syntax::pieces::{Kind, Piece, pieces};
@@ -46,7 +46,16 @@ fn push_comments<'t>(
     Ok(())
 }
 
-/// Returns the comments of `text`, and then those of `value`, sorted by their bytes.
+/// Appends the comments of `text`.
+fn push_all<'t>(alloc: Global, found: &mut Vec<&'t [u8]>, text: &'t str) -> Result<(), AllocError>
+    ensures { OnOk result (spec.AppendsComments text.now (map (λ t. t.now) found.old.items)
+        (map (λ t. t.now) found.new.items)) }
+{
+    let own = pieces(alloc, text)?;
+    push_comments(found, text, own.as_slice())
+}
+
+/// Returns the comments of `text` and those of `value`, sorted by their bytes.
 fn sorted_comments<'t>(
     alloc: Global,
     text: &'t str,
@@ -55,10 +64,8 @@ fn sorted_comments<'t>(
     ensures { IfOk result (λ found. spec.AreComments text.now value.now (map (λ t. t.now) found.items)) }
 {
     let mut found = Vec::new(alloc);
-    let own = pieces(alloc, text)?;
-    let given = pieces(alloc, value)?;
-    push_comments(&mut found, text, own.as_slice())?;
-    push_comments(&mut found, value, given.as_slice())?;
+    push_all(alloc, &mut found, text)?;
+    push_all(alloc, &mut found, value)?;
     found.sort()?;
     Ok(found)
 }
@@ -85,12 +92,7 @@ fn are_among(parts: &[&[u8]], whole: &[&[u8]]) -> bool
 
 /// Checks that each comment of `new` is one of `text` or of the TOML value `value`, and occurs as often in them. Fails
 /// with `WouldDiffer` otherwise.
-pub(crate) fn check_comments(
-    alloc: Global,
-    value: &str,
-    text: &str,
-    new: &str,
-) -> Result<(), Stop<Reason>>
+pub(crate) fn check_comments(alloc: Global, value: &str, text: &str, new: &str) -> Edited<()>
     ensures { OnOk result (spec.AddsNoComment value.now text.now new.now) }
 {
     let found = sorted_comments(alloc, new, "")?;

@@ -3,9 +3,9 @@ ghost use Rattle.std.specs.Prelude.{IfOk, Ok, map};
 ghost use Rattle.toml_span_read.specs.Data.{depth_limit, parsed_section};
 ghost use Rattle.toml_span_read.specs.Read.{document};
 
-use crate::lines::{comments_above, line_start, part};
+use crate::lines::{comments_above, line_start, part, span_of};
 use crate::mentions::{PathMention, mentions_of, part_at};
-use crate::reason::Reason;
+use crate::reason::{Edited, Reason};
 use std::alloc::{AllocError, Global};
 use toml_span::value::Key;
 use toml_span::{Span, Stop};
@@ -21,10 +21,7 @@ pub(crate) struct Document<'s, 'de> {
 }
 
 /// Returns the sections of `text`. Fails with `WouldDiffer` if `text` can't be split into sections.
-pub(crate) fn sections_of<'t>(
-    alloc: Global,
-    text: &'t str,
-) -> Result<Vec<Section<'t>>, Stop<Reason>>
+pub(crate) fn sections_of<'t>(alloc: Global, text: &'t str) -> Edited<Vec<Section<'t>>>
     ensures { IfOk result (λ sections. document text.now depth_limit (Ok (map parsed_section sections.items))) }
 {
     match read_sections(alloc, text, 128) {
@@ -65,6 +62,11 @@ impl<'s, 'de> Document<'s, 'de> {
         mentions_of(self.alloc, self.sections, path)
     }
 
+    /// Returns whether something names a value at `path`.
+    pub(crate) fn has(&self, path: &[&str]) -> Result<bool, AllocError> {
+        Ok(!self.mentions(path)?.is_empty())
+    }
+
     /// Returns the span of a key, quotes included.
     fn whole(&self, key: &Key<'_>) -> Span {
         with_quotes(self.text, key.span)
@@ -75,10 +77,7 @@ impl<'s, 'de> Document<'s, 'de> {
     pub(crate) fn header_span(&self, section: &Section<'_>, index: usize) -> Span {
         let keys = section.header.as_slice();
         match (keys.first(), keys.get(index)) {
-            (Some(first), Some(last)) => Span {
-                start: self.whole(first).start,
-                end: self.whole(last).end,
-            },
+            (Some(first), Some(last)) => span_of(self.whole(first).start, self.whole(last).end),
             _ => section.header_span,
         }
     }

@@ -246,7 +246,7 @@ pub(crate) fn refusal(
 }
 
 /// Returns the segments with dots between them, each in quotes if necessary.
-fn path_text(alloc: Global, path: &[&str]) -> Result<String, AllocError>
+pub(crate) fn path_text(alloc: Global, path: &[&str]) -> Result<String, AllocError>
     ensures { IfOk result (λ text. string_bytes text ≡ refusals.path_text (map (λ s. s.now) path.now)) }
 {
     match path.split_first() {
@@ -260,7 +260,7 @@ fn path_text(alloc: Global, path: &[&str]) -> Result<String, AllocError>
 }
 
 /// Appends each segment to `out`, in quotes if necessary and with a dot before it.
-fn push_more(alloc: Global, path: &[&str], out: &mut String) -> Result<(), AllocError>
+pub(crate) fn push_more(alloc: Global, path: &[&str], out: &mut String) -> Result<(), AllocError>
     ensures { OnOk result (string_bytes out.new
         ≡ string_bytes out.old ++ refusals.more_text (map (λ s. s.now) path.now)) }
 {

@@ -1,7 +1,7 @@
 //! Checks TOML values that callers pass, and writes names and strings as TOML.
 ghost use Rattle.std.specs.Prelude.{◌≡◌, ◌++◌, IfOk, codes, string_bytes};
 
-use crate::reason::Reason;
+use crate::reason::{Edited, Reason};
 use std::alloc::{AllocError, Global};
 use toml_span::Stop;
 pub(crate) use toml_span_places::quote_key as key_text;
@@ -22,11 +22,7 @@ pub(crate) fn probe_text(alloc: Global, value: &str) -> Result<String, AllocErro
 
 /// Returns the sections of `probe`, the text that `probe_text` returned for `value`. Fails with `NoValue` unless
 /// `value` is one TOML value with nothing after it.
-pub(crate) fn probed<'p>(
-    alloc: Global,
-    probe: &'p str,
-    value: &str,
-) -> Result<Vec<Section<'p>>, Stop<Reason>> {
+pub(crate) fn probed<'p>(alloc: Global, probe: &'p str, value: &str) -> Edited<Vec<Section<'p>>> {
     let sections = match read_sections(alloc, probe, 128) {
         Ok(sections) => sections,
         Err(stop) => {
@@ -55,7 +51,7 @@ fn is_one_value(sections: &[Section<'_>], end: usize) -> bool {
 
 /// Checks that `value` is one TOML value with nothing after it, and only spaces and tabs before it. Fails with
 /// `NoValue` if not.
-pub(crate) fn check_value(alloc: Global, value: &str) -> Result<(), Stop<Reason>> {
+pub(crate) fn check_value(alloc: Global, value: &str) -> Edited<()> {
     let probe = probe_text(alloc, value)?;
     drop(probed(alloc, probe.as_str(), value)?);
     Ok(())

@@ -5,7 +5,7 @@ use crate::headed::{element_place, end_place};
 use crate::items::{Item, bare, count_of, put_item};
 use crate::missing::{append_first, put_element};
 use crate::plan::Plan;
-use crate::reason::Reason;
+use crate::reason::{Edited, Reason};
 use toml_span::Stop;
 use toml_span_read::{Val, ValKind};
 use toml_span_tree::pointer::position;
@@ -18,14 +18,14 @@ fn put_at(
     at: usize,
     item: Item<'_>,
     plan: &mut Plan,
-) -> Result<(), Stop<Reason>> {
+) -> Edited<()> {
     if !matches!(&list.kind, ValKind::Array(_)) {
         return Err(Stop::Fault(Reason::NoArray));
     }
     if at > count_of(list) {
         return Err(Stop::Fault(Reason::PastEnd));
     }
-    put_item(document.alloc, document.text, list, at, item, plan)?;
+    put_item(document.text, list, at, item, plan);
     Ok(())
 }
 
@@ -37,7 +37,7 @@ pub(crate) fn append(
     path: &[&str],
     value: &str,
     plan: &mut Plan,
-) -> Result<(), Stop<Reason>> {
+) -> Edited<()> {
     check_value(document.alloc, value)?;
     if path.is_empty() {
         return Err(Stop::Fault(Reason::NoArray));
@@ -49,10 +49,10 @@ pub(crate) fn append(
     if let Some(list) = written(mentions.as_slice()) {
         return put_at(document, list, count_of(list), bare(value), plan);
     }
-    let Some(end) = end_place(document, mentions.as_slice())? else {
+    let Some(end) = end_place(document, mentions.as_slice()) else {
         return Err(Stop::Fault(Reason::NoArray));
     };
-    put_element(document, &end, value, plan)
+    put_element(document, end, value, plan)
 }
 
 /// Adds to `plan` the insertion of the element `item` into an array. The last segment of `path` is the position of the
@@ -63,7 +63,7 @@ pub(crate) fn insert(
     path: &[&str],
     item: Item<'_>,
     plan: &mut Plan,
-) -> Result<(), Stop<Reason>> {
+) -> Edited<()> {
     check_value(document.alloc, item.value)?;
     let [front @ .., segment] = path else {
         return Err(Stop::Fault(Reason::NoArray));
@@ -76,5 +76,5 @@ pub(crate) fn insert(
         return put_at(document, list, at, item, plan);
     }
     let place = element_place(document, front, path, at)?;
-    put_element(document, &place, item.value, plan)
+    put_element(document, place, item.value, plan)
 }

@@ -5,68 +5,60 @@ use crate::lines::part;
 use crate::made::child;
 use crate::mentions::{PathMention, last_part, part_at};
 use crate::same::same_tree;
+use crate::text::Text;
 use std::alloc::{AllocError, Global};
 use toml_span::value::Value;
-use toml_span::{Stop, parse};
+use toml_span::{Span, Stop, parse};
 use toml_span_places::{to_toml, with_quotes};
 use toml_span_read::Section;
 
-/// Appends a pair of an inline table, after a comma unless it is the first one.
-fn push_pair(pair: &str, out: &mut String) -> Result<(), AllocError> {
-    if !out.is_empty() {
-        out.push_str(", ")?;
+/// Appends a pair of an inline table, in three pieces, after a comma unless it is the first one.
+fn push_pair(one: &str, two: &str, three: &str, out: &mut Text) {
+    if out.len() > 1 {
+        out.push(", ");
     }
-    out.push_str(pair)
+    out.push_all(one, two, three);
 }
 
 /// Appends the assignments of `section` as pairs of an inline table. `table` is the dotted key of the section's table
 /// in the inline table, or empty if both are the same.
-fn push_pairs(
-    document: Document<'_, '_>,
-    section: &Section<'_>,
-    table: &str,
-    out: &mut String,
-) -> Result<(), AllocError> {
+fn push_pairs(text: &str, section: &Section<'_>, table: &str, out: &mut Text) {
     if section.assignments.is_empty() && !table.is_empty() {
-        let pair = format!(in document.alloc; "{table} = {{}}")?;
-        return push_pair(pair.as_str(), out);
+        push_pair(table, " = {}", "", out);
     }
     let dot = if table.is_empty() { "" } else { "." };
     for assignment in &section.assignments {
-        let written = part(
-            document.text,
-            assignment.extent.start,
-            assignment.extent.end,
-        );
-        let pair = format!(in document.alloc; "{table}{dot}{written}")?;
-        push_pair(pair.as_str(), out)?;
+        let Span { start, end } = assignment.extent;
+        push_pair(table, dot, part(text, start, end), out);
     }
-    Ok(())
 }
 
 /// Returns the table at `path` as an inline table: its entries as they are written in `document`, in the same order,
 /// but with dotted keys for the tables inside it.
 fn in_braces(document: Document<'_, '_>, path: &[&str]) -> Result<String, AllocError> {
     let text = document.text;
-    let mut pairs = String::new(document.alloc);
-    for mention in document.mentions(path)? {
-        match mention {
-            PathMention::Own(section) => push_pairs(document, section, "", &mut pairs)?,
+    let mentions = document.mentions(path)?;
+    let mut out = Text::new(document.alloc);
+    out.push("{");
+    for mention in &mentions {
+        match *mention {
+            PathMention::Own(section) => push_pairs(text, section, "", &mut out),
             PathMention::Below(section, index) => {
                 let start = document.header_span(section, index).end;
                 let end = document.header_span(section, last_part(section)).end;
                 let table = part(text, start, end).trim_start_matches([' ', '\t', '.']);
-                push_pairs(document, section, table, &mut pairs)?;
+                push_pairs(text, section, table, &mut out);
             }
             PathMention::Dotted(assignment, index, _) => {
                 let key = part_at(&assignment.parts, index.saturating_add(1));
                 let start = with_quotes(text, key.span).start;
-                push_pair(part(text, start, assignment.extent.end), &mut pairs)?;
+                push_pair(part(text, start, assignment.extent.end), "", "", &mut out);
             }
             _ => {}
         }
     }
-    format!(in document.alloc; "{{{pairs}}}")
+    out.push("}");
+    out.finish()
 }
 
 /// Returns whether `text` is a TOML value, and the same one as `value`.

@@ -1,11 +1,10 @@
 //! Inserts and removes items in brackets or braces: elements of arrays, and pairs of inline tables.
 use crate::lines::{
     begins_line, blanks_before, comments_above, indent, line_end, line_start, line_stop, part,
-    point,
+    point, span_of,
 };
 use crate::plan::Plan;
 use crate::reach::after_line;
-use std::alloc::{AllocError, Global};
 use toml_span::Span;
 use toml_span_places::val_literal_span;
 use toml_span_read::{Val, ValKind};
@@ -79,44 +78,31 @@ fn comma_between(text: &str, start: usize, end: usize) -> Option<usize> {
 }
 
 /// Adds to `plan` the removal of the comma at the byte offset `comma`, with its line if nothing else is on that line.
-fn cut_comma(text: &str, comma: usize, plan: &mut Plan) -> Result<(), AllocError> {
+fn cut_comma(text: &str, comma: usize, plan: &mut Plan) {
     let stop = line_stop(text, comma);
     let after = comma.saturating_add(1);
     if begins_line(text, comma) && part(text, after, stop).trim().is_empty() {
-        let start = blanks_before(text, comma);
-        return plan.cut(Span {
-            start,
-            end: after_line(text, comma),
-        });
+        plan.cut(blanks_before(text, comma), after_line(text, comma));
+    } else {
+        plan.cut(comma, after);
     }
-    plan.cut(Span {
-        start: comma,
-        end: after,
-    })
 }
 
 /// Adds to `plan` the removal of the items in the span `items`, the rest of their last line, and the comma after the
 /// items, which may be on a later line. `space` is the offset of the next item or of the closing bracket or brace, and
 /// must be on a later line.
-fn cut_to_line_end(
-    text: &str,
-    items: Span,
-    space: usize,
-    plan: &mut Plan,
-) -> Result<(), AllocError> {
+fn cut_to_line_end(text: &str, items: Span, space: usize, plan: &mut Plan) {
     let stop = line_stop(text, items.end);
     let start = blanks_before(text, items.start);
-    if begins_line(text, items.start) {
-        plan.cut(Span {
-            start,
-            end: after_line(text, items.end),
-        })?;
+    let end = if begins_line(text, items.start) {
+        after_line(text, items.end)
     } else {
-        plan.cut(Span { start, end: stop })?;
-    }
+        stop
+    };
+    plan.cut(start, end);
     match comma_between(text, items.end, space) {
         Some(comma) if comma >= stop => cut_comma(text, comma, plan),
-        _ => Ok(()),
+        _ => {}
     }
 }
 
@@ -126,91 +112,63 @@ fn cut_to_line_end(
 ///
 /// Removes the comma before the items if `before` is on the same line and no comment is between. Otherwise removes the
 /// comma after the items, if there is one.
-fn cut_last(
-    text: &str,
-    before: Option<Span>,
-    items: Span,
-    close: usize,
-    plan: &mut Plan,
-) -> Result<(), AllocError> {
+fn cut_last(text: &str, before: Option<Span>, items: Span, close: usize, plan: &mut Plan) {
     if let Some(before) = before {
         let between = part(text, before.end, items.start);
         if !between.contains('\n') && !between.contains('#') {
-            return plan.cut(Span {
-                start: before.end,
-                end: items.end,
-            });
+            return plan.cut(before.end, items.end);
         }
     }
     let end = match comma_between(text, items.end, close) {
         Some(comma) => comma.saturating_add(1),
         None => items.end,
     };
-    plan.cut(Span {
-        start: items.start,
-        end,
-    })
+    plan.cut(items.start, end);
 }
 
 /// Adds to `plan` the removal of the items of `list` from index `first` to `last`, both included, with everything
 /// between them, at most one other comma, and the comment at the end of their last line unless another item is before
 /// that comment. A comment on its own line before or after the items stays. Adds nothing if one of these indices is out
 /// of range.
-pub(crate) fn cut_items(
-    text: &str,
-    list: &Val<'_>,
-    first: usize,
-    last: usize,
-    plan: &mut Plan,
-) -> Result<(), AllocError> {
+pub(crate) fn cut_items(text: &str, list: &Val<'_>, first: usize, last: usize, plan: &mut Plan) {
     let (Some(from), Some(to)) = (item_span(text, list, first), item_span(text, list, last)) else {
-        return Ok(());
+        return;
     };
-    let items = Span {
-        start: from.start,
-        end: to.end,
-    };
+    let items = span_of(from.start, to.end);
     let end = space_end(text, list, last);
     if part(text, items.end, end).contains('\n') {
         return cut_to_line_end(text, items, end, plan);
     }
     if last.saturating_add(1) < count_of(list) {
-        return plan.cut(Span {
-            start: items.start,
-            end,
-        });
+        return plan.cut(items.start, end);
     }
     let before = match first {
         0 => None,
         _ => item_span(text, list, first.saturating_sub(1)),
     };
-    cut_last(text, before, items, end, plan)
+    cut_last(text, before, items, end, plan);
 }
 
 /// Adds to `plan` the insertion of `item` into the brackets or braces of `list`, which must have no items. The item
 /// gets its own line, with its comments, if only blanks and line ends are between the brackets, and at least one line
 /// end.
-fn put_first(
-    alloc: Global,
-    text: &str,
-    list: &Val<'_>,
-    item: Item<'_>,
-    plan: &mut Plan,
-) -> Result<(), AllocError> {
+fn put_first(text: &str, list: &Val<'_>, item: Item<'_>, plan: &mut Plan) {
     let start = list.span.start.saturating_add(1);
     let inner = part(text, start, close_of(list));
     let Item { above, value, note } = item;
     if !inner.trim().is_empty() || inner.is_empty() && matches!(&list.kind, ValKind::Inline(_)) {
-        return plan.put(point(start), format!(in alloc; " {value} ")?);
-    }
-    if inner.contains('\n') {
+        plan.put(point(start), " ", value, " ");
+    } else if inner.contains('\n') {
         let (front, end) = (indent(text, list.span.start), line_end(text));
-        let lines = format!(in alloc; "{above}{front}    {value},{note}{end}")?;
-        return plan.put(point(after_line(text, start)), lines);
+        let at = point(after_line(text, start));
+        plan.put(at, above, front, "    ");
+        plan.put(at, value, ",", note);
+        plan.put(at, end, "", "");
+    } else {
+        let blank = if inner.len() == 1 { " " } else { "" };
+        let at = start.saturating_add(inner.len().min(1));
+        plan.put(point(at), value, blank, "");
     }
-    let blank = if inner.len() == 1 { " " } else { "" };
-    let at = start.saturating_add(inner.len().min(1));
-    plan.put(point(at), format!(in alloc; "{value}{blank}")?)
 }
 
 /// Adds to `plan` the insertion of `item` after the last item of `list`, whose span is `last`.
@@ -224,71 +182,74 @@ fn put_first(
 ///
 /// The comments of `item` are written only if the new item gets its own line, and the closing bracket or brace is on a
 /// later line.
-fn put_last(
-    alloc: Global,
+fn put_last(text: &str, list: &Val<'_>, last: Span, item: Item<'_>, plan: &mut Plan) {
+    let close = close_of(list);
+    let comma = comma_between(text, last.end, close);
+    let stop = line_stop(text, comma.unwrap_or(last.end));
+    let begins = begins_line(text, last.start);
+    if part(text, last.end, close).contains('\n') {
+        if begins || part(text, last.end, stop).contains('#') {
+            put_line_after(text, list, last, comma, item, plan);
+        } else {
+            plan.put(point(last.end), ", ", item.value, "");
+        }
+    } else if begins {
+        let (front, more) = front_of(text, list, last);
+        let end = line_end(text);
+        plan.put(point(last.end), ",", end, front);
+        plan.put(point(last.end), more, item.value, "");
+    } else {
+        plan.put(point(last.end), ", ", item.value, "");
+    }
+}
+
+/// Does what `put_last` does where the closing bracket or brace is on a later line, and the new item gets its own line.
+/// `comma` is the offset of the comma after the last item, if there is one.
+fn put_line_after(
     text: &str,
     list: &Val<'_>,
     last: Span,
+    comma: Option<usize>,
     item: Item<'_>,
     plan: &mut Plan,
-) -> Result<(), AllocError> {
+) {
     let Item { above, value, note } = item;
-    let close = close_of(list);
-    let (front, end) = (front_of(alloc, text, list, last)?, line_end(text));
-    let comma = comma_between(text, last.end, close);
-    if !part(text, last.end, close).contains('\n') {
-        let new = if begins_line(text, last.start) {
-            format!(in alloc; ",{end}{front}{value}")?
-        } else {
-            format!(in alloc; ", {value}")?
-        };
-        return plan.put(point(last.end), new);
-    }
-    let stop = line_stop(text, comma.unwrap_or(last.end));
-    if !begins_line(text, last.start) && !part(text, last.end, stop).contains('#') {
-        return plan.put(point(last.end), format!(in alloc; ", {value}")?);
-    }
+    let ((front, more), end) = (front_of(text, list, last), line_end(text));
     match comma {
-        Some(comma) if part(text, comma, close).contains('\n') => plan.put(
-            point(after_line(text, comma)),
-            format!(in alloc; "{above}{front}{value},{note}{end}")?,
-        ),
-        Some(comma) => plan.put(
-            point(comma.saturating_add(1)),
-            format!(in alloc; " {value}")?,
-        ),
+        Some(comma) if part(text, comma, close_of(list)).contains('\n') => {
+            let at = point(after_line(text, comma));
+            plan.put(at, above, front, more);
+            plan.put(at, value, ",", note);
+            plan.put(at, end, "", "");
+        }
+        Some(comma) => plan.put(point(comma.saturating_add(1)), " ", value, ""),
         None => {
-            plan.put(point(last.end), String::from_str(alloc, ",")?)?;
-            plan.put(
-                point(stop),
-                format!(in alloc; "{end}{above}{front}{value}{note}")?,
-            )
+            let at = point(line_stop(text, last.end));
+            plan.put(point(last.end), ",", "", "");
+            plan.put(at, end, above, front);
+            plan.put(at, more, value, note);
         }
     }
 }
 
-/// Returns the indent of a new item on its own line: the indent of the line where the item in the span `last` begins,
-/// and four spaces more if `list` opens on that line.
-fn front_of(alloc: Global, text: &str, list: &Val<'_>, last: Span) -> Result<String, AllocError> {
-    let mut front = String::from_str(alloc, indent(text, last.start))?;
-    if list.span.start >= line_start(text, last.start) {
-        front.push_str("    ")?;
-    }
-    Ok(front)
+/// Returns the indent of a new item on its own line, in two parts: the indent of the line where the item in the span
+/// `last` begins, and four spaces more if `list` opens on that line.
+fn front_of<'t>(text: &'t str, list: &Val<'_>, last: Span) -> (&'t str, &'static str) {
+    let is_open = list.span.start >= line_start(text, last.start);
+    (indent(text, last.start), if is_open { "    " } else { "" })
 }
 
 /// Adds to `plan` the insertion of `item` before the item of `list` at `index`, whose span is `next`. If `next` begins
 /// a line, the new item gets its own line, above the comments of `next`. Otherwise the new item is written on the same
 /// line, without its comments.
 fn put_before(
-    alloc: Global,
     text: &str,
     list: &Val<'_>,
     index: usize,
     next: Span,
     item: Item<'_>,
     plan: &mut Plan,
-) -> Result<(), AllocError> {
+) {
     let Item { above, value, note } = item;
     let before = match index {
         0 => list.span.start.saturating_add(1),
@@ -300,31 +261,22 @@ fn put_before(
     let line = after_line(text, before);
     if begins_line(text, next.start) && line <= next.start {
         let (front, end) = (indent(text, next.start), line_end(text));
-        return plan.put(
-            point(line),
-            format!(in alloc; "{above}{front}{value},{note}{end}")?,
-        );
+        plan.put(point(line), above, front, value);
+        plan.put(point(line), ",", note, end);
+    } else {
+        plan.put(point(next.start), value, ", ", "");
     }
-    plan.put(point(next.start), format!(in alloc; "{value}, ")?)
 }
 
 /// Adds to `plan` the insertion of `item` into `list` before the item at `index` or, if `index` is too large, after the
 /// last item.
-pub(crate) fn put_item(
-    alloc: Global,
-    text: &str,
-    list: &Val<'_>,
-    index: usize,
-    item: Item<'_>,
-    plan: &mut Plan,
-) -> Result<(), AllocError> {
-    let count = count_of(list);
+pub(crate) fn put_item(text: &str, list: &Val<'_>, index: usize, item: Item<'_>, plan: &mut Plan) {
     if let Some(next) = item_span(text, list, index) {
-        return put_before(alloc, text, list, index, next, item, plan);
+        return put_before(text, list, index, next, item, plan);
     }
-    match item_span(text, list, count.saturating_sub(1)) {
-        Some(last) => put_last(alloc, text, list, last, item, plan),
-        None => put_first(alloc, text, list, item, plan),
+    match item_span(text, list, count_of(list).saturating_sub(1)) {
+        Some(last) => put_last(text, list, last, item, plan),
+        None => put_first(text, list, item, plan),
     }
 }
 
@@ -359,10 +311,7 @@ pub(crate) fn span_above(text: &str, list: &Val<'_>, index: usize) -> Span {
         None => list.span.start.saturating_add(1),
     };
     let end = line_start(text, item.start);
-    Span {
-        start: comments_above(text, floor, end),
-        end,
-    }
+    span_of(comments_above(text, floor, end), end)
 }
 
 /// Returns the comment lines that `span_above` finds for the item of `list` at `index`, and the comment that

@@ -8,7 +8,6 @@ use crate::reach::line_start;
 use toml_span::Span;
 use toml_span_lex::bytes::is_blank;
 use toml_span_places::Replacement;
-use toml_span_read::gaps::byte_at;
 
 /// Returns the bytes of `text` whose offsets are in `start..end`. Offsets after the end of `text` are ignored.
 pub(crate) fn bytes_of(text: &str, start: usize, end: usize) -> &[u8]

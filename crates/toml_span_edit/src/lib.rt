@@ -27,6 +27,7 @@ mod retrying;
 mod same;
 mod setting;
 mod step;
+mod text;
 mod texts;
 mod unchanged;
 

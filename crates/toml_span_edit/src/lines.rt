@@ -20,6 +20,11 @@ pub(crate) fn point(at: usize) -> Span
     Span { start: at, end: at }
 }
 
+/// Returns the span of the byte offsets from `start` to `end`.
+pub(crate) fn span_of(start: usize, end: usize) -> Span {
+    Span { start, end }
+}
+
 /// Returns the line end for new lines of `text`: CRLF if `text` contains one, otherwise a line feed.
 pub(crate) fn line_end(text: &str) -> &'static str
     ensures { list_all is_line_end result.now ≡ true }

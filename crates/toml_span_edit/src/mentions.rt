@@ -53,13 +53,8 @@ pub(crate) fn last_part(section: &Section<'_>) -> usize {
     section.header.len().saturating_sub(1)
 }
 
-/// Returns `counts[depth]`, the number of elements opened so far in an array of tables (see `placement_of`). Returns 0
-/// if `depth` is out of range.
-fn count_at(counts: &[usize], depth: usize) -> usize {
-    counts.get(depth).copied().unwrap_or(0)
-}
-
-/// Adds 1 to `counts[depth]`, and returns the number before. If `depth` is out of range, changes nothing and returns 0.
+/// Adds 1 to `counts[depth]` (see `placement_of`), and returns the number before. If `depth` is out of range, changes
+/// nothing and returns 0.
 fn count_up(counts: &mut Vec<usize>, depth: usize) -> usize {
     match counts.get_mut(depth) {
         Some(count) => {
@@ -85,7 +80,7 @@ fn placement_of(section: &Section<'_>, path: &[&str], counts: &mut Vec<usize>) -
             return Placement::Apart;
         }
         depth = depth.saturating_add(1);
-        let opened = count_at(counts.as_slice(), depth);
+        let opened = counts.get(depth).copied().unwrap_or(0);
         let is_element = section.array && index == last;
         let element = if is_element {
             count_up(counts, depth)
@@ -117,6 +112,20 @@ fn common(parts: &DottedKey<'_>, path: &[&str]) -> Option<usize> {
     Some(count)
 }
 
+/// Mentions, in the order of the text. They remember whether an allocation failed.
+#[derive(Drop)]
+struct Mentions<'s, 'de> {
+    list: Vec<PathMention<'s, 'de>>,
+    /// Whether mentions are missing because an allocation failed.
+    is_refused: bool,
+}
+
+impl<'s, 'de> Mentions<'s, 'de> {
+    fn push(&mut self, mention: PathMention<'s, 'de>) {
+        self.is_refused |= self.list.push(mention).is_err();
+    }
+}
+
 /// Appends to `out` the mentions of `path` in `assignment`, which is written at `home`. `path` begins at the table
 /// around `assignment`, and must not be empty.
 #[cycle(push_inside)]
@@ -124,60 +133,43 @@ fn push_assigned<'s, 'de>(
     assignment: &'s Assignment<'de>,
     home: Home<'s, 'de>,
     path: &[&str],
-    out: &mut Vec<PathMention<'s, 'de>>,
-) -> Result<(), AllocError> {
+    out: &mut Mentions<'s, 'de>,
+) {
     let Some(count) = common(&assignment.parts, path) else {
-        return Ok(());
+        return;
     };
     if count <= assignment.parts.inner.len() {
-        out.push(PathMention::Dotted(assignment, count.saturating_sub(1), home))?;
-        return Ok(());
+        out.push(PathMention::Dotted(assignment, count.saturating_sub(1), home));
+    } else if count >= path.len() {
+        out.push(PathMention::Assigned(assignment, home));
+    } else {
+        push_inside(&assignment.value, rest_of(path, count), out);
     }
-    if count >= path.len() {
-        out.push(PathMention::Assigned(assignment, home))?;
-        return Ok(());
-    }
-    push_inside(&assignment.value, rest_of(path, count), out)
-}
-
-/// Appends to `out` a mention of the element of `array` at `index` if `rest`, the path inside this element, is empty.
-fn push_element<'s, 'de>(
-    array: &'s Val<'de>,
-    index: usize,
-    rest: &[&str],
-    out: &mut Vec<PathMention<'s, 'de>>,
-) -> Result<(), AllocError> {
-    if rest.is_empty() {
-        out.push(PathMention::Element(array, index))?;
-    }
-    Ok(())
 }
 
 /// Appends to `out` the mentions of `path` inside `value`. `path` begins at `value`; if `path` is empty, appends
 /// nothing.
 #[cycle(push_inside)]
-fn push_inside<'s, 'de>(
-    value: &'s Val<'de>,
-    path: &[&str],
-    out: &mut Vec<PathMention<'s, 'de>>,
-) -> Result<(), AllocError> {
+fn push_inside<'s, 'de>(value: &'s Val<'de>, path: &[&str], out: &mut Mentions<'s, 'de>) {
     match &value.kind {
         ValKind::Inline(pairs) if !path.is_empty() => {
             for (index, pair) in pairs.iter().enumerate() {
-                push_assigned(pair, Home::Braces(value, index), path, out)?;
+                push_assigned(pair, Home::Braces(value, index), path, out);
             }
         }
         ValKind::Array(items) => {
             for (index, item) in items.iter().enumerate() {
                 if has_position(path, 0, index) {
-                    push_element(value, index, rest_of(path, 1), out)?;
-                    push_inside(item, rest_of(path, 1), out)?;
+                    let rest = rest_of(path, 1);
+                    if rest.is_empty() {
+                        out.push(PathMention::Element(value, index));
+                    }
+                    push_inside(item, rest, out);
                 }
             }
         }
         _ => {}
     }
-    Ok(())
 }
 
 /// Appends to `out` the mentions of `path` in `section`. Changes `counts` as `placement_of` does.
@@ -185,19 +177,18 @@ fn push_section<'s, 'de>(
     section: &'s Section<'de>,
     path: &[&str],
     counts: &mut Vec<usize>,
-    out: &mut Vec<PathMention<'s, 'de>>,
-) -> Result<(), AllocError> {
+    out: &mut Mentions<'s, 'de>,
+) {
     match placement_of(section, path, counts) {
         Placement::Apart => {}
-        Placement::Below(part) => out.push(PathMention::Below(section, part))?,
-        Placement::Above(depth) if depth >= path.len() => out.push(PathMention::Own(section))?,
+        Placement::Below(part) => out.push(PathMention::Below(section, part)),
+        Placement::Above(depth) if depth >= path.len() => out.push(PathMention::Own(section)),
         Placement::Above(depth) => {
             for assignment in &section.assignments {
-                push_assigned(assignment, Home::Lines, rest_of(path, depth), out)?;
+                push_assigned(assignment, Home::Lines, rest_of(path, depth), out);
             }
         }
     }
-    Ok(())
 }
 
 /// Returns the places in `sections` that name the value at `path`, in the order of the text. Returns an empty list if
@@ -208,11 +199,18 @@ pub(crate) fn mentions_of<'s, 'de>(
     path: &[&str],
 ) -> Result<Vec<PathMention<'s, 'de>>, AllocError> {
     let mut counts = vec![in alloc; 0usize; path.len().saturating_add(1)]?;
-    let mut out = Vec::new(alloc);
+    let mut out = Mentions {
+        list: Vec::new(alloc),
+        is_refused: false,
+    };
     for section in sections {
-        push_section(section, path, &mut counts, &mut out)?;
+        push_section(section, path, &mut counts, &mut out);
     }
-    Ok(out)
+    let Mentions { list, is_refused } = out;
+    if is_refused {
+        return Err(AllocError);
+    }
+    Ok(list)
 }
 
 /// Returns whether the header of `section` has double brackets, and its last part has the index `part`.

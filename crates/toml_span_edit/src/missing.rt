@@ -1,15 +1,17 @@
 //! Adds values with the tables and arrays missing on the way.
 use crate::adding::{names_array, put_entry, put_lines, table_entry_site};
 use crate::document::{Document, written};
+use crate::edits::{path_text, push_more};
 use crate::given::{check_value, key_text};
-use crate::headed::{element_text, is_inline};
+use crate::headed::{ElementPlace, element_text, is_inline};
 use crate::items::{Item, bare};
-use crate::lines::{is_apart, line_end, part};
+use crate::lines::{is_apart, line_end, part, point};
 use crate::mentions::{PathMention, last_part, opens_element};
 use crate::paths::{front_of, rest_of};
 use crate::plan::Plan;
 use crate::reach::after_line;
-use crate::reason::Reason;
+use crate::reason::{Edited, Reason, already_there};
+use crate::text::{Text, joined};
 use std::alloc::{AllocError, Global};
 use toml_span::Stop;
 use toml_span_places::section_lines;
@@ -23,7 +25,7 @@ pub(crate) fn known_prefix_len(
     path: &[&str],
 ) -> Result<usize, AllocError> {
     for depth in (1..path.len()).rev() {
-        if !document.mentions(front_of(path, depth))?.is_empty() {
+        if document.has(front_of(path, depth))? {
             return Ok(depth);
         }
     }
@@ -32,7 +34,7 @@ pub(crate) fn known_prefix_len(
 
 /// Returns the index of the first segment after the first one that is `0`: the position of the only element of an array
 /// that is missing too. Returns `None` if there is none. Fails with `PastEnd` if such a segment is another position.
-pub(crate) fn first_position(missing: &[&str]) -> Result<Option<usize>, Stop<Reason>> {
+pub(crate) fn first_position(missing: &[&str]) -> Edited<Option<usize>> {
     let mut first = None;
     for (index, segment) in missing.iter().enumerate().skip(1) {
         match position(*segment) {
@@ -42,19 +44,6 @@ pub(crate) fn first_position(missing: &[&str]) -> Result<Option<usize>, Stop<Rea
         }
     }
     Ok(first)
-}
-
-/// Returns the dotted key whose parts have the names `parts`, each in quotes if necessary.
-fn dotted(document: Document<'_, '_>, parts: &[&str]) -> Result<String, AllocError> {
-    let mut key = String::new(document.alloc);
-    for name in parts {
-        if !key.is_empty() {
-            key.push('.')?;
-        }
-        let text = key_text(document.alloc, *name)?;
-        key.push_str(text.as_str())?;
-    }
-    Ok(key)
 }
 
 /// Returns whether the value at `path` is an array, either in brackets or an array of tables. Returns false if `path`
@@ -94,13 +83,24 @@ fn section_place<'s>(
     Ok(place)
 }
 
-/// Where the sections of a new table can be written.
+/// Where the sections of a table can be written.
 #[derive(Drop)]
 pub(crate) struct Place {
     /// The byte offset before which they are written.
     pub at: usize,
     /// The table's header, without brackets.
     pub header: String,
+}
+
+/// Returns the header, without brackets, of the table whose names are `names`, inside the table with the header
+/// `table`, or inside the root if `table` is empty.
+fn header_in(alloc: Global, table: &str, names: &[&str]) -> Result<String, AllocError> {
+    if table.is_empty() {
+        return path_text(alloc, names);
+    }
+    let mut header = String::from_str(alloc, table)?;
+    push_more(alloc, names, &mut header)?;
+    Ok(header)
 }
 
 /// Returns where the sections of a table at `path` can be written, which must name nothing, and must have no positions
@@ -113,38 +113,88 @@ pub(crate) fn new_place(
     let Some((at, table)) = section_place(document, front_of(path, depth))? else {
         return Ok(None);
     };
-    let dot = if table.is_empty() { "" } else { "." };
-    let names = dotted(document, rest_of(path, depth))?;
-    let header = format!(in document.alloc; "{table}{dot}{names}")?;
+    let header = header_in(document.alloc, table, rest_of(path, depth))?;
     Ok(Some(Place { at, header }))
 }
 
-/// Adds to `plan` the insertion of the lines `section` at the byte offset `at`. Also inserts blank lines between them
-/// and the text above and below, unless blank lines are there already.
-pub(crate) fn put_section(
-    document: Document<'_, '_>,
-    at: usize,
-    section: &str,
-    plan: &mut Plan,
-) -> Result<(), AllocError> {
-    let (text, end) = (document.text, line_end(document.text));
-    let gap = if is_apart(text, at) { "" } else { end };
+/// Adds to `plan` the insertion of a blank line before a section at the byte offset `at`, unless one is there already.
+fn begin_section(text: &str, at: usize, plan: &mut Plan) {
+    let gap = if is_apart(text, at) {
+        ""
+    } else {
+        line_end(text)
+    };
+    put_lines(text, at, gap, plan);
+}
+
+/// Adds to `plan` the insertion of a blank line after a section at the byte offset `at`, unless one is there already.
+fn end_section(text: &str, at: usize, plan: &mut Plan) {
     let next = part(text, at, after_line(text, at));
-    let below = if next.trim().is_empty() { "" } else { end };
-    let lines = format!(in document.alloc; "{gap}{section}{below}")?;
-    put_lines(document, at, lines.as_str(), plan)
+    if !next.trim().is_empty() {
+        plan.put(point(at), line_end(text), "", "");
+    }
+}
+
+/// Adds to `plan` the insertion of the lines `section` at the byte offset `at`, with blank lines between them and the
+/// text above and below.
+pub(crate) fn put_section(text: &str, at: usize, section: &str, plan: &mut Plan) {
+    begin_section(text, at, plan);
+    plan.put(point(at), section, "", "");
+    end_section(text, at, plan);
 }
 
 /// Adds to `plan` the insertion of the element `value` of an array of tables as a section at `place`. Fails with
 /// `NoValue` if `value` is not a TOML value, and with `NoInlineTable` if it is not an inline table.
 pub(crate) fn put_element(
     document: Document<'_, '_>,
-    place: &Place,
+    place: ElementPlace<'_>,
     value: &str,
     plan: &mut Plan,
-) -> Result<(), Stop<Reason>> {
-    let lines = element_text(document, place.header.as_str(), value)?;
-    put_section(document, place.at, lines.as_str(), plan)?;
+) -> Edited<()> {
+    let end = line_end(document.text);
+    let lines = element_text(document.alloc, end, place.header, value)?;
+    put_section(document.text, place.at, lines.as_str(), plan);
+    Ok(())
+}
+
+/// Adds to `plan` the insertion of the value `item` with the name `name` in a table with a new header at `place`.
+fn put_in_section(
+    document: Document<'_, '_>,
+    place: &Place,
+    name: &str,
+    item: Item<'_>,
+    plan: &mut Plan,
+) -> Result<(), AllocError> {
+    let (text, at, end) = (document.text, point(place.at), line_end(document.text));
+    let key = key_text(document.alloc, name)?;
+    begin_section(text, place.at, plan);
+    plan.put(at, "[", place.header.as_str(), "]");
+    plan.put(at, end, item.above, key.as_str());
+    plan.put(at, " = ", item.value, item.note);
+    plan.put(at, end, "", "");
+    end_section(text, place.at, plan);
+    Ok(())
+}
+
+/// Adds to `plan` the insertion of the value `item` into the existing table at `table`, with the dotted key that
+/// consists of `names`. Fails with a reason if the insertion is not possible.
+fn put_dotted(
+    document: Document<'_, '_>,
+    table: &[&str],
+    names: &[&str],
+    item: Item<'_>,
+    plan: &mut Plan,
+) -> Edited<()> {
+    let is_position = match names {
+        [name, ..] => position(*name).is_some(),
+        [] => false,
+    };
+    if is_position && is_array(document, table)? {
+        return Err(Stop::Fault(Reason::PastEnd));
+    }
+    let target = table_entry_site(document, table)?;
+    let key = path_text(document.alloc, names)?;
+    put_entry(document, target, key.as_str(), item, plan)?;
     Ok(())
 }
 
@@ -156,31 +206,19 @@ fn put_value(
     path: &[&str],
     item: Item<'_>,
     plan: &mut Plan,
-) -> Result<(), Stop<Reason>> {
+) -> Edited<()> {
     let depth = known_prefix_len(document, path)?;
     let (table, missing) = (front_of(path, depth), rest_of(path, depth));
     let [front @ .., name] = path else {
-        return Err(Stop::Fault(Reason::AlreadyThere(String::new(document.alloc))));
+        return Err(already_there(document.alloc));
     };
-    if let (Some(place), true) = (new_place(document, front)?, missing.len() > 1) {
-        let Item { above, value, note } = item;
-        let (header, end) = (place.header, line_end(document.text));
-        let key = key_text(document.alloc, *name)?;
-        let lines = format!(in document.alloc; "[{header}]{end}{above}{key} = {value}{note}{end}")?;
-        put_section(document, place.at, lines.as_str(), plan)?;
-        return Ok(());
+    if missing.len() > 1 {
+        if let Some(place) = new_place(document, front)? {
+            put_in_section(document, &place, *name, item, plan)?;
+            return Ok(());
+        }
     }
-    if is_array(document, table)?
-        && missing
-            .first()
-            .is_some_and(|name| position(*name).is_some())
-    {
-        return Err(Stop::Fault(Reason::PastEnd));
-    }
-    let target = table_entry_site(document, table)?;
-    let key = dotted(document, missing)?;
-    put_entry(document, target, key.as_str(), item, plan)?;
-    Ok(())
+    put_dotted(document, table, missing, item, plan)
 }
 
 /// Adds to `plan` the insertion of an array with `value` as its only element at `path`, which must name nothing, and
@@ -192,27 +230,35 @@ fn put_array(
     path: &[&str],
     value: &str,
     plan: &mut Plan,
-) -> Result<(), Stop<Reason>> {
-    if let (Some(place), true) = (new_place(document, path)?, is_inline(document, value)?) {
-        return put_element(document, &place, value, plan);
+) -> Edited<()> {
+    if is_inline(document, value)? {
+        if let Some(Place { at, header }) = new_place(document, path)? {
+            let header = header.as_str();
+            return put_element(document, ElementPlace { at, header }, value, plan);
+        }
     }
-    let array = format!(in document.alloc; "[{value}]")?;
+    let array = joined(document.alloc, "[", value, "]")?;
     put_value(document, path, bare(array.as_str()), plan)
 }
 
 /// Returns `value` inside nested inline tables and arrays: for each of `names`, from the outermost inward, a table
 /// whose only entry has this name or, for `0`, an array.
 fn wrapped(alloc: Global, names: &[&str], value: &str) -> Result<String, AllocError> {
-    let mut out = String::from_str(alloc, value)?;
-    for name in names.iter().rev() {
-        out = if *name == "0" {
-            format!(in alloc; "[{out}]")?
+    let mut out = Text::new(alloc);
+    for name in names {
+        if *name == "0" {
+            out.push("[");
         } else {
-            let key = key_text(alloc, *name)?;
-            format!(in alloc; "{{{key} = {out}}}")?
-        };
+            out.push("{");
+            out.push_key(alloc, *name);
+            out.push(" = ");
+        }
     }
-    Ok(out)
+    out.push(value);
+    for name in names.iter().rev() {
+        out.push(if *name == "0" { "]" } else { "}" });
+    }
+    out.finish()
 }
 
 /// Adds to `plan` the insertion of the value `item`, and of the tables and arrays missing on the way, at `path`. Fails
@@ -223,9 +269,9 @@ pub(crate) fn put_missing(
     path: &[&str],
     item: Item<'_>,
     plan: &mut Plan,
-) -> Result<(), Stop<Reason>> {
-    if path.is_empty() || !document.mentions(path)?.is_empty() {
-        return Err(Stop::Fault(Reason::AlreadyThere(String::new(document.alloc))));
+) -> Edited<()> {
+    if path.is_empty() || document.has(path)? {
+        return Err(already_there(document.alloc));
     }
     let depth = known_prefix_len(document, path)?;
     let Some(index) = first_position(rest_of(path, depth))? else {
@@ -244,7 +290,7 @@ pub(crate) fn add_deep(
     path: &[&str],
     value: &str,
     plan: &mut Plan,
-) -> Result<(), Stop<Reason>> {
+) -> Edited<()> {
     check_value(document.alloc, value)?;
     put_missing(document, path, bare(value), plan)
 }
@@ -256,34 +302,32 @@ pub(crate) fn append_first(
     path: &[&str],
     value: &str,
     plan: &mut Plan,
-) -> Result<(), Stop<Reason>> {
+) -> Edited<()> {
     let depth = known_prefix_len(document, path)?;
     if first_position(rest_of(path, depth))?.is_none() {
         return put_array(document, path, value, plan);
     }
-    let array = format!(in document.alloc; "[{value}]")?;
+    let array = joined(document.alloc, "[", value, "]")?;
     put_missing(document, path, bare(array.as_str()), plan)
 }
 
 /// Adds to `plan` the insertion of an empty table at `path`: a header or, in a table that braces or dotted keys define,
 /// an entry with `{}`. Fails as `put_missing` does.
-pub(crate) fn add_table(
-    document: Document<'_, '_>,
-    path: &[&str],
-    plan: &mut Plan,
-) -> Result<(), Stop<Reason>> {
+pub(crate) fn add_table(document: Document<'_, '_>, path: &[&str], plan: &mut Plan) -> Edited<()> {
     let depth = known_prefix_len(document, path)?;
     let is_plain = first_position(rest_of(path, depth))?.is_none();
-    if path.is_empty() || !document.mentions(path)?.is_empty() {
-        return Err(Stop::Fault(Reason::AlreadyThere(String::new(document.alloc))));
+    if path.is_empty() || document.has(path)? {
+        return Err(already_there(document.alloc));
     }
-    match new_place(document, path)? {
-        Some(place) if is_plain => {
-            let (header, end) = (place.header, line_end(document.text));
-            let lines = format!(in document.alloc; "[{header}]{end}")?;
-            put_section(document, place.at, lines.as_str(), plan)?;
-            Ok(())
+    if is_plain {
+        if let Some(Place { at, header }) = new_place(document, path)? {
+            let text = document.text;
+            begin_section(text, at, plan);
+            plan.put(point(at), "[", header.as_str(), "]");
+            plan.put(point(at), line_end(text), "", "");
+            end_section(text, at, plan);
+            return Ok(());
         }
-        _ => put_missing(document, path, bare("{}"), plan),
     }
+    put_missing(document, path, bare("{}"), plan)
 }

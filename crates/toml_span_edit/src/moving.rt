@@ -2,17 +2,17 @@
 use crate::adding::names_array;
 use crate::document::{Document, written};
 use crate::growing::insert;
-use crate::headed::element_place;
+use crate::headed::{ElementPlace, element_place};
 use crate::items::{Item, comments_of};
-use crate::lines::{is_apart, line_end, line_start, line_stop, part};
+use crate::lines::{is_apart, line_end, line_start, line_stop, part, point};
 use crate::mentions::{Home, PathMention, last_part, part_at};
 use crate::missing::{Place, first_position, is_array, known_prefix_len, new_place, put_missing};
 use crate::paths::{front_of, rest_of};
 use crate::plan::Plan;
-use crate::reason::Reason;
+use crate::reason::{Edited, already_there};
 use crate::removing::is_implied;
+use crate::text::Text;
 use std::alloc::AllocError;
-use toml_span::{Span, Stop};
 use toml_span_places::{assignment_lines, section_lines, val_literal_span, with_quotes};
 use toml_span_read::{Assignment, Section};
 use toml_span_tree::pointer::position;
@@ -52,9 +52,9 @@ pub(crate) fn put_moved(
     path: &[&str],
     item: Item<'_>,
     plan: &mut Plan,
-) -> Result<(), Stop<Reason>> {
+) -> Edited<()> {
     let [front @ .., _] = path else {
-        return Err(Stop::Fault(Reason::AlreadyThere(String::new(document.alloc))));
+        return Err(already_there(document.alloc));
     };
     if is_array(document, front)? {
         return insert(document, path, item, plan);
@@ -67,7 +67,10 @@ pub(crate) fn put_moved(
 /// Where the sections of a moved table or array of tables are written.
 #[derive(Drop)]
 pub(crate) struct Site {
-    pub place: Place,
+    /// The byte offset before which they are written.
+    pub at: usize,
+    /// The header, without brackets.
+    pub header: String,
     /// Whether the table becomes an element of an array of tables.
     pub is_element: bool,
     /// Whether only headers have to change: the target is not inside an array of tables.
@@ -87,79 +90,103 @@ fn is_in_array(document: Document<'_, '_>, path: &[&str]) -> Result<bool, AllocE
 /// Returns where the sections of a table that is moved to `path` are written in `document`, which lacks the table.
 /// Returns `None` if the table must be written in braces there. Fails with a reason if `path` names a value that stays
 /// there, or an element that can't be added.
-pub(crate) fn section_site(
-    document: Document<'_, '_>,
-    path: &[&str],
-) -> Result<Option<Site>, Stop<Reason>> {
+pub(crate) fn section_site(document: Document<'_, '_>, path: &[&str]) -> Edited<Option<Site>> {
     let [front @ .., segment] = path else {
-        return Err(Stop::Fault(Reason::AlreadyThere(String::new(document.alloc))));
+        return Err(already_there(document.alloc));
     };
-    let mentions = document.mentions(front)?;
-    if let (Some(at), false, true) = (
-        position(*segment),
-        front.is_empty(),
-        names_array(mentions.as_slice()),
-    ) {
-        let place = element_place(document, front, path, at)?;
+    let (is_array, is_written) = {
+        let mentions = document.mentions(front)?;
+        (
+            names_array(mentions.as_slice()),
+            written(mentions.as_slice()).is_some(),
+        )
+    };
+    if let (Some(at), false, true) = (position(*segment), front.is_empty(), is_array) {
+        let ElementPlace { at, header } = element_place(document, front, path, at)?;
         return Ok(Some(Site {
-            place,
+            at,
+            header: String::from_str(document.alloc, header)?,
             is_element: true,
             is_plain: false,
         }));
     }
-    if written(mentions.as_slice()).is_some() {
+    if is_written {
         return Ok(None);
     }
-    if !document.mentions(path)?.is_empty() {
-        return Err(Stop::Fault(Reason::AlreadyThere(String::new(document.alloc))));
+    if document.has(path)? {
+        return Err(already_there(document.alloc));
     }
     new_site(document, path)
 }
 
 /// Returns where the sections of a table that is moved to `path` are written in `document`, where `path` names nothing
 /// yet. Returns `None` if the table must be written in braces there. Fails with `PastEnd` as `first_position` does.
-fn new_site(document: Document<'_, '_>, path: &[&str]) -> Result<Option<Site>, Stop<Reason>> {
+fn new_site(document: Document<'_, '_>, path: &[&str]) -> Edited<Option<Site>> {
     let depth = known_prefix_len(document, path)?;
-    let index = first_position(rest_of(path, depth))?.map(|index| index.saturating_add(depth));
-    let end = index.unwrap_or(path.len());
-    if index.is_some() && end.saturating_add(1) < path.len() {
+    let (end, is_element) = match first_position(rest_of(path, depth))? {
+        Some(index) => (depth.saturating_add(index), true),
+        None => (path.len(), false),
+    };
+    if is_element && end.saturating_add(1) < path.len() {
         return Ok(None);
     }
-    let Some(place) = new_place(document, front_of(path, end))? else {
+    let is_plain = !is_element && !is_in_array(document, path)?;
+    let Some(Place { at, header }) = new_place(document, front_of(path, end))? else {
         return Ok(None);
     };
-    let is_element = index.is_some();
     Ok(Some(Site {
-        place,
+        at,
+        header,
         is_element,
-        is_plain: !is_element && !is_in_array(document, path)?,
+        is_plain,
     }))
 }
 
 /// Returns whether only headers name a value, and none of them is the header of the value if that is an element.
 pub(crate) fn are_headers(mentions: &[PathMention<'_, '_>]) -> bool {
-    mentions.iter().all(|mention| match mention {
-        PathMention::Own(section) => !section.array,
-        PathMention::Below(_, _) => true,
-        _ => false,
-    })
+    for mention in mentions {
+        match mention {
+            PathMention::Own(section) if !section.array => {}
+            PathMention::Below(_, _) => {}
+            _ => return false,
+        }
+    }
+    true
+}
+
+/// Returns whether a dotted key names a value.
+fn has_dotted(mentions: &[PathMention<'_, '_>]) -> bool {
+    for mention in mentions {
+        if let PathMention::Dotted(_, _, _) = mention {
+            return true;
+        }
+    }
+    false
 }
 
 /// Returns whether a value is written in the braces of an inline table, by dotted keys.
 pub(crate) fn is_in_braces(mentions: &[PathMention<'_, '_>]) -> bool {
-    mentions.iter().any(|mention| matches!(mention, PathMention::Dotted(_, _, Home::Braces(_, _))))
+    for mention in mentions {
+        if let PathMention::Dotted(_, _, Home::Braces(_, _)) = mention {
+            return true;
+        }
+    }
+    false
 }
 
-/// Adds to `plan` the insertion of a header of the table at `path`, above the header of a value in this table, if the
-/// table exists only because of this value. `mentions` are the value's.
+/// Adds to `plan` the insertion of a header of the table around the value at `path`, above the first header of the
+/// value, if the table exists only because of this value. Only headers must name the value.
 pub(crate) fn keep_header(
     document: Document<'_, '_>,
     path: &[&str],
-    mentions: &[PathMention<'_, '_>],
     plan: &mut Plan,
 ) -> Result<(), AllocError> {
-    let table = document.mentions(path)?;
-    if path.is_empty() || !is_implied(table.as_slice(), mentions.len()) {
+    let [front @ .., _] = path else {
+        return Ok(());
+    };
+    let count = document.mentions(path)?.len();
+    let table = document.mentions(front)?;
+    if front.is_empty() || !is_implied(table.as_slice(), count) {
         return Ok(());
     }
     if let Some(PathMention::Below(section, index)) = table.as_slice().first() {
@@ -168,8 +195,8 @@ pub(crate) fn keep_header(
             line_end(document.text),
         );
         let at = document.above(section.header_span.start);
-        let lines = format!(in document.alloc; "[{header}]{end}{end}")?;
-        plan.put(Span { start: at, end: at }, lines)?;
+        plan.put(point(at), "[", header, "]");
+        plan.put(point(at), end, end, "");
     }
     Ok(())
 }
@@ -188,18 +215,17 @@ pub(crate) fn rename_headers(
             PathMention::Below(section, index) => document.header_span(section, index),
             _ => return Ok(()),
         };
-        plan.put(span, String::from_str(document.alloc, header)?)?;
+        plan.put(span, header, "", "");
     }
     Ok(())
 }
 
 /// Appends `lines`, and a line end if the last line has none.
-fn push_lines(document: Document<'_, '_>, lines: &str, out: &mut String) -> Result<(), AllocError> {
-    out.push_str(lines)?;
-    if lines.ends_with('\n') {
-        return Ok(());
+fn push_lines(document: Document<'_, '_>, lines: &str, out: &mut Text) {
+    out.push(lines);
+    if !lines.ends_with('\n') {
+        out.push(line_end(document.text));
     }
-    out.push_str(line_end(document.text))
 }
 
 /// Returns the text after the brackets of a section's header, up to the byte offset `stop`.
@@ -230,44 +256,48 @@ pub(crate) fn header_comments<'s>(
     Ok(("", ""))
 }
 
+/// Appends a header in brackets: in double brackets if `is_element`.
+fn push_header(header: &str, is_element: bool, out: &mut Text) {
+    if is_element {
+        out.push_all("[[", header, "]]");
+    } else {
+        out.push_all("[", header, "]");
+    }
+}
+
 /// Appends the section of a moved table, with its comments and with `header`, in brackets.
 fn push_own(
     document: Document<'_, '_>,
     section: &Section<'_>,
     header: &str,
-    out: &mut String,
-) -> Result<(), AllocError> {
+    is_element: bool,
+    out: &mut Text,
+) {
     let (text, open) = (document.text, section.header_span.start);
-    out.push_str(part(text, document.above(open), open))?;
-    out.push_str(header)?;
+    out.push(part(text, document.above(open), open));
+    push_header(header, is_element, out);
     let rest = after_header(document, section, section_lines(text, section).end);
-    push_lines(document, rest, out)
+    push_lines(document, rest, out);
 }
 
 /// Appends the section of a table inside a moved table, with its comments. `header` replaces the header up to the part
-/// at `index`. A blank line comes first if one is above the section.
+/// at `index`. A blank line comes first if one is above the section, unless `out` is empty.
 fn push_below(
     document: Document<'_, '_>,
     section: &Section<'_>,
     index: usize,
     header: &str,
-    out: &mut String,
-) -> Result<(), AllocError> {
+    out: &mut Text,
+) {
     let text = document.text;
-    let (start, span) = (
-        document.above(section.header_span.start),
-        document.header_span(section, index),
-    );
-    if is_apart(text, start) {
-        out.push_str(line_end(text))?;
+    let start = document.above(section.header_span.start);
+    let span = document.header_span(section, index);
+    if out.len() > 0 && is_apart(text, start) {
+        out.push(line_end(text));
     }
-    out.push_str(part(text, start, span.start))?;
-    out.push_str(header)?;
-    push_lines(
-        document,
-        part(text, span.end, section_lines(text, section).end),
-        out,
-    )
+    out.push_all(part(text, start, span.start), header, "");
+    let rest = part(text, span.end, section_lines(text, section).end);
+    push_lines(document, rest, out);
 }
 
 /// Appends the lines of an assignment, with its comments, and without the first parts of its key, up to the part at
@@ -276,15 +306,13 @@ fn push_entry(
     document: Document<'_, '_>,
     assignment: &Assignment<'_>,
     index: usize,
-    out: &mut String,
-) -> Result<(), AllocError> {
+    out: &mut Text,
+) {
     let (text, lines) = (document.text, assignment_lines(document.text, assignment));
-    let key = with_quotes(
-        text,
-        part_at(&assignment.parts, index.saturating_add(1)).span,
-    );
-    out.push_str(part(text, document.above(lines.start), assignment.extent.start))?;
-    push_lines(document, part(text, key.start, lines.end), out)
+    let part_span = part_at(&assignment.parts, index.saturating_add(1)).span;
+    let key = with_quotes(text, part_span);
+    out.push(part(text, document.above(lines.start), assignment.extent.start));
+    push_lines(document, part(text, key.start, lines.end), out);
 }
 
 /// Returns the sections of the table, or array of tables, at `path`, with `header` instead of `path` in their headers,
@@ -296,38 +324,26 @@ pub(crate) fn sections_text(
     header: &str,
     is_element: bool,
 ) -> Result<String, AllocError> {
-    let end = line_end(document.text);
-    let own = if is_element {
-        format!(in document.alloc; "[[{header}]]")?
-    } else {
-        format!(in document.alloc; "[{header}]")?
-    };
-    let mut out = String::new(document.alloc);
-    let mut entries = String::new(document.alloc);
-    let mut below = String::new(document.alloc);
-    for mention in document.mentions(path)? {
-        match mention {
-            PathMention::Own(section) => push_own(document, section, own.as_str(), &mut out)?,
-            PathMention::Below(section, index) => {
-                push_below(document, section, index, header, &mut below)?;
-            }
-            PathMention::Dotted(assignment, index, _) => {
-                push_entry(document, assignment, index, &mut entries)?;
-            }
-            _ => {}
+    let mentions = document.mentions(path)?;
+    let mut out = Text::new(document.alloc);
+    for mention in &mentions {
+        if let PathMention::Own(section) = mention {
+            push_own(document, *section, header, is_element, &mut out);
         }
     }
-    if out.is_empty() && (is_element || !entries.is_empty()) {
-        out.push_str(own.as_str())?;
-        out.push_str(end)?;
+    if out.len() == 0 && (is_element || has_dotted(mentions.as_slice())) {
+        push_header(header, is_element, &mut out);
+        out.push(line_end(document.text));
     }
-    let first = out.is_empty() && entries.is_empty();
-    out.push_str(entries.as_str())?;
-    let rest = below.as_str();
-    out.push_str(if first {
-        rest.strip_prefix(end).unwrap_or(rest)
-    } else {
-        rest
-    })?;
-    Ok(out)
+    for mention in &mentions {
+        if let PathMention::Dotted(assignment, index, _) = mention {
+            push_entry(document, *assignment, *index, &mut out);
+        }
+    }
+    for mention in &mentions {
+        if let PathMention::Below(section, index) = mention {
+            push_below(document, *section, *index, header, &mut out);
+        }
+    }
+    out.finish()
 }

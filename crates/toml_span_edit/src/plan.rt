@@ -1,10 +1,11 @@
 //! The replacements that make an edit.
-ghost use Rattle.std.specs.Prelude.{◌≡◌, ◌++◌, ◌∷◌, [], IfOk, OnOk, Some, map, string_bytes};
+ghost use Rattle.std.specs.Prelude.{◌≡◌, ◌++◌, ◌∷◌, [], IfOk, OnOk, Some, false, map, string_bytes};
 ghost use Rattle.toml_span_places.specs.Replace.{edit_of, replaced};
 ghost use Rattle.toml_span_edit.specs.Kept as spec;
 
 use crate::kept::{are_header_parts, are_insertions};
-use crate::reason::Reason;
+use crate::reason::{Edited, Reason};
+use crate::text::joined;
 use std::alloc::{AllocError, Global};
 use toml_span::{Span, Stop};
 use toml_span_places::{Replacement, replace_all};
@@ -16,12 +17,14 @@ pub(crate) struct Piece {
     pub text: String,
 }
 
-/// Replacements in a text. They must be in the order of the text, and their spans must not overlap. A function that
-/// fails may already have added some of its replacements.
+/// Replacements in a text. They must be in the order of the text, and their spans must not overlap. A plan remembers
+/// whether an allocation failed, so that only making the replacements fails.
 #[derive(Drop)]
 pub(crate) struct Plan {
     alloc: Global,
     pieces: Vec<Piece>,
+    /// Whether replacements are missing because an allocation failed.
+    is_refused: bool,
 }
 
 impl Plan {
@@ -30,26 +33,38 @@ impl Plan {
         Plan {
             alloc,
             pieces: Vec::new(alloc),
+            is_refused: false,
         }
     }
 
-    /// Adds the replacement of `span` with `text`.
-    pub(crate) fn put(&mut self, span: Span, text: String) -> Result<(), AllocError>
+    /// Adds the replacement of `span` with three texts, one after the other. Fails if an allocation fails.
+    fn add(&mut self, span: Span, one: &str, two: &str, three: &str) -> Result<(), AllocError>
         ensures { OnOk result (spec.planned self.new
-            ≡ spec.planned self.old ++ (span, string_bytes text) ∷ []) }
+            ≡ spec.planned self.old ++ (span, one.now ++ (two.now ++ three.now)) ∷ []) }
     {
+        let text = joined(self.alloc, one, two, three)?;
         self.pieces.push(Piece { span, text })?;
         Ok(())
     }
 
-    /// Adds the removal of `span`.
-    pub(crate) fn cut(&mut self, span: Span) -> Result<(), AllocError> {
-        let text = String::new(self.alloc);
-        self.put(span, text)
+    /// Adds the replacement of `span` with three texts, one after the other.
+    pub(crate) fn put(&mut self, span: Span, one: &str, two: &str, three: &str)
+        ensures { self.new.is_refused ≡ false → spec.planned self.new
+            ≡ spec.planned self.old ++ (span, one.now ++ (two.now ++ three.now)) ∷ [] }
+    {
+        self.is_refused |= self.add(span, one, two, three).is_err();
     }
 
-    /// Returns the replacements, with their texts borrowed.
+    /// Adds the removal of the bytes `start..end`.
+    pub(crate) fn cut(&mut self, start: usize, end: usize) {
+        self.put(Span { start, end }, "", "", "");
+    }
+
+    /// Returns the replacements, with their texts borrowed. Fails if an allocation failed.
     fn replacements(&self) -> Result<Vec<Replacement<'_>>, AllocError> {
+        if self.is_refused {
+            return Err(AllocError);
+        }
         let mut list = Vec::with_capacity(self.alloc, self.pieces.len())?;
         for piece in &self.pieces {
             list.push(Replacement {
@@ -62,14 +77,14 @@ impl Plan {
 
     /// Returns `text` with the replacements made. Fails with `WouldDiffer` if a span is invalid, or overlaps or
     /// precedes an earlier one.
-    pub(crate) fn applied(&self, text: &str) -> Result<String, Stop<Reason>> {
+    pub(crate) fn applied(&self, text: &str) -> Edited<String> {
         let list = self.replacements()?;
         with_replaced(self.alloc, text, list.as_slice())
     }
 
     /// Returns `text` with the replacements made. Fails with `WouldDiffer` if a replacement replaces anything, or if a
     /// span is invalid or precedes an earlier one.
-    pub(crate) fn inserted(&self, text: &str) -> Result<String, Stop<Reason>>
+    pub(crate) fn inserted(&self, text: &str) -> Edited<String>
         ensures { IfOk result (λ new. spec.IsInserted text.now (string_bytes new)) }
     {
         let list = self.replacements()?;
@@ -81,7 +96,7 @@ impl Plan {
 
     /// Returns `text` with the replacements made. Fails with `WouldDiffer` if `are_header_parts` returns false for the
     /// replacements, or if a span is invalid, or overlaps or precedes an earlier one.
-    pub(crate) fn in_headers(&self, text: &str) -> Result<String, Stop<Reason>>
+    pub(crate) fn in_headers(&self, text: &str) -> Edited<String>
         ensures { IfOk result (λ new. spec.AreHeadersReplaced text.now (string_bytes new)) }
     {
         let list = self.replacements()?;
@@ -94,11 +109,7 @@ impl Plan {
 
 /// Returns `text` with the replacements in `list` made. Fails with `WouldDiffer` if a span is invalid, or overlaps or
 /// precedes an earlier one.
-fn with_replaced(
-    alloc: Global,
-    text: &str,
-    list: &[Replacement<'_>],
-) -> Result<String, Stop<Reason>>
+fn with_replaced(alloc: Global, text: &str, list: &[Replacement<'_>]) -> Edited<String>
     ensures { IfOk result (λ new. replaced text.now (map edit_of list.now) ≡ Some (string_bytes new)) }
 {
     match replace_all(alloc, text, list) {

@@ -11,7 +11,7 @@ ghost use Rattle.toml_span_edit.specs.Kept as spec;
 use crate::document::Document;
 use crate::made::child;
 use crate::paths::names_first;
-use crate::reason::Reason;
+use crate::reason::{Edited, Reason};
 use toml_span::value::{Table, Value, ValueInner};
 use toml_span::{Span, Stop};
 use toml_span_places::{SectionPlace, literal_span, section_places};
@@ -220,11 +220,7 @@ fn with_sections(text: &str, path: &[&str], span: Span, places: &[SectionPlace<'
 /// Returns a span that contains the whole value at `path`: the span that `room` returns, and the lines of the sections
 /// of this value and of the tables inside it. `value` is the tree of `document`. Fails with `Nothing` if `path` is
 /// empty or names nothing.
-pub(crate) fn around(
-    document: Document<'_, '_>,
-    path: &[&str],
-    value: &Value<'_>,
-) -> Result<Span, Stop<Reason>>
+pub(crate) fn around(document: Document<'_, '_>, path: &[&str], value: &Value<'_>) -> Edited<Span>
     requires { read document.text.now depth_limit (Ok (map parsed_section document.sections.now)) }
     ensures { IfOk result (λ span. spec.IsAround (map (λ s. s.now) path.now) (view value.now)
         document.entry.text.now span) }

@@ -1,6 +1,8 @@
 //! Why an edit was refused.
+use std::alloc::Global;
 use std::fmt;
 use std::fmt::{Display, Formatter, Write};
+use toml_span::Stop;
 
 /// Why an edit was refused. A reason may come with more text, which `detail` returns.
 #[derive(Debug, Drop)]
@@ -92,3 +94,11 @@ impl Display for Reason {
 }
 
 impl std::error::Error for Reason {}
+
+/// The result of a step of an edit, which may be refused.
+pub(crate) type Edited<T> = Result<T, Stop<Reason>>;
+
+/// Returns the error that the new path already names a value, whose place is not known.
+pub(crate) fn already_there(alloc: Global) -> Stop<Reason> {
+    Stop::Fault(Reason::AlreadyThere(String::new(alloc)))
+}

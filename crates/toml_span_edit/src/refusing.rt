@@ -8,7 +8,7 @@ use crate::edits::{Change, Edit};
 use crate::lines::{line_start, part};
 use crate::made::{child, value_at};
 use crate::reach::named;
-use crate::reason::Reason;
+use crate::reason::{Edited, Reason, already_there};
 use std::alloc::{AllocError, Global};
 use toml_span::Stop;
 use toml_span::value::{Value, ValueInner};
@@ -31,7 +31,7 @@ pub(crate) fn check_free(
     front: &[&str],
     name: &str,
     old: &Value<'_>,
-) -> Result<(), Stop<Reason>> {
+) -> Edited<()> {
     let Some(table) = value_at(front, old) else {
         return Ok(());
     };
@@ -44,12 +44,7 @@ pub(crate) fn check_free(
 
 /// Checks that the path to which `edit` leads has no value in the tree `old` of `text`, if the edit needs that. Fails
 /// with `AlreadyThere` if it has one. Checks nothing for moves.
-pub(crate) fn check_new(
-    alloc: Global,
-    text: &str,
-    edit: Edit<'_>,
-    old: &Value<'_>,
-) -> Result<(), Stop<Reason>> {
+pub(crate) fn check_new(alloc: Global, text: &str, edit: Edit<'_>, old: &Value<'_>) -> Edited<()> {
     let [front @ .., last] = edit.path else {
         return Ok(());
     };
@@ -75,7 +70,7 @@ pub(crate) fn check_target(
     target: &[&str],
     rest: &Value<'_>,
     old: &Value<'_>,
-) -> Result<(), Stop<Reason>> {
+) -> Edited<()> {
     let ([from @ .., _], [front @ .., name]) = (path, target) else {
         return Ok(());
     };
@@ -93,7 +88,7 @@ pub(crate) fn check_target(
     if !is_shifted {
         check_free(alloc, text, front, *name, old)?;
     }
-    Err(Stop::Fault(Reason::AlreadyThere(String::new(alloc))))
+    Err(already_there(alloc))
 }
 
 /// Returns whether the tree `value` has a value at `path`.

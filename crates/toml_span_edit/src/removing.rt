@@ -1,11 +1,10 @@
 //! Removes values.
 use crate::document::Document;
 use crate::items::{cut_items, span_above};
-use crate::lines::{line_end, line_stop, point};
+use crate::lines::{line_end, line_stop, point, span_of};
 use crate::mentions::{Home, PathMention};
 use crate::plan::Plan;
-use crate::reason::Reason;
-use std::alloc::AllocError;
+use crate::reason::{Edited, Reason};
 use toml_span::{Span, Stop};
 use toml_span_places::{assignment_lines, section_lines};
 use toml_span_read::Val;
@@ -60,20 +59,16 @@ fn joined<'s, 'de>(run: Run<'s, 'de>, next: Run<'s, 'de>) -> Option<Run<'s, 'de>
 }
 
 /// Adds to `plan` the removal of `span`, unless it is empty.
-fn cut_span(span: Span, plan: &mut Plan) -> Result<(), AllocError> {
+fn cut_span(span: Span, plan: &mut Plan) {
     if span.start < span.end {
-        plan.cut(span)?;
+        plan.cut(span.start, span.end);
     }
-    Ok(())
 }
 
 /// Returns the span of the comment lines directly above the lines or the item of a mention.
 fn comments_above(document: Document<'_, '_>, mention: &PathMention<'_, '_>) -> Span {
     match (lines_of(document.text, mention), run_of(mention)) {
-        (Some(lines), _) => Span {
-            start: document.above(lines.start),
-            end: lines.start,
-        },
+        (Some(lines), _) => span_of(document.above(lines.start), lines.start),
         (None, Some(run)) => span_above(document.text, run.list, run.first),
         _ => point(0),
     }
@@ -81,19 +76,13 @@ fn comments_above(document: Document<'_, '_>, mention: &PathMention<'_, '_>) -> 
 
 /// Adds to `plan` the removal of the items of a run and, if `cuts_comments`, of the comment lines directly above them.
 /// Does nothing for `None`.
-fn cut_run(
-    text: &str,
-    run: Option<Run<'_, '_>>,
-    cuts_comments: bool,
-    plan: &mut Plan,
-) -> Result<(), AllocError> {
-    let Some(Run { list, first, last }) = run else {
-        return Ok(());
-    };
-    if cuts_comments {
-        cut_span(span_above(text, list, first), plan)?;
+fn cut_run(text: &str, run: Option<Run<'_, '_>>, cuts_comments: bool, plan: &mut Plan) {
+    if let Some(Run { list, first, last }) = run {
+        if cuts_comments {
+            cut_span(span_above(text, list, first), plan);
+        }
+        cut_items(text, list, first, last, plan);
     }
-    cut_items(text, list, first, last, plan)
 }
 
 /// Adds to `plan` the removal of the lines and items that `lines_of` and `run_of` return for `mentions` and, if
@@ -103,15 +92,15 @@ fn cut_all(
     mentions: &[PathMention<'_, '_>],
     cuts_comments: bool,
     plan: &mut Plan,
-) -> Result<(), AllocError> {
+) {
     let text = document.text;
     let mut open = None;
     for mention in mentions {
         if let Some(lines) = lines_of(text, mention) {
             if cuts_comments {
-                cut_span(comments_above(document, mention), plan)?;
+                cut_span(comments_above(document, mention), plan);
             }
-            plan.cut(lines)?;
+            plan.cut(lines.start, lines.end);
         }
         if let Some(next) = run_of(mention) {
             let both = match open {
@@ -119,64 +108,49 @@ fn cut_all(
                 None => None,
             };
             if both.is_none() {
-                cut_run(text, open, cuts_comments, plan)?;
+                cut_run(text, open, cuts_comments, plan);
             }
             open = Some(both.unwrap_or(next));
         }
     }
-    cut_run(text, open, cuts_comments, plan)
+    cut_run(text, open, cuts_comments, plan);
 }
 
-/// Returns whether a mention names a table only on the way to a value inside the table, by a longer header or a dotted
-/// key.
-fn passes(mention: &PathMention<'_, '_>) -> bool {
-    match *mention {
-        PathMention::Below(_, _) => true,
-        PathMention::Dotted(_, _, _) => true,
-        _ => false,
-    }
-}
-
-/// Returns whether a table exists only because of one value in it. `table` has the mentions of the table, and `values`
-/// is the number of mentions of the value.
+/// Returns whether a table exists only because of one value in it: whether all of `table`, the mentions of the table,
+/// name it on the way to this value, by a longer header or a dotted key. `values` is the number of mentions of the
+/// value.
 pub(crate) fn is_implied(table: &[PathMention<'_, '_>], values: usize) -> bool {
-    table.len() == values && table.iter().all(|mention| passes(mention))
+    for mention in table {
+        match mention {
+            PathMention::Below(_, _) => {}
+            PathMention::Dotted(_, _, _) => {}
+            _ => return false,
+        }
+    }
+    table.len() == values
 }
 
 /// Adds to `plan` the change that writes an empty table in place of the section or assignment of the mention `table`: a
 /// header without entries, or a dotted key with `{}`. Does nothing for a mention other than `Below` and `Dotted`.
-fn keep_table(
-    document: Document<'_, '_>,
-    table: &PathMention<'_, '_>,
-    plan: &mut Plan,
-) -> Result<(), AllocError> {
+fn keep_table(document: Document<'_, '_>, table: &PathMention<'_, '_>, plan: &mut Plan) {
     let text = document.text;
     match *table {
         PathMention::Below(section, index) => {
             let (header, end) = (document.header_text(section, index), line_end(text));
-            let new = format!(in document.alloc; "[{header}]{end}")?;
-            plan.put(section_lines(text, section), new)
+            let lines = section_lines(text, section);
+            plan.put(lines, "[", header, "]");
+            plan.put(point(lines.end), end, "", "");
         }
         PathMention::Dotted(assignment, index, home) => {
-            let mut new = String::from_str(
-                document.alloc,
-                document.dotted_text(assignment, index),
-            )?;
-            new.push_str(" = {}")?;
-            let extent = assignment.extent;
+            let Span { start, end } = assignment.extent;
             let end = match home {
-                Home::Lines => line_stop(text, extent.end),
-                Home::Braces(_, _) => extent.end,
+                Home::Lines => line_stop(text, end),
+                Home::Braces(_, _) => end,
             };
-            plan.put(
-                Span {
-                    start: extent.start,
-                    end,
-                },
-                new,
-            )
+            let key = document.dotted_text(assignment, index);
+            plan.put(Span { start, end }, key, " = {}", "");
         }
-        _ => Ok(()),
+        _ => {}
     }
 }
 
@@ -188,25 +162,24 @@ pub(crate) fn remove(
     path: &[&str],
     cuts_comments: bool,
     plan: &mut Plan,
-) -> Result<(), Stop<Reason>> {
-    let mentions = document.mentions(path)?;
+) -> Edited<()> {
     let [front @ .., _] = path else {
         return Err(Stop::Fault(Reason::Root));
     };
+    let (mentions, table) = (document.mentions(path)?, document.mentions(front)?);
     let [first, rest @ ..] = mentions.as_slice() else {
         return Err(Stop::Fault(Reason::Nothing));
     };
-    let table = document.mentions(front)?;
     if front.is_empty() || !is_implied(table.as_slice(), mentions.len()) {
-        cut_all(document, mentions.as_slice(), cuts_comments, plan)?;
+        cut_all(document, mentions.as_slice(), cuts_comments, plan);
         return Ok(());
     }
     if cuts_comments {
-        cut_span(comments_above(document, first), plan)?;
+        cut_span(comments_above(document, first), plan);
     }
     if let Some(at) = table.as_slice().first() {
-        keep_table(document, at, plan)?;
+        keep_table(document, at, plan);
     }
-    cut_all(document, rest, cuts_comments, plan)?;
+    cut_all(document, rest, cuts_comments, plan);
     Ok(())
 }

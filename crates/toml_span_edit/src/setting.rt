@@ -12,7 +12,7 @@ use crate::given::{check_value, key_text};
 use crate::made::value_at;
 use crate::mentions::PathMention;
 use crate::paths::names_steps;
-use crate::reason::Reason;
+use crate::reason::{Edited, Reason};
 use std::alloc::{AllocError, Global};
 use toml_span::value::Value;
 use toml_span::{Span, Stop};
@@ -29,14 +29,17 @@ pub(crate) enum Written {
     Nowhere,
 }
 
-/// Returns how the value at `path` is written. `old` is the tree of `text`. Scalars are always written as literals.
-/// Fails with `WouldDiffer` if `text` can't be split into sections.
+/// Returns how the value at `path` is written, if `value` is a TOML value. `old` is the tree of `text`. Scalars are
+/// always written as literals. Fails with `NoValue` if `value` is not a TOML value, and with `WouldDiffer` if `text`
+/// can't be split into sections.
 pub(crate) fn how_written(
     alloc: Global,
     text: &str,
     path: &[&str],
+    value: &str,
     old: &Value<'_>,
-) -> Result<Written, Stop<Reason>> {
+) -> Edited<Written> {
+    check_value(alloc, value)?;
     let Some(there) = value_at(path, old) else {
         return Ok(Written::Nowhere);
     };
@@ -57,7 +60,7 @@ pub(crate) fn how_written(
 
 /// Returns `text` with `new` in place of each of `spans`. Fails with `WouldDiffer` if a span is not valid in `text`, or
 /// if the spans overlap or are not in the order of the text.
-fn with_spans(alloc: Global, text: &str, spans: &[Span], new: &str) -> Result<String, Stop<Reason>>
+fn with_spans(alloc: Global, text: &str, spans: &[Span], new: &str) -> Edited<String>
     ensures { IfOk result (λ out. places.replaced text.now (map (λ span. (span, new.now)) spans.now)
         ≡ Some (string_bytes out)) }
 {
@@ -75,7 +78,7 @@ pub(crate) fn write_over(
     path: &[&str],
     value: &str,
     old: &Value<'_>,
-) -> Result<String, Stop<Reason>>
+) -> Edited<String>
     ensures { IfOk result (λ new. spec.IsWrittenOver value.now (map (λ s. s.now) path.now) (view old.now) text.now
         (string_bytes new)) }
 {
@@ -94,12 +97,11 @@ pub(crate) fn set_text(
     path: &[&str],
     value: &str,
     old: &Value<'_>,
-) -> Result<String, Stop<Reason>>
+) -> Edited<String>
     ensures { IfOk result (λ new. spec.IsWrittenOver value.now (map (λ s. s.now) path.now) (view old.now) text.now
         (string_bytes new)) }
 {
-    check_value(alloc, value)?;
-    match how_written(alloc, text, path, old)? {
+    match how_written(alloc, text, path, value, old)? {
         Written::Literal => write_over(alloc, text, path, value, old),
         _ if path.is_empty() => Err(Stop::Fault(Reason::Root)),
         Written::Nowhere => Err(Stop::Fault(Reason::Nothing)),
@@ -134,7 +136,7 @@ fn key_spans(document: Document<'_, '_>, path: &[&str]) -> Result<Vec<Span>, All
 
 /// Returns the text of `document` with `key` in place of all keys that name the value at `path`. Fails with
 /// `WouldDiffer` if the spans of the keys can't be replaced.
-fn with_key(document: Document<'_, '_>, path: &[&str], key: &str) -> Result<String, Stop<Reason>>
+fn with_key(document: Document<'_, '_>, path: &[&str], key: &str) -> Edited<String>
     ensures { IfOk result (λ new. places.replaced document.entry.text.now (map (λ span. (span, key.now))
         (spec.keys_at (map (λ s. s.now) path.now) (document_keys document.entry.text.now
         (map parsed_section document.entry.sections.now)))) ≡ Some (string_bytes new)) }
@@ -145,7 +147,7 @@ fn with_key(document: Document<'_, '_>, path: &[&str], key: &str) -> Result<Stri
 
 /// Checks that keys name the value at `path`. Fails with `NoKey` for the root and for an element of an array, and with
 /// `Nothing` if `path` names nothing.
-fn check_keys(document: Document<'_, '_>, path: &[&str]) -> Result<(), Stop<Reason>> {
+fn check_keys(document: Document<'_, '_>, path: &[&str]) -> Edited<()> {
     if path.is_empty() {
         return Err(Stop::Fault(Reason::NoKey));
     }
@@ -166,11 +168,7 @@ fn check_keys(document: Document<'_, '_>, path: &[&str]) -> Result<(), Stop<Reas
 /// Returns the text of `document` with the key `name` in place of all keys that name the value at `path`. Fails with
 /// `NoKey` for the root and for an element of an array, with `Nothing` if `path` names nothing, and with `WouldDiffer`
 /// if the keys can't be replaced.
-fn rename_keys(
-    document: Document<'_, '_>,
-    path: &[&str],
-    name: &str,
-) -> Result<String, Stop<Reason>>
+fn rename_keys(document: Document<'_, '_>, path: &[&str], name: &str) -> Edited<String>
     requires { read document.text.now depth_limit (Ok (map parsed_section document.sections.now)) }
     ensures { IfOk result (λ new. spec.AreKeysReplaced (map (λ s. s.now) path.now) document.entry.text.now
         (string_bytes new)) }
@@ -183,12 +181,7 @@ fn rename_keys(
 /// Returns `text` with the key `name` in place of all keys that name the value at `path`. Fails with `NoKey` for the
 /// root and for an element of an array, with `Nothing` if `path` names nothing, and with `WouldDiffer` if `text` can't
 /// be split into sections or the keys can't be replaced.
-pub(crate) fn renamed_text(
-    alloc: Global,
-    text: &str,
-    path: &[&str],
-    name: &str,
-) -> Result<String, Stop<Reason>>
+pub(crate) fn renamed_text(alloc: Global, text: &str, path: &[&str], name: &str) -> Edited<String>
     ensures { IfOk result (λ new. spec.AreKeysReplaced (map (λ s. s.now) path.now) text.now (string_bytes new)) }
 {
     let sections = sections_of(alloc, text)?;

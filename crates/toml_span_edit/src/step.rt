@@ -1,5 +1,5 @@
 //! Makes one edit, and checks that the new tree is the old one with only this change.
-ghost use Rattle.std.specs.Prelude.{◌≡◌, ◌++◌, [], IfErr, IfOk, OnErr, OnOk, Some, true, codes, map, string_bytes};
+ghost use Rattle.std.specs.Prelude.{◌≡◌, ◌++◌, [], IfErr, IfOk, OnErr, OnOk, true, codes, map, string_bytes};
 ghost use Rattle.std.specs.Prelude.{◌⊎◌};
 ghost use Rattle.toml_span_read.specs.Data.{depth_limit};
 ghost use Rattle.toml_span_tree.specs.Value.{view};
@@ -10,15 +10,15 @@ ghost use Rattle.toml_span_edit.specs.Refused as refusals;
 ghost use Rattle.toml_span_edit.specs.declared.step.Destination.TheVariants.{Here, End};
 ghost use Rattle.toml_span_edit.specs.Comments.{AddsNoComment};
 ghost use Rattle.toml_span_edit.specs.Made.{local};
-ghost use Rattle.toml_span_edit.specs.Paths.{found};
 
 use crate::comments::check_comments;
 use crate::edits::{Change, Edit};
 use crate::given::{no_value, probe_text};
 use crate::made::{Local, added, changed, child, value_at};
-use crate::reason::Reason;
+use crate::reason::{Edited, Reason};
 use crate::refusing::{check_new, check_target, confirmed};
 use crate::retrying::made_over;
+use crate::text::joined;
 use crate::texts::{edited_text, moved_text, text_without};
 use std::alloc::{AllocError, Global};
 use toml_span::value::Value;
@@ -62,7 +62,7 @@ pub(crate) fn tree<'t>(
 }
 
 /// Returns the tree of `probe`, which is `v = ` followed by `value`. Fails with `NoValue` if `probe` is not valid TOML.
-fn given_tree<'p>(alloc: Global, probe: &'p str, value: &str) -> Result<Value<'p>, Stop<Reason>>
+fn given_tree<'p>(alloc: Global, probe: &'p str, value: &str) -> Edited<Value<'p>>
     ensures { IfOk result (λ root. IsTree probe.now depth_limit root) }
 {
     match parse(alloc, probe) {
@@ -94,7 +94,7 @@ fn is_placed(
     path: &[&str],
     old: &Value<'_>,
     new: &Value<'_>,
-) -> Result<bool, Stop<Reason>>
+) -> Edited<bool>
     ensures { IfOk result (λ holds. holds ≡ true
         → spec.IsPlaced (spec.is_placed destination.entry) value.now (map (λ s. s.now) path.now) (view old.now)
         (view new.now)) }
@@ -115,7 +115,7 @@ fn is_new(
     path: &[&str],
     old: &Value<'_>,
     new: &Value<'_>,
-) -> Result<bool, Stop<Reason>>
+) -> Edited<bool>
     ensures { IfOk result (λ holds. holds ≡ true
         → spec.IsNew value.now (map (λ s. s.now) path.now) (view old.now) (view new.now)) }
 {
@@ -129,12 +129,7 @@ fn is_new(
 
 /// Returns whether the tree `new` is the tree `old` with `edit` made. Returns false for a move. Fails with `NoValue` if
 /// the edit's value can't be read.
-fn is_made(
-    alloc: Global,
-    edit: Edit<'_>,
-    old: &Value<'_>,
-    new: &Value<'_>,
-) -> Result<bool, Stop<Reason>>
+fn is_made(alloc: Global, edit: Edit<'_>, old: &Value<'_>, new: &Value<'_>) -> Edited<bool>
     ensures { IfOk result (λ holds. holds ≡ true
         → spec.Makes edit.entry.change (map (λ s. s.now) edit.entry.path.now) (view old.now) (view new.now)) }
 {
@@ -161,7 +156,7 @@ fn is_set_or_new(
     path: &[&str],
     old: &Value<'_>,
     new: &Value<'_>,
-) -> Result<bool, Stop<Reason>>
+) -> Edited<bool>
     ensures { IfOk result (λ holds. holds ≡ true
         → (spec.IsNew value.now (map (λ s. s.now) path.now) (view old.now) (view new.now))
         ⊎ (spec.IsPlaced (spec.is_placed Here) value.now (map (λ s. s.now) path.now) (view old.now) (view new.now))) }
@@ -180,7 +175,7 @@ fn is_appended(
     path: &[&str],
     old: &Value<'_>,
     new: &Value<'_>,
-) -> Result<bool, Stop<Reason>>
+) -> Edited<bool>
     ensures { IfOk result (λ holds. holds ≡ true
         → (spec.IsNew (codes "[" ++ (value.now ++ codes "]")) (map (λ s. s.now) path.now) (view old.now) (view new.now))
         ⊎ (spec.IsPlaced (spec.is_placed End) value.now (map (λ s. s.now) path.now) (view old.now) (view new.now))) }
@@ -188,9 +183,7 @@ fn is_appended(
     if value_at(path, old).is_some() {
         return is_placed(alloc, Destination::End, value, path, old, new);
     }
-    let mut list = String::from_str(alloc, "[")?;
-    list.push_str(value)?;
-    list.push_str("]")?;
+    let list = joined(alloc, "[", value, "]")?;
     is_new(alloc, list.as_str(), path, old, new)
 }
 
@@ -202,7 +195,7 @@ fn is_under(
     path: &[&str],
     old: &Value<'_>,
     new: &Value<'_>,
-) -> Result<bool, Stop<Reason>>
+) -> Edited<bool>
     ensures { IfOk result (λ holds. holds ≡ true
         → spec.IsUnder value.now (map (λ s. s.now) path.now) (view old.now) (view new.now)) }
 {
@@ -253,7 +246,7 @@ fn is_put(path: &[&str], value: &Value<'_>, old: &Value<'_>, new: &Value<'_>) ->
 }
 
 /// Returns the tree of the old text `text`. Fails with `InvalidDocument` if `text` is not valid TOML.
-pub(crate) fn old_tree<'t>(alloc: Global, text: &'t str) -> Result<Value<'t>, Stop<Reason>>
+pub(crate) fn old_tree<'t>(alloc: Global, text: &'t str) -> Edited<Value<'t>>
     ensures tree { IfOk result (λ root. IsTree text.now depth_limit root) }
     ensures refused { IfErr result (refusals.IsUnread text.now) }
 {
@@ -265,7 +258,7 @@ pub(crate) fn old_tree<'t>(alloc: Global, text: &'t str) -> Result<Value<'t>, St
 }
 
 /// Returns the tree of the new text `text`. Fails with `ResultInvalid` if `text` is not valid TOML.
-pub(crate) fn new_tree<'t>(alloc: Global, text: &'t str) -> Result<Value<'t>, Stop<Reason>>
+pub(crate) fn new_tree<'t>(alloc: Global, text: &'t str) -> Edited<Value<'t>>
     ensures tree { IfOk result (λ root. IsTree text.now depth_limit root) }
     ensures refused { IfErr result (refusals.IsUnwritten text.now) }
 {
@@ -279,7 +272,7 @@ pub(crate) fn new_tree<'t>(alloc: Global, text: &'t str) -> Result<Value<'t>, St
 /// Checks that `new` is a document whose tree is `old` with `edit` made. Fails with `ResultInvalid` if `new` is not
 /// valid TOML, with `NoValue` if the edit's value can't be read, and with `WouldDiffer` if `new` has a different tree
 /// or `edit` is a move.
-fn check_made(alloc: Global, edit: Edit<'_>, old: &Value<'_>, new: &str) -> Result<(), Stop<Reason>>
+fn check_made(alloc: Global, edit: Edit<'_>, old: &Value<'_>, new: &str) -> Edited<()>
     ensures made { OnOk result (spec.IsMade edit.entry.change (map (λ s. s.now) edit.entry.path.now) (view old.now)
         new.now) }
     ensures refused { IfErr result (refusals.IsUnwritten new.now) }
@@ -304,7 +297,7 @@ fn check_put_back(
     value: &Value<'_>,
     rest: &Value<'_>,
     new: &str,
-) -> Result<(), Stop<Reason>>
+) -> Edited<()>
     ensures { OnOk result (spec.IsPutBack (map (λ s. s.now) path.now) (view value.now) (view rest.now) new.now) }
 {
     let root = new_tree(alloc, new)?;
@@ -317,12 +310,7 @@ fn check_put_back(
 
 /// Returns the tree of `without`, a text without the value at `path`. `old` is the tree with this value. Fails with a
 /// reason if there are other differences.
-fn rest_of<'t>(
-    alloc: Global,
-    without: &'t str,
-    path: &[&str],
-    old: &Value<'_>,
-) -> Result<Value<'t>, Stop<Reason>>
+fn rest_of<'t>(alloc: Global, without: &'t str, path: &[&str], old: &Value<'_>) -> Edited<Value<'t>>
     ensures { IfOk result (λ rest. spec.IsGone (map (λ s. s.now) path.now) (view old.now) (view rest)) }
 {
     let rest = new_tree(alloc, without)?;
@@ -332,23 +320,28 @@ fn rest_of<'t>(
     Err(Stop::Fault(Reason::WouldDiffer))
 }
 
-/// Checks that `new` is a document whose tree is `old` with `value`, the value at `path`, moved to `target`. `rest` is
-/// the tree without this value. Fails with a reason if `new` has a different tree.
-fn check_moved(
+/// Returns `text` with `value`, the value at `path`, moved to `target`. `old` is the tree of `text`, and `base` what
+/// `text_without` returned for `text` and `path`. Fails with a reason if the move is refused.
+fn moved_from(
     alloc: Global,
+    text: &str,
+    base: &str,
     path: &[&str],
     target: &[&str],
     value: &Value<'_>,
-    rest: &Value<'_>,
     old: &Value<'_>,
-    new: &str,
-) -> Result<(), Stop<Reason>>
-    requires found { found (map (λ s. s.now) path.now) (view old.now) ≡ Some (view value.now) }
-    requires gone { spec.IsGone (map (λ s. s.now) path.now) (view old.now) (view rest.now) }
-    ensures { OnOk result (spec.IsMoved (map (λ s. s.now) target.now) (map (λ s. s.now) path.now)
-        (view old.now) new.now) }
+) -> Edited<String>
+    ensures moved { IfOk result (λ new. spec.IsMoved (map (λ s. s.now) target.now) (map (λ s. s.now) path.now)
+        (view value.now) (view old.now) (string_bytes new)) }
+    ensures kept { IfOk result (λ new. (kept.IsInserted base.now (string_bytes new))
+        ⊎ ((kept.HasOtherHeaders text.now (string_bytes new))
+        ⊎ (kept.AreKeysReplaced (map (λ s. s.now) path.now) text.now (string_bytes new)))) }
 {
-    check_put_back(alloc, target, value, rest, new)
+    let rest = rest_of(alloc, base, path, old)?;
+    check_target(alloc, text, path, target, &rest, old)?;
+    let new = moved_text(alloc, text, base, path, target, value, old)?;
+    check_put_back(alloc, target, value, &rest, new.as_str())?;
+    Ok(new)
 }
 
 /// Returns `text` with `value`, the value at `path`, moved to `target`. `old` is the tree of `text`. Fails with a
@@ -360,20 +353,15 @@ fn move_value(
     target: &[&str],
     value: &Value<'_>,
     old: &Value<'_>,
-) -> Result<String, Stop<Reason>>
-    requires { found (map (λ s. s.now) path.now) (view old.now) ≡ Some (view value.now) }
+) -> Edited<String>
     ensures moved { IfOk result (λ new. spec.IsMoved (map (λ s. s.now) target.now) (map (λ s. s.now) path.now)
-        (view old.now) (string_bytes new)) }
+        (view value.now) (view old.now) (string_bytes new)) }
     ensures kept { IfOk result (λ new. kept.IsMovedText (map (λ s. s.now) path.now) (view old.now) text.now
         (string_bytes new)) }
     ensures none { IfOk result (λ new. AddsNoComment [] text.now (string_bytes new)) }
 {
     let without = text_without(alloc, text, path, old)?;
-    let base = without.as_str();
-    let rest = rest_of(alloc, base, path, old)?;
-    check_target(alloc, text, path, target, &rest, old)?;
-    let new = moved_text(alloc, text, base, path, target, value, old)?;
-    check_moved(alloc, path, target, value, &rest, old, new.as_str())?;
+    let new = moved_from(alloc, text, without.as_str(), path, target, value, old)?;
     check_comments(alloc, "", text, new.as_str())?;
     Ok(new)
 }
@@ -387,10 +375,9 @@ fn moved(
     target: &[&str],
     value: &Value<'_>,
     old: &Value<'_>,
-) -> Result<String, Stop<Reason>>
-    requires { found (map (λ s. s.now) edit.path.now) (view old.now) ≡ Some (view value.now) }
+) -> Edited<String>
     ensures moved { IfOk result (λ new. spec.IsMoved (map (λ s. s.now) target.now)
-        (map (λ s. s.now) edit.entry.path.now) (view old.now) (string_bytes new)) }
+        (map (λ s. s.now) edit.entry.path.now) (view value.now) (view old.now) (string_bytes new)) }
     ensures kept { IfOk result (λ new. kept.IsMovedText (map (λ s. s.now) edit.entry.path.now) (view old.now) text.now
         (string_bytes new)) }
     ensures none { IfOk result (λ new. AddsNoComment [] text.now (string_bytes new)) }
@@ -405,12 +392,7 @@ fn moved(
 
 /// Returns the text that `edited_text` returns for these arguments. Fails with `AlreadyThere` if the edit would replace
 /// a value that it must not replace, and with another reason if `edited_text` fails.
-fn proposed(
-    alloc: Global,
-    text: &str,
-    edit: Edit<'_>,
-    old: &Value<'_>,
-) -> Result<String, Stop<Reason>>
+fn proposed(alloc: Global, text: &str, edit: Edit<'_>, old: &Value<'_>) -> Edited<String>
     ensures { IfOk result (λ new. kept.Keeps edit.entry.change (map (λ s. s.now) edit.entry.path.now)
         (view old.now) text.now (string_bytes new)) }
 {
@@ -420,12 +402,7 @@ fn proposed(
 
 /// Returns the text that `proposed` returns for these arguments. Fails with a reason if that fails, or if its tree is
 /// not `old` with `edit` made. Always refuses a move.
-fn checked(
-    alloc: Global,
-    text: &str,
-    edit: Edit<'_>,
-    old: &Value<'_>,
-) -> Result<String, Stop<Reason>>
+fn checked(alloc: Global, text: &str, edit: Edit<'_>, old: &Value<'_>) -> Edited<String>
     ensures made { IfOk result (λ new. spec.IsMade edit.entry.change (map (λ s. s.now) edit.entry.path.now)
         (view old.now) (string_bytes new)) }
     ensures kept { IfOk result (λ new. kept.Keeps edit.entry.change (map (λ s. s.now) edit.entry.path.now)
@@ -445,12 +422,7 @@ fn checked(
 
 /// Returns `text` with `edit` made, as `checked` does or, if that fails, by writing the value over a literal. `old` is
 /// the tree of `text`. Fails with a reason if `edit` is refused. Always refuses a move.
-fn edit_value(
-    alloc: Global,
-    text: &str,
-    edit: Edit<'_>,
-    old: &Value<'_>,
-) -> Result<String, Stop<Reason>>
+fn edit_value(alloc: Global, text: &str, edit: Edit<'_>, old: &Value<'_>) -> Edited<String>
     ensures made { IfOk result (λ new. spec.IsMade edit.entry.change (map (λ s. s.now) edit.entry.path.now)
         (view old.now) (string_bytes new)) }
     ensures kept { IfOk result (λ new. kept.Keeps edit.entry.change (map (λ s. s.now) edit.entry.path.now)
@@ -473,12 +445,7 @@ fn edit_value(
 }
 
 /// Returns `text` with `edit` made. `old` is the tree of `text`. Fails with a reason if `edit` is refused.
-fn changed_text(
-    alloc: Global,
-    text: &str,
-    edit: Edit<'_>,
-    old: &Value<'_>,
-) -> Result<String, Stop<Reason>>
+fn changed_text(alloc: Global, text: &str, edit: Edit<'_>, old: &Value<'_>) -> Edited<String>
     requires { IsTree text.now depth_limit old.now }
     ensures made { IfOk result (λ new. spec.EditMade edit.entry text.now (string_bytes new)) }
     ensures refused { IfErr result (refusals.IsRefused edit.entry text.now) }
@@ -494,7 +461,7 @@ fn changed_text(
 
 /// Returns `text` with `edit` made. Fails with a reason if `text` is not a document, or if `edit` can't be made without
 /// changing anything else in the tree or the text.
-pub(crate) fn step(alloc: Global, text: &str, edit: Edit<'_>) -> Result<String, Stop<Reason>>
+pub(crate) fn step(alloc: Global, text: &str, edit: Edit<'_>) -> Edited<String>
     ensures made { IfOk result (λ new. spec.EditMade edit.entry text.now (string_bytes new)) }
     ensures refused { IfErr result (refusals.IsRefused edit.entry text.now) }
 {

@@ -8,23 +8,22 @@ use crate::adding::{add, put_lines};
 use crate::comments::check_comments;
 use crate::document::{Document, sections_of};
 use crate::edits::{Change, Edit};
-use crate::given::check_value;
 use crate::growing::{append, insert};
-use crate::headed::element_text;
+use crate::headed::{ElementPlace, element_text};
 use crate::inlined::inline_text;
 use crate::items::{Item, bare};
 use crate::kept::{keeps_around, only_comments};
-use crate::lines::comments_above;
+use crate::lines::{comments_above, line_end, part};
 use crate::made::value_at;
 use crate::mentions::{PathMention, last_part};
-use crate::missing::{Place, add_deep, add_table, put_section};
+use crate::missing::{add_deep, add_table, put_section};
 use crate::moving::{
     Site, are_headers, header_comments, is_in_braces, keep_header, moved_value, put_moved,
     rename_headers, section_site, sections_text,
 };
 use crate::plan::Plan;
 use crate::reach::around;
-use crate::reason::Reason;
+use crate::reason::{Edited, Reason, already_there};
 use crate::removing::remove;
 use crate::setting::{Written, how_written, renamed_text, set_text, write_over};
 use std::alloc::Global;
@@ -34,14 +33,26 @@ use toml_span_places::section_lines;
 
 // ---- what is inserted
 
+/// What is inserted into a text.
+#[derive(Clone, Copy)]
+enum Insertion<'i> {
+    /// What this change adds at a path.
+    Change(Change<'i>),
+    /// This value, at a path.
+    Moved(Item<'i>),
+    /// A header of the table around the value at a path, if the table exists only because of this value, which only
+    /// headers must name.
+    Header,
+}
+
 /// Adds to `plan` the replacements that make `change` at `path`. Fails with a reason if `change` can't be made there,
 /// and with `WouldDiffer` for `Set`, `Replace`, `Rename`, `Remove` and `MoveTo`.
-fn plan(
+fn plan_change(
     document: Document<'_, '_>,
     path: &[&str],
     change: Change<'_>,
     plan: &mut Plan,
-) -> Result<(), Stop<Reason>> {
+) -> Edited<()> {
     match change {
         Change::SetOrAdd(value) => add_deep(document, path, value, plan),
         Change::Add(value) => add(document, path, value, plan),
@@ -52,13 +63,27 @@ fn plan(
     }
 }
 
-/// Returns `text` with `change` made at `path`, only by inserting text. Fails with a reason if this is not possible.
+/// Adds to `plan` the replacements that insert `insertion` at `path`. Fails with a reason if this is not possible.
+fn plan(
+    document: Document<'_, '_>,
+    path: &[&str],
+    insertion: Insertion<'_>,
+    plan: &mut Plan,
+) -> Edited<()> {
+    match insertion {
+        Insertion::Change(change) => plan_change(document, path, change, plan),
+        Insertion::Moved(item) => put_moved(document, path, item, plan),
+        Insertion::Header => Ok(keep_header(document, path, plan)?),
+    }
+}
+
+/// Returns `text` with `insertion` at `path`, only by inserting text. Fails with a reason if this is not possible.
 fn inserted_text(
     alloc: Global,
     text: &str,
     path: &[&str],
-    change: Change<'_>,
-) -> Result<String, Stop<Reason>>
+    insertion: Insertion<'_>,
+) -> Edited<String>
     ensures { IfOk result (λ new. spec.IsInserted text.now (string_bytes new)) }
 {
     let sections = sections_of(alloc, text)?;
@@ -68,7 +93,7 @@ fn inserted_text(
         sections: sections.as_slice(),
     };
     let mut pieces = Plan::new(alloc);
-    plan(document, path, change, &mut pieces)?;
+    plan(document, path, insertion, &mut pieces)?;
     pieces.inserted(text)
 }
 
@@ -80,10 +105,10 @@ fn added_text(
     path: &[&str],
     change: Change<'_>,
     value: &str,
-) -> Result<String, Stop<Reason>>
+) -> Edited<String>
     ensures { IfOk result (λ new. spec.IsAdded value.now text.now (string_bytes new)) }
 {
-    let new = inserted_text(alloc, text, path, change)?;
+    let new = inserted_text(alloc, text, path, Insertion::Change(change))?;
     check_comments(alloc, value, text, new.as_str())?;
     Ok(new)
 }
@@ -97,13 +122,12 @@ fn set_or_added_text(
     path: &[&str],
     value: &str,
     old: &Value<'_>,
-) -> Result<String, Stop<Reason>>
+) -> Edited<String>
     ensures { IfOk result (λ new.
         (spec.IsWrittenOver value.now (map (λ s. s.now) path.now) (view old.now) text.now (string_bytes new))
         ⊎ (spec.IsAdded value.now text.now (string_bytes new))) }
 {
-    check_value(alloc, value)?;
-    match how_written(alloc, text, path, old)? {
+    match how_written(alloc, text, path, value, old)? {
         Written::Literal => write_over(alloc, text, path, value, old),
         _ if path.is_empty() => Err(Stop::Fault(Reason::Root)),
         Written::Otherwise => Err(Stop::Fault(Reason::NotLiteral)),
@@ -115,18 +139,14 @@ fn set_or_added_text(
 
 /// Returns the text of `document` without the value at `path` and, if `cuts_comments`, without the comment lines
 /// directly above it. Fails with a reason if the value can't be removed.
-fn removed(
-    document: Document<'_, '_>,
-    path: &[&str],
-    cuts_comments: bool,
-) -> Result<String, Stop<Reason>> {
+fn removed(document: Document<'_, '_>, path: &[&str], cuts_comments: bool) -> Edited<String> {
     let mut pieces = Plan::new(document.alloc);
     remove(document, path, cuts_comments, &mut pieces)?;
     pieces.applied(document.text)
 }
 
 /// Returns `new` if it can be made from `text` by replacing the bytes `start..end`. Fails with `WouldDiffer` otherwise.
-fn if_around(text: &str, start: usize, end: usize, new: String) -> Result<String, Stop<Reason>>
+fn if_around(text: &str, start: usize, end: usize, new: String) -> Edited<String>
     ensures { IfOk result (λ out. spec.KeepsAround text.now (record { start = start; end = end })
         (string_bytes out)) }
 {
@@ -137,15 +157,16 @@ fn if_around(text: &str, start: usize, end: usize, new: String) -> Result<String
     }
 }
 
-/// Returns `text` without the value at `path`. `old` is the tree of `text`. Fails with a reason if the value can't be
-/// removed, or if bytes outside the span that `around` returns would change.
-fn cut_text(
+/// Returns what `removed` returns for the document `text`, and the span that `around` returns for it and `old`, its
+/// tree. Fails if one of these fails.
+fn removed_around(
     alloc: Global,
     text: &str,
     path: &[&str],
+    cuts_comments: bool,
     old: &Value<'_>,
-) -> Result<String, Stop<Reason>>
-    ensures { IfOk result (λ new. spec.IsCut (map (λ s. s.now) path.now) (view old.now) text.now (string_bytes new)) }
+) -> Edited<(String, Span)>
+    ensures { IfOk result (λ cut. spec.IsAround (map (λ s. s.now) path.now) (view old.now) text.now cut.1) }
 {
     let sections = sections_of(alloc, text)?;
     let document = Document {
@@ -153,8 +174,17 @@ fn cut_text(
         text,
         sections: sections.as_slice(),
     };
-    let new = removed(document, path, false)?;
+    let new = removed(document, path, cuts_comments)?;
     let span = around(document, path, old)?;
+    Ok((new, span))
+}
+
+/// Returns `text` without the value at `path`. `old` is the tree of `text`. Fails with a reason if the value can't be
+/// removed, or if bytes outside the span that `around` returns would change.
+fn cut_text(alloc: Global, text: &str, path: &[&str], old: &Value<'_>) -> Edited<String>
+    ensures { IfOk result (λ new. spec.IsCut (map (λ s. s.now) path.now) (view old.now) text.now (string_bytes new)) }
+{
+    let (new, span) = removed_around(alloc, text, path, false, old)?;
     if_around(text, span.start, span.end, new)
 }
 
@@ -173,69 +203,49 @@ fn comments_from(text: &str, at: usize) -> usize
 /// Returns `text` without the value at `path` and the comment lines directly above it. `old` is the tree of `text`.
 /// Fails with a reason if the value can't be removed, or if bytes outside the span that `around` returns, and outside
 /// the comment lines directly above this span, would change.
-fn cut_with_comments(
-    alloc: Global,
-    text: &str,
-    path: &[&str],
-    old: &Value<'_>,
-) -> Result<String, Stop<Reason>>
+fn cut_with_comments(alloc: Global, text: &str, path: &[&str], old: &Value<'_>) -> Edited<String>
     ensures { IfOk result (λ new. spec.IsCutWithComments (map (λ s. s.now) path.now) (view old.now) text.now
         (string_bytes new)) }
 {
-    let sections = sections_of(alloc, text)?;
-    let document = Document {
-        alloc,
-        text,
-        sections: sections.as_slice(),
-    };
-    let new = removed(document, path, true)?;
-    let span = around(document, path, old)?;
+    let (new, span) = removed_around(alloc, text, path, true, old)?;
     if_around(text, comments_from(text, span.start), span.end, new)
 }
 
-/// An element of an array of tables.
-#[derive(Drop)]
-struct Element {
-    /// Where its section begins, and the header.
-    place: Place,
-    /// Whether the array has no other elements.
-    is_only: bool,
-}
-
-/// Returns the element of an array of tables to which `path` leads. Returns `None` if `path` leads to any other value,
-/// or names nothing. Fails with `WouldDiffer` if `text` can't be split into sections.
-fn element_at(alloc: Global, text: &str, path: &[&str]) -> Result<Option<Element>, Stop<Reason>> {
+/// Returns where the section of the element of an array of tables at `path` begins, and whether the array has no other
+/// elements. Returns `None` if `path` leads to any other value, or names nothing. Fails with `WouldDiffer` if `text`
+/// can't be split into sections.
+fn element_at<'t>(
+    alloc: Global,
+    text: &'t str,
+    path: &[&str],
+) -> Edited<Option<(ElementPlace<'t>, bool)>> {
+    let [front @ .., _] = path else {
+        return Ok(None);
+    };
     let sections = sections_of(alloc, text)?;
     let document = Document {
         alloc,
         text,
         sections: sections.as_slice(),
     };
+    let count = document.mentions(front)?.len();
     let mentions = document.mentions(path)?;
-    let ([front @ .., _], Some(PathMention::Own(section))) = (path, mentions.as_slice().first())
-    else {
-        return Ok(None);
-    };
-    if !section.array {
-        return Ok(None);
-    }
-    let header = document.header_text(*section, last_part(*section));
-    let place = Place {
-        at: section_lines(text, *section).start,
-        header: String::from_str(alloc, header)?,
-    };
-    let is_only = document.mentions(front)?.len() == mentions.len();
-    Ok(Some(Element { place, is_only }))
+    Ok(match mentions.as_slice().first() {
+        Some(PathMention::Own(section)) if section.array => {
+            let span = document.header_span(*section, last_part(*section));
+            let place = ElementPlace {
+                at: section_lines(text, *section).start,
+                header: part(text, span.start, span.end),
+            };
+            Some((place, count == mentions.len()))
+        }
+        _ => None,
+    })
 }
 
 /// Returns `text` without the array of tables that holds the value at `path`, and with `[]` in its place. `old` is the
 /// tree of `text`. Fails with a reason if this is not possible.
-fn emptied_text(
-    alloc: Global,
-    text: &str,
-    path: &[&str],
-    old: &Value<'_>,
-) -> Result<String, Stop<Reason>>
+fn emptied_text(alloc: Global, text: &str, path: &[&str], old: &Value<'_>) -> Edited<String>
     ensures { IfOk result (λ new. spec.IsEmptied (map (λ s. s.now) path.now) (view old.now) text.now
         (string_bytes new)) }
 {
@@ -243,7 +253,8 @@ fn emptied_text(
         return Err(Stop::Fault(Reason::Root));
     };
     let without = cut_with_comments(alloc, text, front, old)?;
-    inserted_text(alloc, without.as_str(), front, Change::SetOrAdd("[]"))
+    let empty = Insertion::Change(Change::SetOrAdd("[]"));
+    inserted_text(alloc, without.as_str(), front, empty)
 }
 
 /// Returns `text` without the value at `path`, and without the comments directly above it. If the value is the only
@@ -254,28 +265,18 @@ pub(crate) fn text_without(
     text: &str,
     path: &[&str],
     old: &Value<'_>,
-) -> Result<String, Stop<Reason>>
+) -> Edited<String>
     ensures { IfOk result (λ new. spec.IsRemoved (map (λ s. s.now) path.now) (view old.now) text.now
         (string_bytes new)) }
 {
-    let is_only = match element_at(alloc, text, path)? {
-        Some(element) => element.is_only,
-        None => false,
-    };
-    if is_only {
-        emptied_text(alloc, text, path, old)
-    } else {
-        cut_with_comments(alloc, text, path, old)
+    match element_at(alloc, text, path)? {
+        Some((_, true)) => emptied_text(alloc, text, path, old),
+        _ => cut_with_comments(alloc, text, path, old),
     }
 }
 
 /// Returns what `text_without` returns for `text` and `path`. Fails with `WouldDiffer` if it has a comment more.
-fn removed_text(
-    alloc: Global,
-    text: &str,
-    path: &[&str],
-    old: &Value<'_>,
-) -> Result<String, Stop<Reason>>
+fn removed_text(alloc: Global, text: &str, path: &[&str], old: &Value<'_>) -> Edited<String>
     ensures { IfOk result (λ new. (spec.IsRemoved (map (λ s. s.now) path.now) (view old.now) text.now
         (string_bytes new)) × (AddsNoComment [] text.now (string_bytes new))) }
 {
@@ -292,31 +293,22 @@ fn cut_then_added(
     path: &[&str],
     value: &str,
     old: &Value<'_>,
-) -> Result<String, Stop<Reason>>
+) -> Edited<String>
     ensures { IfOk result (λ new. spec.IsCutThenInserted (map (λ s. s.now) path.now) (view old.now) text.now
         (string_bytes new)) }
 {
     let without = cut_text(alloc, text, path, old)?;
-    inserted_text(alloc, without.as_str(), path, Change::SetOrAdd(value))
+    let insertion = Insertion::Change(Change::SetOrAdd(value));
+    inserted_text(alloc, without.as_str(), path, insertion)
 }
 
 /// Returns `text` with `value`, an inline table, as a section with the header of `place` and at its offset.
-fn with_element(
-    alloc: Global,
-    text: &str,
-    place: &Place,
-    value: &str,
-) -> Result<String, Stop<Reason>>
+fn with_element(alloc: Global, text: &str, place: ElementPlace<'_>, value: &str) -> Edited<String>
     ensures { IfOk result (λ new. spec.IsInserted text.now (string_bytes new)) }
 {
-    let document = Document {
-        alloc,
-        text,
-        sections: &[],
-    };
-    let lines = element_text(document, place.header.as_str(), value)?;
+    let lines = element_text(alloc, line_end(text), place.header, value)?;
     let mut pieces = Plan::new(alloc);
-    put_lines(document, place.at, lines.as_str(), &mut pieces)?;
+    put_lines(text, place.at, lines.as_str(), &mut pieces);
     pieces.inserted(text)
 }
 
@@ -326,10 +318,10 @@ fn cut_then_written(
     alloc: Global,
     text: &str,
     path: &[&str],
-    place: &Place,
+    place: ElementPlace<'_>,
     value: &str,
     old: &Value<'_>,
-) -> Result<String, Stop<Reason>>
+) -> Edited<String>
     ensures { IfOk result (λ new. spec.IsCutThenInserted (map (λ s. s.now) path.now) (view old.now) text.now
         (string_bytes new)) }
 {
@@ -343,10 +335,10 @@ fn array_rewritten(
     alloc: Global,
     text: &str,
     path: &[&str],
-    place: &Place,
+    place: ElementPlace<'_>,
     value: &str,
     old: &Value<'_>,
-) -> Result<String, Stop<Reason>>
+) -> Edited<String>
     ensures { IfOk result (λ new. spec.IsRewritten (map (λ s. s.now) path.now) (view old.now) text.now
         (string_bytes new)) }
 {
@@ -364,20 +356,18 @@ fn rewritten_text(
     path: &[&str],
     value: &str,
     old: &Value<'_>,
-) -> Result<String, Stop<Reason>>
+) -> Edited<String>
     ensures { IfOk result (λ new. spec.IsRewritten (map (λ s. s.now) path.now) (view old.now) text.now
         (string_bytes new)) }
 {
     if path.is_empty() {
         return Err(Stop::Fault(Reason::Root));
     }
-    let Some(Element { place, is_only }) = element_at(alloc, text, path)? else {
-        return cut_then_added(alloc, text, path, value, old);
-    };
-    if is_only {
-        return array_rewritten(alloc, text, path, &place, value, old);
+    match element_at(alloc, text, path)? {
+        Some((place, true)) => array_rewritten(alloc, text, path, place, value, old),
+        Some((place, false)) => cut_then_written(alloc, text, path, place, value, old),
+        None => cut_then_added(alloc, text, path, value, old),
     }
-    cut_then_written(alloc, text, path, &place, value, old)
 }
 
 /// Returns what `rewritten_text` returns for these arguments. Fails with `WouldDiffer` if that has a comment that is
@@ -388,7 +378,7 @@ fn checked_text(
     path: &[&str],
     value: &str,
     old: &Value<'_>,
-) -> Result<String, Stop<Reason>>
+) -> Edited<String>
     ensures { IfOk result (λ new. (spec.IsRewritten (map (λ s. s.now) path.now) (view old.now) text.now
         (string_bytes new)) × (AddsNoComment value.now text.now (string_bytes new))) }
 {
@@ -405,14 +395,13 @@ fn replaced_text(
     path: &[&str],
     value: &str,
     old: &Value<'_>,
-) -> Result<String, Stop<Reason>>
+) -> Edited<String>
     ensures { IfOk result (λ new.
         (spec.IsWrittenOver value.now (map (λ s. s.now) path.now) (view old.now) text.now (string_bytes new))
         ⊎ ((spec.IsRewritten (map (λ s. s.now) path.now) (view old.now) text.now (string_bytes new))
         × (AddsNoComment value.now text.now (string_bytes new)))) }
 {
-    check_value(alloc, value)?;
-    match how_written(alloc, text, path, old)? {
+    match how_written(alloc, text, path, value, old)? {
         Written::Literal => write_over(alloc, text, path, value, old),
         _ => checked_text(alloc, text, path, value, old),
     }
@@ -420,53 +409,9 @@ fn replaced_text(
 
 // ---- what is moved
 
-/// Returns `text` with the value `item` added at `path`. Fails with a reason if this is not possible.
-fn put_text(
-    alloc: Global,
-    text: &str,
-    path: &[&str],
-    item: Item<'_>,
-) -> Result<String, Stop<Reason>>
-    ensures { IfOk result (λ new. spec.IsInserted text.now (string_bytes new)) }
-{
-    let sections = sections_of(alloc, text)?;
-    let document = Document {
-        alloc,
-        text,
-        sections: sections.as_slice(),
-    };
-    let mut pieces = Plan::new(alloc);
-    put_moved(document, path, item, &mut pieces)?;
-    pieces.inserted(text)
-}
-
-/// Returns `text` with a header of the table around the value at `path`, if that table exists only because of this
-/// value. Only headers must name the value.
-fn kept_text(alloc: Global, text: &str, path: &[&str]) -> Result<String, Stop<Reason>>
-    ensures { IfOk result (λ new. spec.IsInserted text.now (string_bytes new)) }
-{
-    let sections = sections_of(alloc, text)?;
-    let document = Document {
-        alloc,
-        text,
-        sections: sections.as_slice(),
-    };
-    let mut pieces = Plan::new(alloc);
-    if let [front @ .., _] = path {
-        let mentions = document.mentions(path)?;
-        keep_header(document, front, mentions.as_slice(), &mut pieces)?;
-    }
-    pieces.inserted(text)
-}
-
 /// Returns `text` with `header` in place of `path` in the headers of the table, or array of tables, at `path`, and of
 /// the tables inside it. Fails with a reason if this is not possible.
-fn headers_text(
-    alloc: Global,
-    text: &str,
-    path: &[&str],
-    header: &str,
-) -> Result<String, Stop<Reason>>
+fn headers_text(alloc: Global, text: &str, path: &[&str], header: &str) -> Edited<String>
     ensures { IfOk result (λ new. spec.AreHeadersReplaced text.now (string_bytes new)) }
 {
     let sections = sections_of(alloc, text)?;
@@ -482,30 +427,11 @@ fn headers_text(
 
 /// Returns `text` with the headers of the table, or array of tables, at `path` rewritten, so that they begin with
 /// `header`. A table that exists only because of it gets a header. Fails with a reason if this is not possible.
-fn renamed_headers(
-    alloc: Global,
-    text: &str,
-    path: &[&str],
-    header: &str,
-) -> Result<String, Stop<Reason>>
+fn renamed_headers(alloc: Global, text: &str, path: &[&str], header: &str) -> Edited<String>
     ensures { IfOk result (λ new. spec.HasOtherHeaders text.now (string_bytes new)) }
 {
-    let kept = kept_text(alloc, text, path)?;
+    let kept = inserted_text(alloc, text, path, Insertion::Header)?;
     headers_text(alloc, kept.as_str(), path, header)
-}
-
-/// Returns `text` with `lines` added at `site`.
-fn put_sections(alloc: Global, text: &str, site: &Site, lines: &str) -> Result<String, Stop<Reason>>
-    ensures { IfOk result (λ new. spec.IsInserted text.now (string_bytes new)) }
-{
-    let document = Document {
-        alloc,
-        text,
-        sections: &[],
-    };
-    let mut pieces = Plan::new(alloc);
-    put_section(document, site.place.at, lines, &mut pieces)?;
-    pieces.inserted(text)
 }
 
 /// Returns where the sections of the value at `path` of `document` are written when it is moved to `target`. `without`
@@ -517,18 +443,57 @@ fn site_of(
     path: &[&str],
     target: &[&str],
     is_table: bool,
-) -> Result<Option<Site>, Stop<Reason>> {
+) -> Edited<Option<Site>> {
+    let is_braced = is_in_braces(document.mentions(path)?.as_slice());
     let sections = sections_of(document.alloc, without)?;
     let rest = Document {
         alloc: document.alloc,
         text: without,
         sections: sections.as_slice(),
     };
-    let found = section_site(rest, target)?;
-    if is_in_braces(document.mentions(path)?.as_slice()) {
-        return Ok(None);
+    match section_site(rest, target)? {
+        Some(site) if !is_braced && (is_table || !site.is_element) => Ok(Some(site)),
+        _ => Ok(None),
     }
-    Ok(found.filter(|site| is_table || !site.is_element))
+}
+
+/// Returns `without`, a text without the value `value` at `path`, with this value as one TOML value at `target`.
+/// Headers or dotted keys define it in `document`. Fails with a reason if this is not possible.
+fn inline_moved(
+    document: Document<'_, '_>,
+    without: &str,
+    path: &[&str],
+    target: &[&str],
+    value: &Value<'_>,
+) -> Edited<String>
+    ensures { IfOk result (λ new. spec.IsInserted without.now (string_bytes new)) }
+{
+    let (above, note) = header_comments(document, path)?;
+    let text = inline_text(document, path, value)?;
+    let value = text.as_str();
+    let insertion = Insertion::Moved(Item { above, value, note });
+    inserted_text(document.alloc, without, target, insertion)
+}
+
+/// Returns `text` of `document` with the value at `path`, which headers or dotted keys define, moved to `site`.
+/// `without` is the text without it. Fails with a reason if the value can't be moved.
+fn sections_moved(
+    document: Document<'_, '_>,
+    without: &str,
+    path: &[&str],
+    site: &Site,
+) -> Edited<String>
+    ensures { IfOk result (λ new. (spec.IsInserted without.now (string_bytes new))
+        ⊎ (spec.HasOtherHeaders document.entry.text.now (string_bytes new))) }
+{
+    let header = site.header.as_str();
+    if site.is_plain && are_headers(document.mentions(path)?.as_slice()) {
+        return renamed_headers(document.alloc, document.text, path, header);
+    }
+    let lines = sections_text(document, path, header, site.is_element)?;
+    let mut pieces = Plan::new(document.alloc);
+    put_section(without, site.at, lines.as_str(), &mut pieces);
+    pieces.inserted(without)
 }
 
 /// Returns `text` with the value `value` at `path`, which headers or dotted keys define, moved to `target`. `without`
@@ -539,24 +504,14 @@ fn table_text(
     path: &[&str],
     target: &[&str],
     value: &Value<'_>,
-) -> Result<String, Stop<Reason>>
+) -> Edited<String>
     ensures { IfOk result (λ new. (spec.IsInserted without.now (string_bytes new))
-        ⊎ ((spec.HasOtherHeaders document.entry.text.now (string_bytes new))
-        ⊎ (spec.AreKeysReplaced (map (λ s. s.now) path.now) document.entry.text.now (string_bytes new)))) }
+        ⊎ (spec.HasOtherHeaders document.entry.text.now (string_bytes new))) }
 {
-    let alloc = document.alloc;
-    let Some(site) = site_of(document, without, path, target, value.as_table().is_some())? else {
-        let text = inline_text(document, path, value)?;
-        let (above, note) = header_comments(document, path)?;
-        let value = text.as_str();
-        return put_text(alloc, without, target, Item { above, value, note });
-    };
-    let header = site.place.header.as_str();
-    if site.is_plain && are_headers(document.mentions(path)?.as_slice()) {
-        return renamed_headers(alloc, document.text, path, header);
+    match site_of(document, without, path, target, value.as_table().is_some())? {
+        Some(site) => sections_moved(document, without, path, &site),
+        None => inline_moved(document, without, path, target, value),
     }
-    let lines = sections_text(document, path, header, site.is_element)?;
-    put_sections(alloc, without, &site, lines.as_str())
 }
 
 /// Returns the new name of the value at `path` if moving it to `target` only renames its key: if both paths lead into
@@ -566,7 +521,7 @@ fn new_name<'t>(
     path: &[&str],
     target: &[&'t str],
     old: &Value<'_>,
-) -> Result<Option<&'t str>, Stop<Reason>> {
+) -> Edited<Option<&'t str>> {
     let ([front @ .., _], [new_front @ .., name]) = (path, target) else {
         return Ok(None);
     };
@@ -575,7 +530,7 @@ fn new_name<'t>(
         _ => return Ok(None),
     };
     if value_at(&[*name], table).is_some() {
-        return Err(Stop::Fault(Reason::AlreadyThere(String::new(alloc))));
+        return Err(already_there(alloc));
     }
     Ok(Some(*name))
 }
@@ -590,7 +545,7 @@ pub(crate) fn moved_text(
     target: &[&str],
     value: &Value<'_>,
     old: &Value<'_>,
-) -> Result<String, Stop<Reason>>
+) -> Edited<String>
     ensures { IfOk result (λ new. (spec.IsInserted without.now (string_bytes new))
         ⊎ ((spec.HasOtherHeaders text.now (string_bytes new))
         ⊎ (spec.AreKeysReplaced (map (λ s. s.now) path.now) text.now (string_bytes new)))) }
@@ -605,7 +560,7 @@ pub(crate) fn moved_text(
         sections: sections.as_slice(),
     };
     match moved_value(document, path)? {
-        Some(item) => put_text(alloc, without, target, item),
+        Some(item) => inserted_text(alloc, without, target, Insertion::Moved(item)),
         None => table_text(document, without, path, target, value),
     }
 }
@@ -619,7 +574,7 @@ pub(crate) fn edited_text(
     text: &str,
     edit: Edit<'_>,
     old: &Value<'_>,
-) -> Result<String, Stop<Reason>>
+) -> Edited<String>
     ensures { IfOk result (λ new. spec.Keeps edit.entry.change (map (λ s. s.now) edit.entry.path.now)
         (view old.now) text.now (string_bytes new)) }
 {
