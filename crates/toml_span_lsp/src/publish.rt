@@ -104,10 +104,11 @@ fn diagnosed(
     let (name, text) = (document.name.as_str(), document.text.as_str());
     let (version, chooser) = (settings.version, lookup.chooser());
     if lookup.has_no_schema(alloc, name, text)? {
-        diagnostics_without_schema(alloc, encoding, version, name, text)
-    } else {
-        diagnostics(alloc, encoding, version, chooser, name, text, lookup)
+        let made = diagnostics_without_schema(alloc, encoding, version, name, text)?;
+        return Ok(made);
     }
+    let made = diagnostics(alloc, encoding, version, chooser, name, text, lookup)?;
+    Ok(made)
 }
 
 /// Adds `complaint`, error lines about `document` and its schema, to `notices`. Does nothing if `complaint` is empty,
