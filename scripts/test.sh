@@ -109,10 +109,10 @@ crates_at_once=$(awk -v all="$(nproc)" '/^MemAvailable/ {
     fit = int($2 / 5e6)
     print fit < 1 ? 1 : fit < all ? fit : all
 }' /proc/meminfo)
-# (all crates wait for toml_span_tree and what it uses, so these get all processors: a run without RT_JOBS shares them out)
+# (all crates wait for toml_span_tree and what it uses, so these get all processors: without RT_JOBS, these are shared)
 # shellcheck disable=SC2016 # (the variable is for that shell)
-(cd "$gate" && python3 "$scripts/timed.py" sh -c 'rt ci toml_span_tree; RT_JOBS=$0 rt ci' "${RT_JOBS:-$crates_at_once}") \
-    2>&1 | tee "$work/log"
+proofs='rt ci toml_span_tree; RT_JOBS=$0 rt ci'
+(cd "$gate" && python3 "$scripts/timed.py" sh -c "$proofs" "${RT_JOBS:-$crates_at_once}") 2>&1 | tee "$work/log"
 status=${PIPESTATUS[0]}
 if [[ $(grep -E '^[0-9]+ passed, [0-9]+ failed' "$work/log" | tail -n 1) =~ ^([0-9]+)\ passed,\ ([0-9]+) ]]; then
     passed=${BASH_REMATCH[1]}

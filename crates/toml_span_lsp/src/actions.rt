@@ -49,8 +49,8 @@ fn is_wanted(params: &Value<'_>, kind: &str) -> bool {
     }
 }
 
-/// Returns whether to list actions of a kind that is not about a diagnostic at the cursor: the client wants the kind (see
-/// `is_wanted`), and the user made the request or the client lists kinds.
+/// Returns whether to list actions of a kind that is not about a diagnostic at the cursor: the client wants the kind
+/// (see `is_wanted`), and the user made the request or the client lists kinds.
 fn is_asked_for(params: &Value<'_>, kind: &str) -> bool {
     let trigger = member(params, &["context", "triggerKind"]);
     let is_automatic = trigger.and_then(|number| number.as_u64()) == Some(AUTOMATIC);
@@ -180,8 +180,8 @@ fn is_of_schema(report: &Report) -> bool {
 }
 
 /// Writes an action for each repair of a diagnostic of the open document that touches `span`, one for each missing key
-/// of a table there, and if the client asks for it (see `is_asked_for`), one with the edits of `all_repairs`. Leaves out kinds that the
-/// client does not want.
+/// of a table there, and if the client asks for it (see `is_asked_for`), one with the edits of `all_repairs`. Leaves out
+/// kinds that the client does not want.
 fn write_fixes(
     request: &Request<'_, '_, '_>,
     document: Option<&Document<'_>>,

@@ -7,8 +7,8 @@ use toml_span_editor::syntax::Syntax;
 use toml_span_editor::table::PositionTable;
 use toml_span_lines::run::BOUND;
 
-/// The length of a text in bytes up to which it has an outline and semantic tokens, and its statements are kept. A longer
-/// one has the tokens of ranges.
+/// The length of a text in bytes up to which it has an outline and semantic tokens, and its statements are kept. A
+/// longer one has the tokens of ranges.
 pub(crate) const LARGE: usize = 4_194_304;
 
 /// A text of an open document.
