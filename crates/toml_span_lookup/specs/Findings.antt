@@ -1,16 +1,20 @@
 -- The results of checking documents against schemas in files.
 use Rattle.std.specs.Prelude.{◌≡◌, ◌==◌, ◌&&◌, ◌⊎◌, ℕ, Bool, true, false, List, [], ◌∷◌, ◌++◌, All}
-use Rattle.std.specs.Prelude.{Option, None, Some, String, codes, length, string_bytes, if◌then◌else◌}
+use Rattle.std.specs.Prelude.{Option, None, Some, String, codes, length, string_bytes, if◌then◌else◌, ⊤}
 use Rattle.std.specs.Global.{Global}
+use Rattle.std.specs.List.{list_any}
 use Rattle.std.specs.Str.{bytes_eq}
 use Rattle.toml_span_check.specs.Schemas.{Says, no_schema}
 use Rattle.toml_span_check.specs.declared.schemas.Chooser.{Chooser}
 use Rattle.toml_span_check.specs.declared.schemas.Chooser.TheVariants.{Files, Arguments}
+use Rattle.toml_span_lookup.specs.Choice.{Chosen, choice_of, chosen, file}
 use Rattle.toml_span_lookup.specs.Directive.{names_schema}
+use Rattle.toml_span_lookup.specs.declared.catalog.Catalog.{Catalog}
 use Rattle.toml_span_lookup.specs.declared.compiling.Used.{Used}
 use Rattle.toml_span_lookup.specs.declared.lookup.Choice.{Choice}
 use Rattle.toml_span_lookup.specs.declared.lookup.Choice.TheVariants as choices
 use Rattle.toml_span_lookup.specs.declared.lookup.Lookup.{Lookup}
+use Rattle.toml_span_lookup.specs.declared.options.Options.{Options}
 use Rattle.toml_span_report.specs.Report.{ReportContent}
 use Rattle.toml_span_report.specs.declared.report.Severity.TheVariants.{Error, Warning}
 use Rattle.toml_span_report.specs.Visible.{visible}
@@ -76,6 +80,23 @@ abbrev pub guide_at : List Used → List ℕ → Option Guide
 guide_at [] path = None
 guide_at (used ∷ more) path = if bytes_eq (string_bytes used.path) path then used.guide else guide_at more path
 
+-- whether the schema at this path has been read
+abbrev pub has_path : List Used → List ℕ → Bool
+has_path used path = list_any (λ one. bytes_eq (string_bytes one.path) path) used
+
+-- The schema of a choice has been read, if it is a file.
+abbrev pub IsLoaded : Choice → List Used → Type 0
+IsLoaded (choices.File path) used = has_path used (string_bytes path) ≡ true
+IsLoaded choice used = ⊤
+
+abbrev pub guide_for : List Used → Chosen → Option Guide
+guide_for used (file path) = guide_at used path
+guide_for used other = None
+
+-- the compiled schema that the options, the catalog and a file with this text choose, if it has been read
+abbrev pub guide_of : Lookup → List ℕ → List ℕ → Option Guide
+guide_of lookup name text = guide_for lookup.used.items (choice_of lookup.options lookup.catalog name text)
+
 -- the error line that says what can't be done with a file, and why
 unfoldable pub complaint : List ℕ → List ℕ → List ℕ → List ℕ
 complaint what path reason =
@@ -110,3 +131,11 @@ abbrev pub file_says : Says
 file_says chooser name text root reports complaint =
     (HasNoSchema chooser text × no_schema chooser name text root reports complaint)
     ⊎ (MayHaveSchema chooser text × IsChecked name root reports complaint)
+
+-- The document is checked against the schema that these options, a catalog and the file choose.
+abbrev pub ChecksChosen : Options → Chooser → List ℕ → List ℕ → Node → List ReportContent → List ℕ → Type 0
+ChecksChosen options chooser name text root reports complaint =
+    HasNoSchema chooser text
+    ⊎ ((catalog : Option Catalog) × (used : List Used) × (choice : Choice) × (before : List ℕ)
+    × (chosen choice ≡ choice_of options catalog name text) × IsLoaded choice used
+    × ReportsFor used choice name root reports before complaint)

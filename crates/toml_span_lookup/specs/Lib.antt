@@ -1,2 +1,4 @@
+pub mod Addresses
+pub mod Choice
 pub mod Directive
 pub mod Findings

@@ -1,4 +1,7 @@
 //! Converts between the addresses of schemas and the paths of their files.
+ghost use Rattle.std.specs.Prelude.{◌≡◌, ◌++◌, ◌≤◌, ◌-◌, ◌<◌, IfOk, OnOk, length, option_map, slice_index, string_bytes};
+ghost use Rattle.toml_span_lookup.specs.Addresses as spec;
+
 use percent_encoding::{DecodeError, percent_decode};
 use std::alloc::{AllocError, Global};
 
@@ -18,31 +21,91 @@ const FOLDERS: [&str; 8] = [
     "file:///_/",
 ];
 
+/// Returns the rest of a text that begins with `front`, or `None` if it begins otherwise.
+pub(crate) fn after<'t>(front: &str, text: &'t str) -> Option<&'t str>
+    ensures { option_map (λ rest. rest.now) result ≡ spec.after front.now text.now }
+{
+    match text.strip_prefix(front) {
+        Some(rest) => Some(rest),
+        None => None,
+    }
+}
+
+/// Returns a text without `front` at its start.
+pub(crate) fn without<'t>(front: &str, text: &'t str) -> &'t str
+    ensures { result.now ≡ spec.without front.now text.now }
+{
+    match after(front, text) {
+        Some(rest) => rest,
+        None => text,
+    }
+}
+
+/// Returns the number of bytes of a path up to its last slash, 0 if it has none.
+fn folder_length(path: &[u8]) -> usize
+    ensures value { result ≡ spec.folder_length path.now }
+    ensures within { result ≤ length path.now }
+    ensures slash { 0 < result → slice_index path.now (result - 1) ≡ 47 }
+{
+    let mut end = 0usize;
+    for (at, byte) in path.iter().enumerate() {
+        if *byte == b'/' {
+            end = at + 1;
+        }
+    }
+    end
+}
+
 /// Returns the folder of a path, with the slash after it. Returns an empty text if the path has no slash.
-pub(crate) fn folder_of(path: &str) -> &str {
-    match path.rsplit_once('/') {
-        Some((_, name)) => path.strip_suffix(name).unwrap_or(""),
+pub(crate) fn folder_of(path: &str) -> &str
+    ensures { result.now ≡ spec.folder_of path.now }
+{
+    match path.get(..folder_length(path.as_bytes())) {
+        Some(folder) => folder,
         None => "",
     }
 }
 
+/// Returns whether a text begins with a slash.
+fn begins_with_slash(text: &str) -> bool
+    ensures { result ≡ spec.begins_with_slash text.now }
+{
+    text.as_bytes().starts_with(b"/")
+}
+
+/// Returns whether a text ends with a slash.
+pub(crate) fn ends_with_slash(text: &str) -> bool
+    ensures { result ≡ spec.ends_with_slash text.now }
+{
+    text.as_bytes().ends_with(b"/")
+}
+
 /// Returns `folder` and `path` as one path, or only `path` if `path` is absolute. Removes `./` at the start of `path`.
 /// `folder` must be empty or end with a slash.
-pub(crate) fn joined(alloc: Global, folder: &str, path: &str) -> Result<String, AllocError> {
-    let path = path.strip_prefix("./").unwrap_or(path);
-    let folder = if path.starts_with('/') { "" } else { folder };
+pub(crate) fn joined(alloc: Global, folder: &str, path: &str) -> Result<String, AllocError>
+    ensures { IfOk result (λ out. string_bytes out ≡ spec.joined folder.now path.now) }
+{
+    let path = without("./", path);
+    if begins_with_slash(path) {
+        return String::from_str(alloc, path);
+    }
     let mut out = String::from_str(alloc, folder)?;
     out.push_str(path)?;
     Ok(out)
 }
 
 /// Returns whether an address begins with `http://` or `https://`.
-pub(crate) fn is_remote(address: &str) -> bool {
-    address.starts_with("https://") || address.starts_with("http://")
+pub(crate) fn is_remote(address: &str) -> bool
+    ensures { result ≡ spec.is_remote address.now }
+{
+    let address = address.as_bytes();
+    address.starts_with(b"https://") || address.starts_with(b"http://")
 }
 
 /// Returns an address without its fragment.
-pub(crate) fn without_fragment(address: &str) -> &str {
+pub(crate) fn without_fragment(address: &str) -> &str
+    ensures { result.now ≡ spec.without_fragment address.now }
+{
     match address.split_once('#') {
         Some((front, _)) => front,
         None => address,
@@ -50,7 +113,10 @@ pub(crate) fn without_fragment(address: &str) -> &str {
 }
 
 /// Appends `part` to `out` with its percent escapes decoded, or unchanged if the result is not UTF-8.
-pub(crate) fn push_decoded(alloc: Global, out: &mut String, part: &str) -> Result<(), AllocError> {
+#[tactic(auto, using(crate::proofs::Texts::utf8_is, crate::proofs::Texts::not_utf8))]
+pub(crate) fn push_decoded(alloc: Global, out: &mut String, part: &str) -> Result<(), AllocError>
+    ensures { OnOk result (string_bytes out.new ≡ string_bytes out.old ++ spec.decoded part.now) }
+{
     match percent_decode(part.as_bytes()).decode_utf8(alloc) {
         Ok(decoded) => out.push_str(decoded.as_ref()),
         Err(DecodeError::OutOfMemory) => Err(AllocError),

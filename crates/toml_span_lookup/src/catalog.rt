@@ -1,4 +1,8 @@
 //! Catalogs of schemas in SchemaStore's format.
+ghost use Rattle.std.specs.Prelude.{◌≡◌, IfOk, option_map, string_bytes};
+ghost use Rattle.toml_span_lookup.specs.Choice as spec;
+
+use crate::addresses::without;
 use json::{Reader, Scratch, Value as Json};
 use std::alloc::{AllocError, Global};
 use std::slice;
@@ -159,6 +163,16 @@ pub(crate) fn catalog_of(alloc: Global, text: &str) -> Result<Option<Catalog>, A
     Ok(Some(Catalog { schemas }))
 }
 
+impl Listed {
+    /// Returns whether the schema applies to the file at `path`.
+    fn applies(&self, alloc: Global, path: &str) -> Result<bool, AllocError>
+        ensures { IfOk result (λ is. is ≡ spec.applies self.now path.now) }
+    {
+        let found = last_match(alloc, self.patterns.as_slice(), path, false)?;
+        Ok(matches!(found, Some(true)))
+    }
+}
+
 impl Catalog {
     /// Returns the path or the URL of the first schema that applies to the file at `path`, or `None` if no schema
     /// applies.
@@ -166,10 +180,12 @@ impl Catalog {
         &self,
         alloc: Global,
         path: &str,
-    ) -> Result<Option<String>, AllocError> {
-        let path = path.strip_prefix("./").unwrap_or(path);
+    ) -> Result<Option<String>, AllocError>
+        ensures { IfOk result (λ found. option_map string_bytes found ≡ spec.address_for self.now path.now) }
+    {
+        let file = without("./", path);
         for schema in self.schemas.as_slice() {
-            if last_match(alloc, schema.patterns.as_slice(), path, false)? == Some(true) {
+            if schema.applies(alloc, file)? {
                 return Ok(Some(String::from_str(alloc, schema.address.as_str())?));
             }
         }

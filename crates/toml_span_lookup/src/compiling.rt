@@ -294,7 +294,9 @@ fn push_missing<D: Disk>(
     used: &mut Used,
     loading: &mut Loading,
     flaws: &[Flaw],
-) -> Result<bool, AllocError> {
+) -> Result<bool, AllocError>
+    ensures { used.new.path ≡ used.old.path }
+{
     let known = loading.documents.len();
     for flaw in flaws {
         let address = without_fragment(flaw.missing.as_str());
@@ -321,7 +323,9 @@ fn document_at<D: Disk>(
     used: &mut Used,
     address: &str,
     path: Option<String>,
-) -> Result<Option<Loaded>, AllocError> {
+) -> Result<Option<Loaded>, AllocError>
+    ensures { used.new.path ≡ used.old.path }
+{
     let is_there = match &path {
         Some(path) => disk.stamp(path.as_str()).is_some(),
         None => false,
@@ -360,7 +364,9 @@ fn read_part<D: Disk>(
     complaint: &mut String,
     used: &mut Used,
     path: &str,
-) -> Result<Option<String>, AllocError> {
+) -> Result<Option<String>, AllocError>
+    ensures { used.new.path ≡ used.old.path }
+{
     let stamp = disk.stamp(path);
     used.files.push(ReadFile {
         path: String::from_str(alloc, path)?,
@@ -378,7 +384,9 @@ fn compile_used<D: Disk>(
     complaint: &mut String,
     used: &mut Used,
     mut loading: Loading,
-) -> Result<(), AllocError> {
+) -> Result<(), AllocError>
+    ensures { used.new.path ≡ used.old.path }
+{
     for _ in 0..=MOST_DOCUMENTS {
         let error = match compile(alloc, loading.documents.as_slice()) {
             Ok(mut guide) => {
@@ -430,7 +438,9 @@ pub(crate) fn used_from<D: Disk>(
     complaint: &mut String,
     path: &str,
     address: String,
-) -> Result<Used, AllocError> {
+) -> Result<Used, AllocError>
+    ensures { IfOk result (λ used. string_bytes used.path ≡ path.now) }
+{
     let mut used = Used {
         path: String::from_str(alloc, path)?,
         guide: None,

@@ -1,17 +1,17 @@
 //! The directive `#:schema`, or the key `"$schema"`, by which a file names its schema.
-ghost use Rattle.std.specs.Prelude.{◌≡◌, false};
+ghost use Rattle.std.specs.Prelude.{◌≡◌, option_map, take, true};
 ghost use Rattle.toml_span_lookup.specs.Directive as spec;
 
-use toml_span::Span;
+use toml_span_lex::span::Span;
 use toml_span_report::bom_end;
 
 /// The beginning of the directive.
 pub const SCHEMA: &str = "#:schema";
 
 /// The key that names the schema, in both forms of quotes.
-const KEY: &str = "\"$schema\"";
+const KEY: &[u8] = b"\"$schema\"";
 
-const LITERAL_KEY: &str = "'$schema'";
+const LITERAL_KEY: &[u8] = b"'$schema'";
 
 /// A directive `#:schema ADDRESS`, or a first key `"$schema" = "ADDRESS"`.
 #[derive(Clone, Copy)]
@@ -22,131 +22,222 @@ pub struct Directive<'t> {
     pub span: Span,
 }
 
-/// Returns a line without the spaces, tabs and carriage returns at both ends.
-fn trimmed(line: &str) -> &str {
-    line.trim_matches([' ', '\t', '\r'].as_slice())
+/// A text from the address of a schema on.
+#[derive(Clone, Copy)]
+struct Place<'t> {
+    rest: &'t [u8],
+    /// The number of bytes of the address.
+    length: usize,
 }
 
-/// Returns the directive in a line, or `None` if no address follows `#:schema` and a space or tab. The address ends
-/// before a space or tab and `#`. `start` is the byte offset of the line in the file.
-fn directive_in<'t>(line: &'t str, start: usize) -> Option<Directive<'t>> {
-    let (front, rest) = line.split_once(SCHEMA)?;
-    // (a comment may follow)
-    let spaced = rest.split_once(" #").map_or(rest, |parts| parts.0);
-    let rest = spaced.split_once("\t#").map_or(spaced, |parts| parts.0);
-    let address = trimmed(rest);
-    if address.is_empty() || !rest.starts_with([' ', '\t'].as_slice()) {
-        return None;
+/// Returns the rest of a text that begins with `front`, or `None` if it begins otherwise.
+fn rest_after<'t>(front: &[u8], text: &'t [u8]) -> Option<&'t [u8]>
+    ensures { option_map (λ rest. rest.now) result ≡ spec.rest_after front.now text.now }
+{
+    if text.starts_with(front) {
+        Some(&text[front.len()..])
+    } else {
+        None
     }
-    let size = rest.trim_end_matches([' ', '\t', '\r'].as_slice()).len();
-    let end = start
-        .saturating_add(front.len())
-        .saturating_add(SCHEMA.len())
-        .saturating_add(size);
-    Some(Directive {
-        address,
-        span: Span {
-            start: end.saturating_sub(address.len()),
-            end,
-        },
-    })
 }
 
-/// Returns the directive in a line that assigns a string without escapes to the key `"$schema"`, or `None` for any
-/// other line. `start` is the byte offset of the line in the file.
-fn key_in<'t>(line: &'t str, start: usize) -> Option<Directive<'t>> {
-    let blanks = [' ', '\t'];
-    let key = line.trim_start_matches(blanks.as_slice());
-    let rest = match key.strip_prefix(KEY) {
-        Some(rest) => rest,
-        None => key.strip_prefix(LITERAL_KEY)?,
-    };
-    let rest = rest
-        .trim_start_matches(blanks.as_slice())
-        .strip_prefix('=')?;
-    let string = rest.trim_start_matches(blanks.as_slice());
-    let quote = if string.starts_with('"') { '"' } else { '\'' };
-    let (address, _) = string.strip_prefix(quote)?.split_once(quote)?;
-    if address.is_empty() || quote == '"' && address.contains('\\') {
-        return None;
-    }
-    let start = start
-        .saturating_add(line.len().saturating_sub(string.len()))
-        .saturating_add(1);
-    Some(Directive {
-        address,
-        span: Span {
-            start,
-            end: start.saturating_add(address.len()),
-        },
-    })
-}
-
-/// Returns whether a text begins with `#:schema` or with the key `"$schema"`.
-fn names_here(bytes: &[u8]) -> bool
-    ensures { result ≡ spec.names_here bytes.now }
+/// Returns whether the byte is a space, a tab or a carriage return.
+fn is_white(byte: u8) -> bool
+    ensures { result ≡ spec.is_white byte }
 {
-    bytes.starts_with(SCHEMA.as_bytes())
-        || bytes.starts_with(KEY.as_bytes())
-        || bytes.starts_with(LITERAL_KEY.as_bytes())
+    matches!(byte, b' ' | b'\t' | b'\r')
 }
 
-/// Returns whether the byte may occur above the first header or assignment, outside a comment, or begins a comment.
-fn is_head(byte: u8) -> bool
-    ensures { result ≡ spec.is_head byte }
+/// Returns a text without the white space at its start.
+fn skip_white(text: &[u8]) -> &[u8]
+    ensures { result.now ≡ spec.skip_white text.now }
 {
-    matches!(byte, b' ' | b'\t' | b'\r' | b'\n' | b'#')
-}
-
-/// Returns whether a comment above the first header or assignment begins with `#:schema`, or the first key is
-/// `"$schema"`. `bytes` are the text after a byte order mark.
-fn head_names(bytes: &[u8]) -> bool
-    ensures { result ≡ spec.head_names false bytes.now }
-{
-    let mut rest = bytes;
-    let mut in_comment = false;
+    let mut rest = text;
     while let Some((byte, more)) = rest.split_first() {
-        if !in_comment && names_here(rest) {
-            return true;
+        if !is_white(*byte) {
+            return rest;
         }
-        if !in_comment && !is_head(*byte) {
-            return false;
-        }
-        in_comment = *byte != b'\n' && (in_comment || *byte == b'#');
         rest = more;
     }
-    false
+    rest
 }
 
-/// Returns whether a comment above the first header or assignment of a file begins with `#:schema`, or its first key is
-/// `"$schema"`. Otherwise, the file has no directive.
+/// Returns the place at the start of a text of an address of this length, or `None` if the address is empty.
+fn sized(text: &[u8], length: usize) -> Option<Place<'_>>
+    ensures { option_map spec.place result ≡ spec.sized text.now length }
+{
+    if length == 0 {
+        return None;
+    }
+    Some(Place { rest: text, length })
+}
+
+/// Returns the number of bytes of a line without white space at its end, and without a comment: a `#` at the start, or
+/// after white space.
+fn word_length(text: &[u8]) -> usize
+    ensures { result ≡ spec.word_length true text.now }
+{
+    let mut end = 0;
+    let mut after_white = true;
+    for (at, byte) in text.iter().enumerate() {
+        if *byte == b'\n' || after_white && *byte == b'#' {
+            return end;
+        }
+        after_white = is_white(*byte);
+        if !after_white {
+            end = at + 1;
+        }
+    }
+    end
+}
+
+/// Returns the address in a line after `#:schema`, or `None` if white space and an address do not follow.
+fn after_schema(text: &[u8]) -> Option<Place<'_>>
+    ensures { option_map spec.place result ≡ spec.after_schema text.now }
+{
+    let (first, _) = text.split_first()?;
+    if !is_white(*first) {
+        return None;
+    }
+    let word = skip_white(text);
+    sized(word, word_length(word))
+}
+
+/// Returns the address in a line that is a directive.
+fn in_comment(text: &[u8]) -> Option<Place<'_>>
+    ensures { option_map spec.place result ≡ spec.in_comment text.now }
+{
+    after_schema(rest_after(SCHEMA.as_bytes(), skip_white(text))?)
+}
+
+/// Returns the number of bytes of a string up to its closing quote, or `None` if the string has an escape or does not
+/// end in its line.
+fn string_length(quote: u8, text: &[u8]) -> Option<usize>
+    ensures { result ≡ spec.string_length quote 0 text.now }
+{
+    for (at, byte) in text.iter().enumerate() {
+        if *byte == quote {
+            return Some(at);
+        }
+        if *byte == b'\n' || quote == b'"' && *byte == b'\\' {
+            return None;
+        }
+    }
+    None
+}
+
+/// Returns the content of a string that begins with its opening quote.
+fn in_string(text: &[u8]) -> Option<Place<'_>>
+    ensures { option_map spec.place result ≡ spec.in_string text.now }
+{
+    let (quote, rest) = text.split_first()?;
+    if *quote != b'"' && *quote != b'\'' {
+        return None;
+    }
+    sized(rest, string_length(*quote, rest)?)
+}
+
+/// Returns the string after an equals sign.
+fn in_value(text: &[u8]) -> Option<Place<'_>>
+    ensures { option_map spec.place result ≡ spec.in_value text.now }
+{
+    in_string(skip_white(rest_after(b"=", skip_white(text))?))
+}
+
+/// Returns the string that a line assigns to the key `"$schema"`.
+fn in_key(text: &[u8]) -> Option<Place<'_>>
+    ensures { option_map spec.place result ≡ spec.in_key text.now }
+{
+    let key = skip_white(text);
+    if let Some(rest) = rest_after(KEY, key) {
+        if let Some(found) = in_value(rest) {
+            return Some(found);
+        }
+    }
+    in_value(rest_after(LITERAL_KEY, key)?)
+}
+
+/// Returns the address that the line at the start of a text names.
+fn in_line(text: &[u8]) -> Option<Place<'_>>
+    ensures { option_map spec.place result ≡ spec.in_line text.now }
+{
+    match in_comment(text) {
+        Some(found) => Some(found),
+        None => in_key(text),
+    }
+}
+
+/// Returns whether the line at the start of a text has no header or assignment.
+fn is_empty_line(text: &[u8]) -> bool
+    ensures { result ≡ spec.is_empty_line (spec.skip_white text.now) }
+{
+    matches!(skip_white(text), [] | [b'\n' | b'#', ..])
+}
+
+/// Returns the first address that a line names, up to the first header or assignment.
+fn named(text: &[u8]) -> Option<Place<'_>>
+    ensures { option_map spec.place result ≡ spec.named_from true text.now }
+{
+    let mut rest = text;
+    let mut is_start = true;
+    while let Some((byte, more)) = rest.split_first() {
+        if is_start {
+            if let Some(found) = in_line(rest) {
+                return Some(found);
+            }
+            if !is_empty_line(rest) {
+                return None;
+            }
+        }
+        is_start = *byte == b'\n';
+        rest = more;
+    }
+    None
+}
+
+/// Returns a text, or `None` if it is not UTF-8.
+#[tactic(auto, using(crate::proofs::Texts::utf8_is, crate::proofs::Texts::not_utf8))]
+fn text_of(bytes: &[u8]) -> Option<&str>
+    ensures { option_map (λ text. text.now) result ≡ spec.text_of bytes.now }
+{
+    match str::from_utf8(bytes) {
+        Ok(text) => Some(text),
+        Err(_) => None,
+    }
+}
+
+/// Returns the first bytes of a text, or all if it has no more than `length`.
+fn front(text: &[u8], length: usize) -> &[u8]
+    ensures { result.now ≡ take length text.now }
+{
+    match text.get(..length) {
+        Some(front) => front,
+        None => text,
+    }
+}
+
+/// Returns the address that a file names in a comment `#:schema` above the first header or assignment, or by its first
+/// key `"$schema"`. Returns `None` if the file names none.
+#[tactic(auto, unfolding(crate::specs::Directive::directive_of))]
+pub fn directive_of<'t>(text: &'t str) -> Option<Directive<'t>>
+    ensures { option_map (λ found. (found.address.now, found.span)) result ≡ spec.directive_of text.now }
+{
+    let place = named(&text.as_bytes()[bom_end(text)..])?;
+    let address = text_of(front(place.rest, place.length))?;
+    let after = place.rest.len().saturating_sub(place.length);
+    Some(Directive {
+        address,
+        span: Span {
+            start: text.len().saturating_sub(place.rest.len()),
+            end: text.len().saturating_sub(after),
+        },
+    })
+}
+
+/// Returns whether a file names its schema, as `directive_of` finds.
 #[tactic(auto, unfolding(crate::specs::Directive::names_schema))]
 pub fn names_schema(text: &str) -> bool
     ensures { result ≡ spec.names_schema text.now }
 {
-    head_names(&text.as_bytes()[bom_end(text)..])
-}
-
-/// Returns the first directive above the first header or assignment of a file, or `None` if the file has no such
-/// directive.
-pub fn directive_of<'t>(text: &'t str) -> Option<Directive<'t>> {
-    let mut rest = text.strip_prefix('\u{feff}').unwrap_or(text);
-    for _ in 0..text.len() {
-        let start = text.len().saturating_sub(rest.len());
-        let (line, more) = rest.split_once('\n').unwrap_or((rest, ""));
-        let shown = trimmed(line);
-        if shown.starts_with(SCHEMA) {
-            if let Some(directive) = directive_in(line, start) {
-                return Some(directive);
-            }
-        }
-        if let Some(directive) = key_in(line, start) {
-            return Some(directive);
-        }
-        if more.is_empty() || !(shown.is_empty() || shown.starts_with('#')) {
-            return None;
-        }
-        rest = more;
-    }
-    None
+    directive_of(text).is_some()
 }

@@ -1,11 +1,15 @@
 //! Finds the schemas of files, and checks documents against them.
-ghost use Rattle.std.specs.Prelude.{◌≡◌, IfOk, map, option_map, string_bytes};
+ghost use Rattle.std.specs.Prelude.{◌≡◌, IfOk, OnOk, map, option_map, string_bytes};
+ghost use Rattle.std.specs.Option.{is_some};
+ghost use Rattle.toml_span_lookup.specs.Addresses as addresses;
+ghost use Rattle.toml_span_lookup.specs.Choice as choice;
+ghost use Rattle.toml_span_lookup.specs.Choice.{chosen};
 ghost use Rattle.toml_span_lookup.specs.Findings as spec;
 ghost use Rattle.toml_span_lookup.specs.Findings.{AddsWarnings, ReportsFor, ReportsOf, TellsNoSchema, file_says};
 ghost use Rattle.toml_span_report.specs.Report.{report_content};
 ghost use Rattle.toml_span_tree.specs.Value.{view};
 
-use crate::addresses::{folder_of, is_remote, joined, push_decoded};
+use crate::addresses::{after, folder_of, is_remote, joined, push_decoded};
 use crate::catalog::{Catalog, catalog_of};
 use crate::compiling::{Used, base_of, text_of, used_from};
 use crate::directive::{Directive, directive_of, names_schema};
@@ -83,7 +87,10 @@ impl Lookup {
         alloc: Global,
         name: &str,
         address: &str,
-    ) -> Result<Option<String>, AllocError> {
+    ) -> Result<Option<String>, AllocError>
+        ensures { IfOk result (λ path. option_map string_bytes path
+            ≡ addresses.path_of self.now.options address.now (addresses.folder_of name.now)) }
+    {
         self.path_of(alloc, address, folder_of(name))
     }
 
@@ -94,7 +101,10 @@ impl Lookup {
         alloc: Global,
         address: &str,
         folder: &str,
-    ) -> Result<Option<String>, AllocError> {
+    ) -> Result<Option<String>, AllocError>
+        ensures { IfOk result (λ path. option_map string_bytes path
+            ≡ addresses.path_of self.now.options address.now folder.now) }
+    {
         if let Some(file) = self.options.copy_of(alloc, address)? {
             return Ok(Some(file));
         }
@@ -102,7 +112,7 @@ impl Lookup {
             return Ok(None);
         }
         let mut path = String::new(alloc);
-        match address.strip_prefix("file://") {
+        match after("file://", address) {
             Some(part) => push_decoded(alloc, &mut path, part)?,
             None => path.push_str(address)?,
         }
@@ -110,7 +120,9 @@ impl Lookup {
     }
 
     /// Returns the schema that the catalog has for the file `name`.
-    fn choice_of_catalog(&self, alloc: Global, name: &str) -> Result<Choice, AllocError> {
+    fn choice_of_catalog(&self, alloc: Global, name: &str) -> Result<Choice, AllocError>
+        ensures { IfOk result (λ made. chosen made ≡ choice.by_catalog self.now.options self.now.catalog name.now) }
+    {
         let Some(catalog) = &self.catalog else {
             return Ok(Choice::None);
         };
@@ -131,7 +143,10 @@ impl Lookup {
         alloc: Global,
         name: &str,
         directive: Directive<'_>,
-    ) -> Result<Choice, AllocError> {
+    ) -> Result<Choice, AllocError>
+        ensures { IfOk result (λ made. chosen made
+            ≡ choice.by_directive self.now.options self.now.catalog name.now directive.entry.address.now directive.entry.span) }
+    {
         let Directive { address, span } = directive;
         if let Some(path) = self.path_of(alloc, address, folder_of(name))? {
             return Ok(Choice::File(path));
@@ -144,7 +159,10 @@ impl Lookup {
 
     /// Returns the schema of the file `name`, whose content is `text`. The option `schema` decides first, then a
     /// directive in the file, then the catalog.
-    fn choice(&self, alloc: Global, name: &str, text: &str) -> Result<Choice, AllocError> {
+    fn choice(&self, alloc: Global, name: &str, text: &str) -> Result<Choice, AllocError>
+        ensures { IfOk result (λ made. chosen made
+            ≡ choice.choice_of self.now.options self.now.catalog name.now text.now) }
+    {
         let given = self.options.schema.as_str();
         if !given.is_empty() {
             return match self.path_of(alloc, given, "")? {
@@ -174,7 +192,9 @@ impl Lookup {
     }
 
     /// Reads the catalog that the options name, if any. If the catalog can't be used, adds an error to `complaint`.
-    fn read_catalog<D: Disk>(&mut self, alloc: Global, disk: &mut D) -> Result<(), AllocError> {
+    fn read_catalog<D: Disk>(&mut self, alloc: Global, disk: &mut D) -> Result<(), AllocError>
+        ensures { self.new.options ≡ self.old.options }
+    {
         let path = self.options.catalog.as_str();
         if path.is_empty() {
             return Ok(());
@@ -193,7 +213,9 @@ impl Lookup {
     }
 
     /// Calls `read_catalog` and sets `is_ready`, unless `is_ready` is set already.
-    fn prepare<D: Disk>(&mut self, alloc: Global, disk: &mut D) -> Result<(), AllocError> {
+    fn prepare<D: Disk>(&mut self, alloc: Global, disk: &mut D) -> Result<(), AllocError>
+        ensures { self.new.options ≡ self.old.options }
+    {
         if !self.is_ready {
             self.read_catalog(alloc, disk)?;
             self.is_ready = true;
@@ -202,7 +224,9 @@ impl Lookup {
     }
 
     /// Returns the position in `used` of the schema at a path, or `None` if `used` does not have it.
-    fn position_of(&self, path: &str) -> Option<usize> {
+    fn position_of(&self, path: &str) -> Option<usize>
+        ensures { is_some result ≡ spec.has_path self.now.used.items path.now }
+    {
         for (at, used) in self.used.as_slice().iter().enumerate() {
             if used.path.as_str() == path {
                 return Some(at);
@@ -240,7 +264,9 @@ impl Lookup {
         alloc: Global,
         disk: &mut D,
         choice: &Choice,
-    ) -> Result<(), AllocError> {
+    ) -> Result<(), AllocError>
+        ensures { OnOk result (spec.IsLoaded choice.now self.new.used.items) }
+    {
         match choice {
             Choice::None | Choice::Unmapped(_, _) => Ok(()),
             Choice::Remote(address) => self.refuse_remote(alloc, address.as_str()),
@@ -316,7 +342,9 @@ impl Lookup {
         alloc: Global,
         name: &str,
         text: &str,
-    ) -> Result<Option<&Guide>, AllocError> {
+    ) -> Result<Option<&Guide>, AllocError>
+        ensures { IfOk result (λ found. option_map (λ guide. guide.now) found ≡ spec.guide_of self.now name.now text.now) }
+    {
         match self.choice(alloc, name, text)? {
             Choice::File(path) => Ok(self.guide_at(path.as_str())),
             _ => Ok(None),
@@ -471,8 +499,10 @@ impl Lookup {
         text: &str,
         root: &Value<'_>,
     ) -> Result<SchemaReports, AllocError>
-        ensures { IfOk result (λ made. file_says chooser name.now text.now (view root.now)
+        ensures says { IfOk result (λ made. file_says chooser name.now text.now (view root.now)
             (map report_content made.reports.items) (string_bytes made.complaint)) }
+        ensures chosen { IfOk result (λ made. spec.ChecksChosen self.old.options chooser name.now text.now
+            (view root.now) (map report_content made.reports.items) (string_bytes made.complaint)) }
     {
         if chooser == Chooser::Files && !names_schema(text) {
             return Ok(SchemaReports {

@@ -1,5 +1,8 @@
 //! The options about schemas, from the command line or an editor.
-use crate::addresses::without_fragment;
+ghost use Rattle.std.specs.Prelude.{◌≡◌, IfOk, option_map, string_bytes};
+ghost use Rattle.toml_span_lookup.specs.Addresses as spec;
+
+use crate::addresses::{after, ends_with_slash, without_fragment};
 use std::alloc::{AllocError, Global};
 
 /// Where people can name a local copy of a schema.
@@ -35,6 +38,42 @@ pub struct Options {
     pub place: Place,
 }
 
+/// Returns whether one of the parts of a path is `..`.
+fn leads_out(path: &str) -> bool
+    ensures { result ≡ spec.leads_out path.now }
+{
+    let mut leads = false;
+    for part in path.split('/') {
+        leads = leads || part == "..";
+    }
+    leads
+}
+
+impl LocalCopy {
+    /// Returns the path of the file that this local copy is, or has in its folder, for an address without a fragment.
+    fn file_for(&self, alloc: Global, address: &str) -> Result<Option<String>, AllocError>
+        ensures { IfOk result (λ found. option_map string_bytes found ≡ spec.file_in
+            (spec.without_fragment (string_bytes self.now.address)) (string_bytes self.now.path) address.now) }
+    {
+        let known = without_fragment(self.address.as_str());
+        if known == address {
+            return Ok(Some(String::from_str(alloc, self.path.as_str())?));
+        }
+        let Some(rest) = after(known, address) else {
+            return Ok(None);
+        };
+        if !ends_with_slash(known) || leads_out(rest) {
+            return Ok(None);
+        }
+        let mut path = String::from_str(alloc, self.path.as_str())?;
+        if !ends_with_slash(self.path.as_str()) {
+            path.push_str("/")?;
+        }
+        path.push_str(rest)?;
+        Ok(Some(path))
+    }
+}
+
 impl Options {
     /// Returns options that name neither a schema nor a catalog nor local copies, and check the keyword `format`.
     pub fn new(alloc: Global, place: Place) -> Options {
@@ -51,26 +90,12 @@ impl Options {
     /// Ignores fragments. If the address of a copy ends with a slash, its path is a folder with the files of all
     /// addresses that begin with it, by the rest of the address, in which percent escapes stay. The rest can't lead out
     /// of the folder.
-    pub(crate) fn copy_of(
-        &self,
-        alloc: Global,
-        address: &str,
-    ) -> Result<Option<String>, AllocError> {
-        let address = without_fragment(address);
+    pub(crate) fn copy_of(&self, alloc: Global, address: &str) -> Result<Option<String>, AllocError>
+        ensures { IfOk result (λ found. option_map string_bytes found ≡ spec.copy_of self.now address.now) }
+    {
+        let plain = without_fragment(address);
         for copy in self.copies.as_slice() {
-            let known = without_fragment(copy.address.as_str());
-            if known == address {
-                return Ok(Some(String::from_str(alloc, copy.path.as_str())?));
-            }
-            let Some(rest) = address.strip_prefix(known) else {
-                continue;
-            };
-            if known.ends_with("/") && !rest.split('/').any(|part| part == "..") {
-                let mut path = String::from_str(alloc, copy.path.as_str())?;
-                if !path.as_str().ends_with("/") {
-                    path.push('/')?;
-                }
-                path.push_str(rest)?;
+            if let Some(path) = copy.file_for(alloc, plain)? {
                 return Ok(Some(path));
             }
         }
