@@ -1,4 +1,5 @@
 pub mod Errors
+pub mod Findings
 pub mod Reads
 pub mod Reported
 pub mod UnknownKeys

@@ -5,6 +5,8 @@ ghost use Rattle.toml_span_tree.specs.Error.{content_of, kind_of};
 ghost use Rattle.toml_span_tree.specs.Errors.{all};
 ghost use Rattle.toml_span_mistakes.specs.Errors as spec;
 ghost use Rattle.toml_span_mistakes.specs.Errors.{AddsReports, AreReports, AreShown, IsReport, ReportsError};
+ghost use Rattle.toml_span_mistakes.specs.Findings as findings;
+ghost use Rattle.toml_span_mistakes.specs.Findings.{TellsFinding};
 ghost use Rattle.toml_span_report.specs.Report.{report_content};
 ghost use Rattle.toml_span_report.specs.declared.report.Severity.TheVariants as severities;
 
@@ -117,7 +119,9 @@ fn help(alloc: Global, kind: &ErrorKind<'_>) -> Result<Vec<String>, AllocError> 
 }
 
 /// Returns the headline of `finding`, or the message of `error` if the headline is empty.
-fn headline(alloc: Global, error: &Error<'_>, finding: Finding<'_>) -> Result<String, AllocError> {
+fn headline(alloc: Global, error: &Error<'_>, finding: Finding<'_>) -> Result<String, AllocError>
+    ensures { IfOk result (λ text. string_bytes text ≡ findings.headline (kind_of error.now.kind) finding.entry) }
+{
     if finding.words.headline.is_empty() {
         message(alloc, error)
     } else {
@@ -134,7 +138,8 @@ fn mistaken(
     text: &str,
     finding: Finding<'_>,
 ) -> Result<Report, AllocError>
-    ensures { IfOk result (λ made. ReportsError severity text.now (content_of error.now) (report_content made)) }
+    ensures reports { IfOk result (λ made. ReportsError severity text.now (content_of error.now) (report_content made)) }
+    ensures tells { IfOk result (λ made. TellsFinding text.now (kind_of error.now.kind) finding.entry (report_content made)) }
 {
     Ok(Report {
         severity,

@@ -1,5 +1,7 @@
 //! Findings: typical mistakes in a text, with what to mark and the code to write.
 
+ghost use Rattle.std.specs.Prelude.{◌≡◌, ◌&&◌, Some, None};
+
 use crate::bytes::{Class, are_all, part};
 use crate::words::{Mistake, Words, words_of};
 use toml_span_lex::span::Span;
@@ -84,7 +86,9 @@ pub(crate) fn pieces<'a>(first: &'a str, second: &'a str, third: &'a str) -> Cod
 }
 
 /// Returns the span from `start` to `end`.
-pub(crate) fn span_of(start: usize, end: usize) -> Span {
+pub(crate) fn span_of(start: usize, end: usize) -> Span
+    ensures { result ≡ record { start = start; end = end } }
+{
     Span { start, end }
 }
 
@@ -94,7 +98,11 @@ pub(crate) fn without_replacement<'a>(
     mark: Span,
     also: Span,
     code: Code<'a>,
-) -> Finding<'a> {
+) -> Finding<'a>
+    ensures edit { result.edit ≡ None }
+    ensures code { result.code ≡ code.entry }
+    ensures safe { result.words.is_safe ≡ mistake.entry.6 }
+{
     Finding {
         words: words_of(mistake),
         mark,
@@ -113,19 +121,22 @@ pub(crate) fn marked<'a>(mistake: Mistake, from: usize, to: usize) -> Finding<'a
 }
 
 /// Returns a finding that marks the span `mark`, with a replacement of the span `edit` by `code`.
-pub(crate) fn mended<'a>(mistake: Mistake, mark: Span, edit: Span, code: Code<'a>) -> Finding<'a> {
+pub(crate) fn mended<'a>(mistake: Mistake, mark: Span, edit: Span, code: Code<'a>) -> Finding<'a>
+    ensures edit { result.edit ≡ Some edit }
+    ensures code { result.code ≡ code.entry }
+    ensures safe { result.words.is_safe ≡ mistake.entry.6 }
+{
     let mut found = without_replacement(mistake, mark, mark, code);
     found.edit = Some(edit);
     found
 }
 
 /// Returns a finding that marks the bytes `from..to`, with a replacement of these bytes by `code`.
-pub(crate) fn replaced<'a>(
-    mistake: Mistake,
-    from: usize,
-    to: usize,
-    code: Code<'a>,
-) -> Finding<'a> {
+pub(crate) fn replaced<'a>(mistake: Mistake, from: usize, to: usize, code: Code<'a>) -> Finding<'a>
+    ensures edit { result.edit ≡ Some (record { start = from; end = to }) }
+    ensures code { result.code ≡ code.entry }
+    ensures safe { result.words.is_safe ≡ mistake.entry.6 }
+{
     mended(mistake, span_of(from, to), span_of(from, to), code)
 }
 
@@ -135,7 +146,13 @@ pub(crate) fn removed<'a>(mistake: Mistake, from: usize, to: usize) -> Finding<'
 }
 
 /// Returns the finding with a replacement that is safe only if it was safe before and `is_safe` is set.
-pub(crate) fn safe_if<'a>(found: Finding<'a>, is_safe: bool) -> Finding<'a> {
+pub(crate) fn safe_if<'a>(found: Finding<'a>, is_safe: bool) -> Finding<'a>
+    ensures { result ≡ record found.entry {
+      words = record found.entry.words {
+        is_safe = found.entry.words.is_safe && is_safe;
+      };
+    } }
+{
     let words = Words {
         is_safe: found.words.is_safe && is_safe,
         ..found.words

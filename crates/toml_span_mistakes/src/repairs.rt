@@ -1,9 +1,10 @@
 //! The help, labels and replacements of a finding.
-ghost use Rattle.std.specs.Prelude.{◌≡◌, All, IfOk, map};
-ghost use Rattle.std.specs.Bool.{OnTrue};
+ghost use Rattle.std.specs.Prelude.{◌≡◌, ◌++◌, All, IfOk, OnOk, map, string_bytes};
+ghost use Rattle.std.specs.Bool.{Decides};
 ghost use Rattle.toml_span_tree.specs.Diagnostic.{label_content};
 ghost use Rattle.toml_span_mistakes.specs.Errors as spec;
 ghost use Rattle.toml_span_mistakes.specs.Errors.{AreRepairs};
+ghost use Rattle.toml_span_mistakes.specs.Findings as findings;
 ghost use Rattle.toml_span_report.specs.Places.{LiesIn};
 ghost use Rattle.toml_span_report.specs.Report.{repair_of};
 
@@ -15,7 +16,9 @@ use toml_span_report::{Replacement, clipped_span};
 use toml_span_tree::Label;
 
 /// Returns one string: the pieces of `code`, and then its number, if there is one.
-fn code_text(alloc: Global, code: Code<'_>) -> Result<String, AllocError> {
+fn code_text(alloc: Global, code: Code<'_>) -> Result<String, AllocError>
+    ensures { IfOk result (λ text. string_bytes text ≡ findings.code_text code.entry) }
+{
     let mut text = String::from_str(alloc, code.first)?;
     text.push_str(code.second)?;
     text.push_str(code.third)?;
@@ -30,7 +33,9 @@ fn code_text(alloc: Global, code: Code<'_>) -> Result<String, AllocError> {
 
 /// Appends `joint` to `out`, and then `code` in backticks, escaped by `push_visible`. Appends nothing if `joint` or
 /// `code` is empty. If an allocation fails, `out` may have a part of the text.
-fn push_code(out: &mut String, joint: &str, code: &str) -> Result<(), AllocError> {
+fn push_code(out: &mut String, joint: &str, code: &str) -> Result<(), AllocError>
+    ensures { OnOk result (string_bytes out.new ≡ string_bytes out.old ++ findings.joined_code joint.now code.now) }
+{
     if joint.is_empty() || code.is_empty() {
         return Ok(());
     }
@@ -41,7 +46,9 @@ fn push_code(out: &mut String, joint: &str, code: &str) -> Result<(), AllocError
 }
 
 /// Returns a list with the line of help of a finding, or an empty list if the finding has no help.
-pub(crate) fn finding_help(alloc: Global, finding: Finding<'_>) -> Result<Vec<String>, AllocError> {
+pub(crate) fn finding_help(alloc: Global, finding: Finding<'_>) -> Result<Vec<String>, AllocError>
+    ensures { IfOk result (λ help. map string_bytes help.items ≡ findings.help finding.entry) }
+{
     let words = finding.words;
     let mut help = Vec::new(alloc);
     if words.help.is_empty() {
@@ -108,7 +115,7 @@ pub(crate) fn finding_labels(
 
 /// Returns whether a span is in the text, and begins and ends between characters.
 fn lies_in(text: &str, span: Span) -> bool
-    ensures { OnTrue result (LiesIn text.now span) }
+    ensures { Decides result (LiesIn text.now span) }
 {
     span.start <= span.end && text.is_char_boundary(span.start) && text.is_char_boundary(span.end)
 }
@@ -120,7 +127,8 @@ pub(crate) fn finding_repairs(
     text: &str,
     finding: Finding<'_>,
 ) -> Result<Vec<Replacement>, AllocError>
-    ensures { IfOk result (λ made. AreRepairs text.now (map repair_of made.items)) }
+    ensures lie { IfOk result (λ made. AreRepairs text.now (map repair_of made.items)) }
+    ensures exact { IfOk result (λ made. findings.Repairs text.now finding.entry (map repair_of made.items)) }
 {
     let mut repairs = Vec::new(alloc);
     let Some(span) = finding.edit else {

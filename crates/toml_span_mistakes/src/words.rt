@@ -1,6 +1,7 @@
 //! The typical mistakes, one constant each: the code of its report, what the report says, and whether its replacement
 //! is safe. A replacement is safe only if the mistake has just one reading, so a guess never is. Some are safe only in
 //! some places (`safe_if`).
+ghost use Rattle.std.specs.Prelude.{◌≡◌};
 ghost use Rattle.toml_span_mistakes.specs.Errors.{IsExplained};
 
 /// The code of a mistake: the one, of those that `explain` knows, whose explanation fits it best. The error may have
@@ -78,7 +79,17 @@ pub(crate) struct Words {
 }
 
 /// Returns the code and the messages for a mistake.
-pub(crate) fn words_of(mistake: Mistake) -> Words {
+pub(crate) fn words_of(mistake: Mistake) -> Words
+    ensures { result ≡ record {
+      code = mistake.entry.0;
+      headline = mistake.entry.1;
+      label = mistake.entry.2;
+      also = mistake.entry.3;
+      help = mistake.entry.4;
+      joint = mistake.entry.5;
+      is_safe = mistake.entry.6;
+    } }
+{
     Words {
         code: mistake.0,
         headline: mistake.1,
