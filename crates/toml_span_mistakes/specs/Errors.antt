@@ -1,11 +1,11 @@
 -- The reports of errors, and the text of these reports.
-use Rattle.std.specs.Prelude.{◌≡◌, ℕ, true, ◌⊎◌, List, [], ◌∷◌, ◌++◌, codes, map, All, Any, IsSome}
+use Rattle.std.specs.Prelude.{◌≡◌, ℕ, true, ◌⊎◌, List, [], ◌∷◌, ◌++◌, codes, map, All, Any, IsSome, Some, ⊤}
 use Rattle.toml_span_lex.specs.declared.span.Span.{Span}
 use Rattle.toml_span_lex.specs.declared.stop.Stop.{Stop}
 use Rattle.toml_span_lex.specs.declared.stop.Stop.TheVariants as stop
 use Rattle.toml_span_tree.specs.Diagnostic.{labels_of, primary}
 use Rattle.toml_span_tree.specs.Error.{ErrorContent, Kind, unexpected_keys, unexpected_value, unexpected, out_of_range}
-use Rattle.toml_span_tree.specs.Error.{missing_field, deprecated}
+use Rattle.toml_span_tree.specs.Error.{missing_field, deprecated, wanted}
 use Rattle.toml_span_tree.specs.Message.{code_of, display_text}
 use Rattle.toml_span_tree.specs.Errors.{Errors, all}
 use Rattle.toml_span_report.specs.Explanations.{explained}
@@ -13,7 +13,7 @@ use Rattle.toml_span_report.specs.Many.{AreReportTexts}
 use Rattle.toml_span_report.specs.Places.{LiesIn}
 use Rattle.toml_span_report.specs.Rendering.{report_text}
 use Rattle.toml_span_report.specs.Report.{ReportLabel, Repair, ReportContent}
-use Rattle.toml_span_mistakes.specs.UnknownKeys.{key_label, one_of, unknown_keys}
+use Rattle.toml_span_mistakes.specs.UnknownKeys.{expected_keys, key_label, one_of, suggestions, unknown_keys}
 use Rattle.toml_span_mistakes.specs.UnknownKeys.{deprecated as renamed}
 use Rattle.toml_span_report.specs.declared.colours.Style.{Style}
 use Rattle.toml_span_report.specs.declared.report.Severity.{Severity}
@@ -41,13 +41,28 @@ labels span (missing_field field) = one_label span (codes "this table lacks the 
 labels span (deprecated old new) = one_label span (codes "deprecated key")
 labels span kind = labels_of tt span kind
 
--- The report shows the error itself: its code and message, and its labels, with the primary one where the error starts.
+-- its notes and help; the help on ranges of numbers is not defined
+abbrev pub notes : Kind → List (List ℕ)
+notes (unexpected_keys keys expected) = expected_keys expected ∷ []
+notes kind = []
+
+abbrev pub HasHelp : Kind → List (List ℕ) → Type 0
+HasHelp (unexpected_keys keys expected) help = help ≡ suggestions (map (λ key. key.0) keys) expected
+HasHelp (unexpected_value expected (Some value)) help = help ≡ suggestions (value ∷ []) expected
+HasHelp (out_of_range name) help = ⊤
+HasHelp (wanted expected found) help = ⊤
+HasHelp kind help = help ≡ []
+
+-- The report shows the error itself: its code and message, its notes and help, and its labels, with the primary one
+-- where the error starts.
 pub record ShowsError (error : ErrorContent) (report : ReportContent) : Type 0 where
   pub span : Span
   pub place : span.start ≡ error.span.start
   pub code : report.code ≡ code_of error.kind
   pub message : report.message ≡ message error.kind
   pub labels : report.labels ≡ labels span error.kind
+  pub notes : report.notes ≡ notes error.kind
+  pub help : HasHelp error.kind report.help
 
 -- ---- all errors
 

@@ -82,7 +82,9 @@ fn labels(alloc: Global, error: &Error<'_>, span: Span) -> Result<Vec<Label<()>>
 }
 
 /// Returns the notes of an error. Only `UnexpectedKeys` has a note (`what_is_expected`).
-fn notes(alloc: Global, kind: &ErrorKind<'_>) -> Result<Vec<String>, AllocError> {
+fn notes(alloc: Global, kind: &ErrorKind<'_>) -> Result<Vec<String>, AllocError>
+    ensures { IfOk result (λ notes. map string_bytes notes.items ≡ spec.notes (kind_of kind.now)) }
+{
     let mut notes = Vec::new(alloc);
     if let ErrorKind::UnexpectedKeys { expected, .. } = kind {
         let names = lent_names(alloc, expected.as_slice())?;
@@ -101,7 +103,9 @@ fn range(alloc: Global, name: &str) -> Result<Vec<String>, AllocError> {
 }
 
 /// Returns the lines of help for an error without a recognized mistake.
-fn help(alloc: Global, kind: &ErrorKind<'_>) -> Result<Vec<String>, AllocError> {
+fn help(alloc: Global, kind: &ErrorKind<'_>) -> Result<Vec<String>, AllocError>
+    ensures { IfOk result (λ help. spec.HasHelp (kind_of kind.now) (map string_bytes help.items)) }
+{
     match kind {
         ErrorKind::UnexpectedKeys { keys, expected } => {
             let names = key_names(alloc, keys.as_slice())?;

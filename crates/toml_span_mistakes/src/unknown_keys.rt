@@ -1,7 +1,8 @@
 //! Messages, notes, labels and help for unknown and deprecated keys, and for unexpected values. If an allocation
 //! fails, the output so far is dropped.
-ghost use Rattle.std.specs.Prelude.{◌≡◌, ◌++◌, codes, IfOk, OnOk, map, string_bytes};
+ghost use Rattle.std.specs.Prelude.{◌≡◌, ◌++◌, codes, IfOk, OnOk, map, option_map, string_bytes};
 ghost use Rattle.std.specs.List.{flat_map};
+ghost use Rattle.std.specs.Option.{option_to_list};
 ghost use Rattle.toml_span_tree.specs.Diagnostic.{label_content};
 ghost use Rattle.toml_span_tree.specs.Error.{marked_keys};
 ghost use Rattle.toml_span_mistakes.specs.UnknownKeys as spec;
@@ -61,10 +62,9 @@ pub(crate) fn key_names<'a>(
 }
 
 /// Returns the names in `owned` as string slices.
-pub(crate) fn lent_names<'a>(
-    alloc: Global,
-    owned: &'a [String],
-) -> Result<Vec<&'a str>, AllocError> {
+pub(crate) fn lent_names<'a>(alloc: Global, owned: &'a [String]) -> Result<Vec<&'a str>, AllocError>
+    ensures { IfOk result (λ names. map (λ name. name.now) names.items ≡ map string_bytes owned.now) }
+{
     let mut names = Vec::with_capacity(alloc, owned.len())?;
     for name in owned {
         names.push(name.as_str())?;
@@ -87,7 +87,9 @@ pub(crate) fn unknown_keys(alloc: Global, names: &[&str]) -> Result<String, Allo
 }
 
 /// Returns a note that lists the expected keys `names`, or says that the table can't have keys if `names` is empty.
-pub(crate) fn what_is_expected(alloc: Global, names: &[&str]) -> Result<String, AllocError> {
+pub(crate) fn what_is_expected(alloc: Global, names: &[&str]) -> Result<String, AllocError>
+    ensures { IfOk result (λ out. string_bytes out ≡ spec.expected_keys (map (λ name. name.now) names.now)) }
+{
     if names.is_empty() {
         return String::from_str(alloc, "this table can't have keys");
     }
@@ -142,16 +144,21 @@ pub(crate) fn key_labels(
 
 /// Appends ` in place of ` and `name` in backticks to `out`, unless `count` is 1. `count` is the number of unknown
 /// names.
-fn push_in_place_of(out: &mut String, count: usize, name: &str) -> Result<(), AllocError> {
+fn push_in_place_of(out: &mut String, count: usize, name: &str) -> Result<(), AllocError>
+    ensures { OnOk result (string_bytes out.new ≡ string_bytes out.old ++ spec.in_place_of count name.now) }
+{
     if count == 1 {
         return Ok(());
     }
     out.push_str(" in place of ")?;
-    push_named(out, name)
+    push_named(out, name)?;
+    Ok(())
 }
 
 /// Returns the line of help that suggests `meant` for the unknown name `name`. `count` is the number of unknown names.
-fn suggestion(alloc: Global, count: usize, name: &str, meant: &str) -> Result<String, AllocError> {
+fn suggestion(alloc: Global, count: usize, name: &str, meant: &str) -> Result<String, AllocError>
+    ensures { IfOk result (λ out. string_bytes out ≡ spec.suggestion count name.now meant.now) }
+{
     let mut out = String::from_str(alloc, "did you mean ")?;
     push_named(&mut out, meant)?;
     push_in_place_of(&mut out, count, name)?;
@@ -166,7 +173,10 @@ fn suggestion_for(
     count: usize,
     name: &str,
     expected: &[&str],
-) -> Result<Option<String>, AllocError> {
+) -> Result<Option<String>, AllocError>
+    ensures { IfOk result (λ found. option_map string_bytes found
+        ≡ spec.suggestion_for count (map (λ name. name.now) expected.now) name.now) }
+{
     match nearest(alloc, name, expected)? {
         Some(meant) => Ok(Some(suggestion(alloc, count, name, meant)?)),
         None => Ok(None),
@@ -174,7 +184,10 @@ fn suggestion_for(
 }
 
 /// Appends `text` to `texts`, if it is not `None`.
-fn push_text(texts: &mut Vec<String>, text: Option<String>) -> Result<(), AllocError> {
+fn push_text(texts: &mut Vec<String>, text: Option<String>) -> Result<(), AllocError>
+    ensures { OnOk result (map string_bytes texts.new.items
+        ≡ map string_bytes texts.old.items ++ option_to_list (option_map string_bytes text)) }
+{
     if let Some(text) = text {
         texts.push(text)?;
     }
@@ -186,7 +199,10 @@ pub(crate) fn suggestions(
     alloc: Global,
     names: &[&str],
     expected: &[&str],
-) -> Result<Vec<String>, AllocError> {
+) -> Result<Vec<String>, AllocError>
+    ensures { IfOk result (λ help. map string_bytes help.items
+        ≡ spec.suggestions (map (λ name. name.now) names.now) (map (λ name. name.now) expected.now)) }
+{
     let mut help = Vec::new(alloc);
     for name in names {
         let text = suggestion_for(alloc, names.len(), *name, expected)?;
