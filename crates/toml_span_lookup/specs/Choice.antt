@@ -1,12 +1,10 @@
 -- Which schema a file has, by the options, the directive in the file, and the catalog.
-use Rattle.std.specs.Prelude.{ℕ, ◌==◌, Bool, true, false, List, [], ◌∷◌, length, map, codes, string_bytes, bytes_eq}
-use Rattle.std.specs.Prelude.{Option, None, Some, if◌then◌else◌}
+use Rattle.std.specs.Prelude.{ℕ, ◌==◌, List, [], length, string_bytes, Option, None, Some, if◌then◌else◌}
 use Rattle.toml_span_lex.specs.declared.span.Span.{Span}
-use Rattle.toml_span_check.specs.Patterns.{parts, pattern, selected}
-use Rattle.toml_span_lookup.specs.Addresses.{folder_of, path_of, without}
+use Rattle.toml_span_lookup.specs.Addresses.{folder_of, path_of}
+use Rattle.toml_span_lookup.specs.Catalog.{address_for}
 use Rattle.toml_span_lookup.specs.Directive.{directive_of}
 use Rattle.toml_span_lookup.specs.declared.catalog.Catalog.{Catalog}
-use Rattle.toml_span_lookup.specs.declared.catalog.Listed.{Listed}
 use Rattle.toml_span_lookup.specs.declared.lookup.Choice.{Choice}
 use Rattle.toml_span_lookup.specs.declared.lookup.Choice.TheVariants as choices
 use Rattle.toml_span_lookup.specs.declared.options.Options.{Options}
@@ -23,23 +21,6 @@ chosen choices.None = no_schema
 chosen (choices.File path) = file (string_bytes path)
 chosen (choices.Unmapped address span) = unmapped (string_bytes address) span
 chosen (choices.Remote address) = remote (string_bytes address)
-
-abbrev pub is_selected : Option Bool → Bool
-is_selected (Some true) = true
-is_selected _ = false
-
--- whether a schema of a catalog applies to the file at a path: the last pattern that matches it decides
-abbrev pub applies : Listed → List ℕ → Bool
-applies listed path = is_selected (selected (map pattern listed.patterns.items) (parts path) false None)
-
-abbrev pub address_among : List Listed → List ℕ → Option (List ℕ)
-address_among [] path = None
-address_among (listed ∷ more) path =
-    if applies listed path then Some (string_bytes listed.address) else address_among more path
-
--- the address of the first schema in a catalog that applies to a file
-abbrev pub address_for : Catalog → List ℕ → Option (List ℕ)
-address_for catalog name = address_among catalog.schemas.items (without (codes "./") name)
 
 -- the schema at a path or, without a path, at an address that has no local copy
 abbrev pub at_path : Chosen → Option (List ℕ) → Chosen

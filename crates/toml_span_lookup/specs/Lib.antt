@@ -1,4 +1,5 @@
 pub mod Addresses
+pub mod Catalog
 pub mod Choice
 pub mod Directive
 pub mod Findings

@@ -1,6 +1,6 @@
 //! Catalogs of schemas in SchemaStore's format.
 ghost use Rattle.std.specs.Prelude.{◌≡◌, IfOk, option_map, string_bytes};
-ghost use Rattle.toml_span_lookup.specs.Choice as spec;
+ghost use Rattle.toml_span_lookup.specs.Catalog as spec;
 
 use crate::addresses::without;
 use json::{Reader, Scratch, Value as Json};

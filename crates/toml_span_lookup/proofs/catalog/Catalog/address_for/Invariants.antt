@@ -1,5 +1,5 @@
 use Rattle.std.proofs.Common.{◌≡◌, drop}
-use Rattle.toml_span_lookup.specs.Choice.{address_among}
+use Rattle.toml_span_lookup.specs.Catalog.{address_among}
 use Rattle.toml_span_lookup.proofs.catalog.Catalog.address_for.Given as goal
 
 abbrev pub invariant-loop-schema : goal.invariant-loop-schema
