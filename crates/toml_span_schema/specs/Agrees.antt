@@ -1,6 +1,6 @@
 -- Whether a compiled keyword without subschemas has the value that its JSON says. Drafts are numbered 4, 6, 7, 19, 20.
 use Rattle.std.specs.Prelude.{ℕ, ◌+◌, ◌==◌, nat_lt, nat_le, List, [], ◌∷◌, Bool, true, false, ◌&&◌, ◌||◌, String, Vec}
-use Rattle.std.specs.Prelude.{Option, None, Some, is_none, if◌then◌else◌, codes, slice_get, string_bytes}
+use Rattle.std.specs.Prelude.{Option, None, Some, length, if◌then◌else◌, codes, slice_get, string_bytes}
 use Rattle.std.specs.BTreeSet.{BTreeSet, btree_set_len, contains_text}
 use Rattle.std.specs.Bool.{beq}
 use Rattle.std.specs.Fmt.{decimal}
@@ -59,7 +59,7 @@ is_text_of (Some t) j = is_text j (string_bytes t)
 
 -- `required`: from position `i` on, the texts are those of a JSON array
 abbrev pub are_texts : List (String Global) → ℕ → Items → Bool
-are_texts ts i no_items = is_none (slice_get ts i)
+are_texts ts i no_items = nat_le (length ts) i
 are_texts ts i (item j js) = is_text_of (slice_get ts i) j && are_texts ts (i + 1) js
 
 abbrev pub is_list : Option (String Global × Vec (String Global) Global) → List ℕ → Items → Bool
@@ -68,7 +68,7 @@ is_list (Some e) n js = bytes_eq (string_bytes e.0) n && are_texts e.1.items 0 j
 
 -- `dependentRequired` and `dependencies`: from position `i` on, the entries are the members with an array
 abbrev pub are_lists : List (String Global × Vec (String Global) Global) → ℕ → Members → Bool
-are_lists es i no_members = is_none (slice_get es i)
+are_lists es i no_members = nat_le (length es) i
 are_lists es i (member n (array js) ms) = is_list (slice_get es i) n js && are_lists es (i + 1) ms
 are_lists es i (member n j ms) = are_lists es i ms
 

@@ -2,6 +2,7 @@
 ghost use Rattle.std.specs.Prelude.{◌≡◌, IfOk, map, option_map, slice_get};
 ghost use Rattle.json.specs.Value.{items_view, members_view, value_view};
 ghost use Rattle.toml_span_schema.specs.Agrees as spec;
+ghost use Rattle.toml_span_schema.specs.Numbers.{plain};
 
 use crate::canonical::{push_decimal, push_text};
 use crate::decimal::count_in;
@@ -72,24 +73,38 @@ fn are_types(draft: u8, value: &Json<'_>, types: Types) -> bool
         && types.whole == (types.integer && 4 < draft)
 }
 
+/// Returns whether the text at position `at` is the string `item`.
+fn is_text_at(texts: &[String], at: usize, item: &Json<'_>) -> bool
+    ensures { result ≡ spec.is_text_of (slice_get texts.now at) (value_view item.now) }
+{
+    match texts.get(at) {
+        Some(text) => is_text(item, text.as_str()),
+        None => false,
+    }
+}
+
 /// Returns whether `texts` are the strings `items`.
 fn are_texts(texts: &[String], items: &[Json<'_>]) -> bool
     ensures { result ≡ spec.are_texts texts.now 0 (items_view items.now) }
 {
     for (at, item) in items.iter().enumerate() {
-        match texts.get(at) {
-            Some(text) if is_text(item, text.as_str()) => {}
-            _ => return false,
+        if !is_text_at(texts, at, item) {
+            return false;
         }
     }
-    texts.get(items.len()).is_none()
+    texts.len() <= items.len()
 }
 
-/// Returns whether `entry` has this name and the strings `items`.
-fn is_list(entry: Option<&(String, Vec<String>)>, name: &str, items: &[Json<'_>]) -> bool
-    ensures { result ≡ spec.is_list (option_map (λ e. e.now) entry.entry) name.now (items_view items.now) }
+/// Returns whether the entry at position `at` has this name and the strings `items`.
+fn is_list_at(
+    entries: &[(String, Vec<String>)],
+    at: usize,
+    name: &str,
+    items: &[Json<'_>],
+) -> bool
+    ensures { result ≡ spec.is_list (slice_get entries.now at) name.now (items_view items.now) }
 {
-    match entry {
+    match entries.get(at) {
         Some(entry) => entry.0.as_str() == name && are_texts(entry.1.as_slice(), items),
         None => false,
     }
@@ -102,13 +117,13 @@ fn are_lists(entries: &[(String, Vec<String>)], members: &[(&str, Json<'_>)]) ->
     let mut at = 0;
     for member in members {
         if let Json::Array(items) = &member.1 {
-            if !is_list(entries.get(at), member.0, items.as_slice()) {
+            if !is_list_at(entries, at, member.0, items.as_slice()) {
                 return false;
             }
             at += 1;
         }
     }
-    entries.get(at).is_none()
+    entries.len() <= at
 }
 
 /// Returns whether a boolean, a number or a string is in `values`, a set of canonical texts. Returns true for other
