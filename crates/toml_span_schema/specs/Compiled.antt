@@ -1,4 +1,4 @@
--- When a compiled schema has lost no keyword of its JSON: each keyword of the draft is there, by its name, and each
+-- When a compiled schema has lost no keyword of its JSON: each keyword of the draft is there with its value, and each
 -- subschema is compiled likewise. Drafts are numbered 4, 6, 7, 19 and 20.
 use Rattle.std.specs.Prelude.{◌≡◌, ℕ, zero, suc, ◌+◌, ◌==◌, nat_lt, List, [], ◌∷◌, length, Bool, true, false, ◌&&◌}
 use Rattle.std.specs.Prelude.{◌||◌, not, Option, Some, None, option_map, if◌then◌else◌, codes, slice_get, IsTrue, ⊤}
@@ -10,6 +10,7 @@ use Rattle.json.specs.Find.{get}
 use Rattle.json.specs.Json.{Json, null, boolean, number, string, array, object, document}
 use Rattle.json.specs.Json.{Items, no_items, item, Members, no_members, member}
 use Rattle.json.specs.Strict.{HasUniqueKeys}
+use Rattle.toml_span_schema.specs.Agrees.{has_limit, has_value, have_values, dependencies, is_true}
 use Rattle.toml_span_schema.specs.Valid.{keywords}
 use Rattle.toml_span_schema.specs.declared.keyword.Keyword.{Keyword}
 use Rattle.toml_span_schema.specs.declared.keyword.Keyword.TheVariants as keyword
@@ -123,38 +124,31 @@ has ps n = list_any (λ p. bytes_eq p.name.now n) ps
 abbrev pub is_kept : Json → List Placed → List ℕ → Bool
 is_kept j ps n = not (is_some (get n j)) || has ps n
 
-abbrev pub are_kept : Json → List Placed → List (List ℕ) → Bool
-are_kept j ps ns = list_all (λ n. is_kept j ps n) ns
-
--- a limit, which in draft 4 may have the name of the keyword that excludes it
-abbrev pub is_limit_kept : ℕ → Json → List Placed → List ℕ → List ℕ → Bool
-is_limit_kept d j ps n excluding = is_kept j ps n || (d == 4 && has ps excluding)
-
-abbrev pub is_true : Option Json → Bool
-is_true (Some (boolean true)) = true
-is_true _ = false
-
-abbrev pub dependencies : ℕ → List ℕ
-dependencies d = if nat_lt d 19 then codes "dependencies" else codes "dependentRequired"
-
--- Whether the other keywords are there, except for `pattern` and `format`.
-unfoldable pub keeps_names : ℕ → List Placed → Json → Bool
-keeps_names d ps j =
-    are_kept j ps (codes "$ref" ∷ codes "type" ∷ codes "enum" ∷ codes "multipleOf" ∷ codes "minLength"
-    ∷ codes "maxLength" ∷ codes "minItems" ∷ codes "maxItems" ∷ codes "minProperties" ∷ codes "maxProperties"
-    ∷ codes "required" ∷ [])
-    && (nat_lt d 6 || are_kept j ps (codes "const" ∷ codes "exclusiveMinimum" ∷ codes "exclusiveMaximum" ∷ []))
-    && is_limit_kept d j ps (codes "minimum") (codes "exclusiveMinimum")
-    && is_limit_kept d j ps (codes "maximum") (codes "exclusiveMaximum")
+-- Whether the keywords of all drafts without subschemas are there with their values, except for `pattern` and `format`.
+unfoldable pub keeps_values : ℕ → List Placed → Json → Bool
+keeps_values d ps j =
+    have_values d ps (codes "type" ∷ codes "enum" ∷ codes "multipleOf" ∷ codes "minLength" ∷ codes "maxLength"
+    ∷ codes "minItems" ∷ codes "maxItems" ∷ codes "minProperties" ∷ codes "maxProperties" ∷ codes "required"
+    ∷ dependencies d ∷ []) j
+    && has_limit d ps (codes "minimum") (codes "exclusiveMinimum") j
+    && has_limit d ps (codes "maximum") (codes "exclusiveMaximum") j
 
 unfoldable pub keeps_later : ℕ → List Placed → Json → Bool
 keeps_later d ps j =
-    is_kept j ps (dependencies d) && (not (is_true (get (codes "uniqueItems") j)) || has ps (codes "uniqueItems"))
-    && (not (d == 19) || is_kept j ps (codes "$recursiveRef")) && (not (d == 20) || is_kept j ps (codes "$dynamicRef"))
+    (nat_lt d 6 || have_values d ps (codes "const" ∷ codes "exclusiveMinimum" ∷ codes "exclusiveMaximum" ∷ []) j)
+    && (nat_lt d 6 || not (is_some (get (codes "contains") j)) || has_value d ps (codes "contains") (Some j))
+    && (not (is_true (get (codes "uniqueItems") j)) || has_value d ps (codes "uniqueItems") (Some j))
+
+-- whether the references are there, by their names
+unfoldable pub keeps_references : ℕ → List Placed → Json → Bool
+keeps_references d ps j =
+    is_kept j ps (codes "$ref") && (not (d == 19) || is_kept j ps (codes "$recursiveRef"))
+    && (not (d == 20) || is_kept j ps (codes "$dynamicRef"))
 
 abbrev pub keeps_all : Compile → ℕ → List Placed → Json → Bool
 keeps_all f d ps j =
-    keeps_names d ps j && keeps_later d ps j && keeps_schemas f d ps j && keeps_members f d ps j && items_led f d ps j
+    keeps_values d ps j && keeps_later d ps j && keeps_references d ps j && keeps_schemas f d ps j
+    && keeps_members f d ps j && items_led f d ps j
 
 abbrev pub is_string : Option Json → Bool
 is_string (Some (string t)) = true
@@ -191,12 +185,17 @@ unfoldable pub compiled : Schema → ℕ → ℕ → Json → ℕ → Bool
 compiled s d zero j k = false
 compiled s d (suc depth) j k = step (inner s (compiled s d depth)) s d j (keywords s k)
 
+-- a subschema of a schema where at most this many subschemas nest
+abbrev pub below : Schema → ℕ → ℕ → Compile
+below s d n = inner s (compiled s d n)
+
 abbrev pub is_compiled_in : Schema → Option ℕ → Json → Type 0
 is_compiled_in s None j = ⊤
 is_compiled_in s (Some d) j = IsTrue (compiled s d 130 j 0)
 
--- Whether a schema has all keywords and subschemas of a JSON text of a known draft, in which no name occurs twice in
--- an object. Not compared: what references lead to, and the values of keywords without subschemas.
+-- Whether a schema has all keywords of a JSON text of a known draft, in which no name occurs twice in an object, with
+-- their values and subschemas. Not compared: what references lead to, `pattern`, `format`, the expressions of
+-- `patternProperties`, subschemas of `dependencies`, and arrays and objects in `enum` and `const`.
 abbrev pub IsCompiled : List ℕ → Schema → Type 0
 IsCompiled text s =
     (j : Json) × (document text ≡ Some j) × (HasUniqueKeys j → is_compiled_in s (draft_in (get (codes "$schema") j)) j)

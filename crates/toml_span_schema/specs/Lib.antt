@@ -1,3 +1,4 @@
+pub mod Agrees
 pub mod Applied
 pub mod Asserted
 pub mod Canonical

@@ -1,13 +1,13 @@
 -- Exact decimal numbers, and the numbers that decimal texts spell.
 use Rattle.std.specs.Prelude.{ℕ, ◌+◌, ◌-◌, ◌*◌, ◌^◌, ◌%◌, min, nat_lt, nat_le, ◌==◌, List, [], ◌∷◌, ◌++◌, length}
-use Rattle.std.specs.Prelude.{slice_range, Bool, true, false, ◌&&◌, ◌||◌, if◌then◌else◌, Option, Some, None}
+use Rattle.std.specs.Prelude.{slice_range, drop, Bool, true, false, ◌&&◌, ◌||◌, if◌then◌else◌, Option, Some, None}
 use Rattle.std.specs.Cmp.Lexicographic.{slice_cmp}
 use Rattle.std.specs.Fmt.{signed_decimal}
 use Rattle.std.specs.Ordering.{nat_cmp, ordering_then}
 use Rattle.std.specs.Str.Parse.{digits_value}
 use Rattle.std.specs.declared.cmp.Ordering.{Ordering}
 use Rattle.std.specs.declared.cmp.Ordering.TheVariants.{Less, Equal, Greater}
-use Rattle.fast_float.specs.Text.{scan}
+use Rattle.fast_float.specs.Text.{Parts, scan, point_at, whole_of}
 use Rattle.toml_span_tree.specs.Node.{FloatValue, finite, infinite, not_a_number, Inner, scalar, integer, float}
 use Rattle.toml_span_schema.specs.declared.numbers.Decimal.{Decimal}
 use Rattle.toml_span_schema.specs.declared.numbers.Number.{Number}
@@ -70,6 +70,15 @@ unsigned_of negative text =
 abbrev pub decimal_of : List ℕ → Plain
 decimal_of [] = unsigned_of false []
 decimal_of (c ∷ cs) = if c == 45 then unsigned_of true cs else unsigned_of false (c ∷ cs)
+
+-- the count that a numeral spells; one above 2^64 - 1 becomes 2^64 - 1
+abbrev pub count_of : Parts → ℕ
+count_of p =
+    if digits_value 10 (drop (point_at p) (p.whole ++ p.fraction)) == 0 then min (whole_of p) 18446744073709551615
+    else 18446744073709551615
+
+abbrev pub count_in : List ℕ → ℕ
+count_in text = count_of (scan text)
 
 abbrev pub is_zero : Plain → Bool
 is_zero p = length p.digits == 0

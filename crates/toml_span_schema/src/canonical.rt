@@ -19,7 +19,7 @@ use toml_span_tree::{Table, Value, ValueInner};
 pub(crate) const LEVELS: usize = 1_000;
 
 /// Appends the length of `text` in bytes, a colon and `text`.
-fn push_text(out: &mut String, text: &str) -> Result<(), AllocError>
+pub(crate) fn push_text(out: &mut String, text: &str) -> Result<(), AllocError>
     ensures { OnOk result (string_bytes out.new ≡ string_bytes out.old ++ text_form text.now) }
 {
     let alloc = *out.allocator();
@@ -30,7 +30,7 @@ fn push_text(out: &mut String, text: &str) -> Result<(), AllocError>
 }
 
 /// Appends the canonical text of a finite number: its sign, its digits, `e`, its `point` and `;`.
-fn push_decimal(out: &mut String, number: &Decimal) -> Result<(), AllocError>
+pub(crate) fn push_decimal(out: &mut String, number: &Decimal) -> Result<(), AllocError>
     ensures { OnOk result (string_bytes out.new ≡ string_bytes out.old ++ plain_form (plain number.now)) }
 {
     let alloc = *out.allocator();

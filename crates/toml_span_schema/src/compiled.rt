@@ -1,19 +1,21 @@
-//! Checks that a compiled schema has lost no keyword of its JSON. Drafts are numbered 4, 6, 7, 19 and 20. In the
+//! Checks that a compiled schema has lost no keyword or value of its JSON. Drafts are numbered 4, 6, 7, 19 and 20. In the
 //! methods of a schema, `left` is the number of subschemas that may still be nested.
-ghost use Rattle.std.specs.Prelude.{◌≡◌, [], IsSomeAnd, OnOk, Some, codes, map, option_map, slice_get, true};
+ghost use Rattle.std.specs.Prelude.{◌≡◌, [], IfOk, IsSomeAnd, OnOk, Some, codes, map, option_map, slice_get, true};
 ghost use Rattle.std.specs.Option.{is_some};
 ghost use Rattle.json.specs.Find.{get};
 ghost use Rattle.json.specs.Json.{document};
 ghost use Rattle.json.specs.Strict.{HasUniqueKeys};
 ghost use Rattle.json.specs.Value.{items_view, members_view, value_view};
 ghost use Rattle.toml_span_schema.specs.Compiled as spec;
-ghost use Rattle.toml_span_schema.specs.Compiled.{IsCompiled, compiled, inner};
+ghost use Rattle.toml_span_schema.specs.Compiled.{IsCompiled, below, compiled};
 
+use crate::agrees::{dependencies, has_limit, has_value, have_values};
 use crate::error::SchemaError;
 use crate::keyword::{Keyword, Placed};
 use crate::schema::Schema;
+use crate::sources::is_true;
 use json::{Error, Scratch, Value as Json};
-use std::alloc::Global;
+use std::alloc::{AllocError, Global};
 
 /// More than the number of subschemas that can nest, since JSON nests at most 128 levels deep.
 const MOST_LEVELS: usize = 130;
@@ -147,51 +149,17 @@ fn is_kept(value: &Json<'_>, keywords: &[Placed], name: &str) -> bool
     !is_present(value, name) || has(keywords, name)
 }
 
-/// Returns whether those of the keywords `names` that the schema has are compiled.
-fn are_kept(value: &Json<'_>, keywords: &[Placed], names: &[&str]) -> bool
-    ensures { result ≡ spec.are_kept (value_view value.now) keywords.now (map (λ n. n.now) names.now) }
+/// Returns whether the keywords of all drafts without subschemas are compiled with their values.
+#[tactic(auto, unfolding(crate::specs::Compiled::keeps_values))]
+fn keeps_values(
+    alloc: Global,
+    draft: u8,
+    keywords: &[Placed],
+    value: &Json<'_>,
+) -> Result<bool, AllocError>
+    ensures { IfOk result (λ r. r ≡ spec.keeps_values draft keywords.now (value_view value.now)) }
 {
-    for name in names {
-        if !is_kept(value, keywords, *name) {
-            return false;
-        }
-    }
-    true
-}
-
-/// Returns whether the limit `names.0` is compiled. In draft 4, it may have the name of the keyword that excludes it.
-fn is_limit_kept(draft: u8, value: &Json<'_>, keywords: &[Placed], names: (&str, &str)) -> bool
-    ensures { result ≡ spec.is_limit_kept draft (value_view value.now) keywords.now names.entry.0.now
-        names.entry.1.now }
-{
-    is_kept(value, keywords, names.0) || draft == 4 && has(keywords, names.1)
-}
-
-/// Returns whether `uniqueItems` is true.
-fn is_unique(value: &Json<'_>) -> bool
-    ensures { result ≡ spec.is_true (get (codes "uniqueItems") (value_view value.now)) }
-{
-    matches!(value.get("uniqueItems"), Some(Json::Bool(true)))
-}
-
-/// Returns the keyword that lists the keys that other keys require.
-fn dependencies(draft: u8) -> &'static str
-    ensures { result.now ≡ spec.dependencies draft }
-{
-    if draft < 19 {
-        "dependencies"
-    } else {
-        "dependentRequired"
-    }
-}
-
-/// Returns whether the keywords without subschemas are compiled, except for those of `keeps_later`.
-#[tactic(auto, unfolding(crate::specs::Compiled::keeps_names))]
-fn keeps_names(draft: u8, keywords: &[Placed], value: &Json<'_>) -> bool
-    ensures { result ≡ spec.keeps_names draft keywords.now (value_view value.now) }
-{
-    let ever: &[&str] = &[
-        "$ref",
+    let names: &[&str] = &[
         "type",
         "enum",
         "multipleOf",
@@ -202,25 +170,44 @@ fn keeps_names(draft: u8, keywords: &[Placed], value: &Json<'_>) -> bool
         "minProperties",
         "maxProperties",
         "required",
+        dependencies(draft),
     ];
-    are_kept(value, keywords, ever)
-        && (draft < 6
-            || are_kept(
-                value,
-                keywords,
-                &["const", "exclusiveMinimum", "exclusiveMaximum"],
-            ))
-        && is_limit_kept(draft, value, keywords, ("minimum", "exclusiveMinimum"))
-        && is_limit_kept(draft, value, keywords, ("maximum", "exclusiveMaximum"))
+    let minimum = ("minimum", "exclusiveMinimum");
+    let maximum = ("maximum", "exclusiveMaximum");
+    Ok(
+        have_values(alloc, draft, keywords, names, value)?
+            && has_limit(alloc, draft, keywords, minimum, value)?
+            && has_limit(alloc, draft, keywords, maximum, value)?,
+    )
 }
 
-/// Returns whether `uniqueItems`, and the keywords for required keys and references of only some drafts, are compiled.
+/// Returns whether `uniqueItems`, and those of the keywords of later drafts that have no subschemas or are `contains`,
+/// are compiled with their values.
 #[tactic(auto, unfolding(crate::specs::Compiled::keeps_later))]
-fn keeps_later(draft: u8, keywords: &[Placed], value: &Json<'_>) -> bool
-    ensures { result ≡ spec.keeps_later draft keywords.now (value_view value.now) }
+fn keeps_later(
+    alloc: Global,
+    draft: u8,
+    keywords: &[Placed],
+    value: &Json<'_>,
+) -> Result<bool, AllocError>
+    ensures { IfOk result (λ r. r ≡ spec.keeps_later draft keywords.now (value_view value.now)) }
 {
-    is_kept(value, keywords, dependencies(draft))
-        && (!is_unique(value) || has(keywords, "uniqueItems"))
+    let names: &[&str] = &["const", "exclusiveMinimum", "exclusiveMaximum"];
+    let contains = draft < 6 || !is_present(value, "contains");
+    let repeats = !is_true(value, "uniqueItems");
+    Ok(
+        (draft < 6 || have_values(alloc, draft, keywords, names, value)?)
+            && (contains || has_value(alloc, draft, keywords, "contains", Some(value))?)
+            && (repeats || has_value(alloc, draft, keywords, "uniqueItems", Some(value))?),
+    )
+}
+
+/// Returns whether the references are compiled.
+#[tactic(auto, unfolding(crate::specs::Compiled::keeps_references))]
+fn keeps_references(draft: u8, keywords: &[Placed], value: &Json<'_>) -> bool
+    ensures { result ≡ spec.keeps_references draft keywords.now (value_view value.now) }
+{
+    is_kept(value, keywords, "$ref")
         && (draft != 19 || is_kept(value, keywords, "$recursiveRef"))
         && (draft != 20 || is_kept(value, keywords, "$dynamicRef"))
 }
@@ -228,11 +215,17 @@ fn keeps_later(draft: u8, keywords: &[Placed], value: &Json<'_>) -> bool
 impl Schema {
     /// Returns whether the keywords of a JSON schema are compiled to the node at index `node`.
     #[cycle(compiled)]
-    fn is_compiled(&self, draft: u8, left: usize, value: &Json<'_>, node: usize) -> bool
-        ensures { result ≡ compiled self.now draft left (value_view value.now) node }
+    fn is_compiled(
+        &self,
+        draft: u8,
+        left: usize,
+        value: &Json<'_>,
+        node: usize,
+    ) -> Result<bool, AllocError>
+        ensures { IfOk result (λ r. r ≡ compiled self.now draft left (value_view value.now) node) }
     {
         if left == 0 {
-            return false;
+            return Ok(false);
         }
         self.keeps(draft, left - 1, value, self.keywords(node))
     }
@@ -240,80 +233,122 @@ impl Schema {
     /// Returns whether the keywords of a JSON schema are among the compiled ones.
     #[cycle(compiled)]
     #[tactic(auto, unfolding(crate::specs::Compiled::step))]
-    fn keeps(&self, draft: u8, left: usize, value: &Json<'_>, keywords: &[Placed]) -> bool
-        ensures { result ≡ spec.step (inner self.now (compiled self.now draft left)) self.now draft
-            (value_view value.now) keywords.now }
+    fn keeps(
+        &self,
+        draft: u8,
+        left: usize,
+        value: &Json<'_>,
+        keywords: &[Placed],
+    ) -> Result<bool, AllocError>
+        ensures { IfOk result (λ r. r ≡ spec.step (below self.now draft left) self.now draft
+            (value_view value.now) keywords.now) }
     {
         match value {
-            Json::Bool(true) => keywords.is_empty(),
-            Json::Bool(false) => has(keywords, "false"),
+            Json::Bool(true) => Ok(keywords.is_empty()),
+            Json::Bool(false) => Ok(has(keywords, "false")),
             Json::Object(_) => {
                 if draft < 19 && matches!(value.get("$ref"), Some(Json::String(_))) {
-                    return has(keywords, "$ref");
+                    return Ok(has(keywords, "$ref"));
                 }
                 if draft > 18 && is_unevaluated(value) {
                     return self.is_around(draft, left, keywords, value);
                 }
                 self.keeps_all(draft, left, keywords, value)
             }
-            _ => false,
+            _ => Ok(false),
         }
     }
 
     /// Returns whether the keywords of a JSON object with `unevaluatedItems` or `unevaluatedProperties` are compiled.
     #[cycle(compiled)]
-    fn is_around(&self, draft: u8, left: usize, keywords: &[Placed], value: &Json<'_>) -> bool
-        ensures { result ≡ spec.is_around (inner self.now (compiled self.now draft left)) self.now draft keywords.now
-            (value_view value.now) (spec.node_among (codes "allOf") 0 [] keywords.now) }
+    fn is_around(
+        &self,
+        draft: u8,
+        left: usize,
+        keywords: &[Placed],
+        value: &Json<'_>,
+    ) -> Result<bool, AllocError>
+        ensures { IfOk result (λ r. r ≡ spec.is_around (below self.now draft left) self.now draft keywords.now
+            (value_view value.now) (spec.node_among (codes "allOf") 0 [] keywords.now)) }
     {
         let Some(node) = node_among("allOf", 0, "", keywords) else {
-            return false;
+            return Ok(false);
         };
         let names = &["unevaluatedItems", "unevaluatedProperties"];
-        self.keeps_all(draft, left, self.keywords(node), value)
-            && self.are_led(draft, left, names, keywords, value)
+        Ok(
+            self.keeps_all(draft, left, self.keywords(node), value)?
+                && self.are_led(draft, left, names, keywords, value)?,
+        )
     }
 
     /// Returns whether the keywords of a JSON object, except `unevaluatedItems` and `unevaluatedProperties`, are
     /// compiled.
     #[cycle(compiled)]
-    fn keeps_all(&self, draft: u8, left: usize, keywords: &[Placed], value: &Json<'_>) -> bool
-        ensures { result ≡ spec.keeps_all (inner self.now (compiled self.now draft left)) draft keywords.now
-            (value_view value.now) }
+    fn keeps_all(
+        &self,
+        draft: u8,
+        left: usize,
+        keywords: &[Placed],
+        value: &Json<'_>,
+    ) -> Result<bool, AllocError>
+        ensures { IfOk result (λ r. r ≡ spec.keeps_all (below self.now draft left) draft keywords.now
+            (value_view value.now)) }
     {
-        keeps_names(draft, keywords, value)
-            && keeps_later(draft, keywords, value)
-            && self.keeps_schemas(draft, left, keywords, value)
-            && self.keeps_members(draft, left, keywords, value)
-            && self.items_led(draft, left, keywords, value)
+        let alloc = *self.nodes.allocator();
+        Ok(
+            keeps_values(alloc, draft, keywords, value)?
+                && keeps_later(alloc, draft, keywords, value)?
+                && keeps_references(draft, keywords, value)
+                && self.keeps_schemas(draft, left, keywords, value)?
+                && self.keeps_members(draft, left, keywords, value)?
+                && self.items_led(draft, left, keywords, value)?,
+        )
     }
 
     /// Returns whether the subschemas of keywords with a schema or an array of schemas are compiled, except for those
     /// of `items_led`.
     #[cycle(compiled)]
     #[tactic(auto, unfolding(crate::specs::Compiled::keeps_schemas))]
-    fn keeps_schemas(&self, draft: u8, left: usize, keywords: &[Placed], value: &Json<'_>) -> bool
-        ensures { result ≡ spec.keeps_schemas (inner self.now (compiled self.now draft left)) draft keywords.now
-            (value_view value.now) }
+    fn keeps_schemas(
+        &self,
+        draft: u8,
+        left: usize,
+        keywords: &[Placed],
+        value: &Json<'_>,
+    ) -> Result<bool, AllocError>
+        ensures { IfOk result (λ r. r ≡ spec.keeps_schemas (below self.now draft left) draft keywords.now
+            (value_view value.now)) }
     {
         let ever = &["allOf", "anyOf", "oneOf", "not", "additionalProperties"];
         let branches = draft < 7 || !is_present(value, "if");
-        self.are_led(draft, left, ever, keywords, value)
-            && (draft < 6
-                || self.are_led(draft, left, &["contains", "propertyNames"], keywords, value))
-            && (branches || self.are_led(draft, left, &["if", "then", "else"], keywords, value))
+        Ok(
+            self.are_led(draft, left, ever, keywords, value)?
+                && (draft < 6
+                    || self.are_led(draft, left, &["contains", "propertyNames"], keywords, value)?)
+                && (branches
+                    || self.are_led(draft, left, &["if", "then", "else"], keywords, value)?),
+        )
     }
 
     /// Returns whether the subschemas of keywords with an object of schemas are compiled, except for `dependencies`.
     #[cycle(compiled)]
     #[tactic(auto, unfolding(crate::specs::Compiled::keeps_members))]
-    fn keeps_members(&self, draft: u8, left: usize, keywords: &[Placed], value: &Json<'_>) -> bool
-        ensures { result ≡ spec.keeps_members (inner self.now (compiled self.now draft left)) draft keywords.now
-            (value_view value.now) }
+    fn keeps_members(
+        &self,
+        draft: u8,
+        left: usize,
+        keywords: &[Placed],
+        value: &Json<'_>,
+    ) -> Result<bool, AllocError>
+        ensures { IfOk result (λ r. r ≡ spec.keeps_members (below self.now draft left) draft keywords.now
+            (value_view value.now)) }
     {
-        self.member_led(draft, left, "properties", keywords, value)
-            && self.member_led(draft, left, "patternProperties", keywords, value)
-            && (draft < 19 || self.member_led(draft, left, "dependentSchemas", keywords, value))
+        Ok(
+            self.member_led(draft, left, "properties", keywords, value)?
+                && self.member_led(draft, left, "patternProperties", keywords, value)?
+                && (draft < 19
+                    || self.member_led(draft, left, "dependentSchemas", keywords, value)?),
+        )
     }
 
     /// Returns whether the subschemas in an object that the keyword `name` has are compiled.
@@ -325,9 +360,9 @@ impl Schema {
         name: &str,
         keywords: &[Placed],
         value: &Json<'_>,
-    ) -> bool
-        ensures { result ≡ spec.is_led (inner self.now (compiled self.now draft left)) name.now true keywords.now
-            (get name.now (value_view value.now)) }
+    ) -> Result<bool, AllocError>
+        ensures { IfOk result (λ r. r ≡ spec.is_led (below self.now draft left) name.now true keywords.now
+            (get name.now (value_view value.now))) }
     {
         self.is_led(draft, left, (name, true), keywords, value.get(name))
     }
@@ -335,23 +370,26 @@ impl Schema {
     /// Returns whether the subschemas of `items`, `prefixItems` and `additionalItems` are compiled.
     #[cycle(compiled)]
     #[tactic(auto, unfolding(crate::specs::Compiled::items_led))]
-    fn items_led(&self, draft: u8, left: usize, keywords: &[Placed], value: &Json<'_>) -> bool
-        ensures { result ≡ spec.items_led (inner self.now (compiled self.now draft left)) draft keywords.now
-            (value_view value.now) }
+    fn items_led(
+        &self,
+        draft: u8,
+        left: usize,
+        keywords: &[Placed],
+        value: &Json<'_>,
+    ) -> Result<bool, AllocError>
+        ensures { IfOk result (λ r. r ≡ spec.items_led (below self.now draft left) draft keywords.now
+            (value_view value.now)) }
     {
         if draft == 20 {
             return self.are_led(draft, left, &["prefixItems", "items"], keywords, value);
         }
         let items = value.get("items");
         if let Some(Json::Array(_)) = items {
-            return self.is_led(draft, left, ("prefixItems", false), keywords, items)
-                && self.is_led(
-                    draft,
-                    left,
-                    ("items", false),
-                    keywords,
-                    value.get("additionalItems"),
-                );
+            let rest = value.get("additionalItems");
+            return Ok(
+                self.is_led(draft, left, ("prefixItems", false), keywords, items)?
+                    && self.is_led(draft, left, ("items", false), keywords, rest)?,
+            );
         }
         self.is_led(draft, left, ("items", false), keywords, items)
     }
@@ -365,16 +403,16 @@ impl Schema {
         names: &[&str],
         keywords: &[Placed],
         value: &Json<'_>,
-    ) -> bool
-        ensures { result ≡ spec.are_led (inner self.now (compiled self.now draft left)) (map (λ n. n.now) names.now)
-            keywords.now (value_view value.now) }
+    ) -> Result<bool, AllocError>
+        ensures { IfOk result (λ r. r ≡ spec.are_led (below self.now draft left) (map (λ n. n.now) names.now)
+            keywords.now (value_view value.now)) }
     {
         for name in names {
-            if !self.is_led(draft, left, (*name, false), keywords, value.get(*name)) {
-                return false;
+            if !self.is_led(draft, left, (*name, false), keywords, value.get(*name))? {
+                return Ok(false);
             }
         }
-        true
+        Ok(true)
     }
 
     /// Returns whether a value of the keyword `part.0` is compiled: a schema, an array of schemas or, if `part.1`, an
@@ -387,12 +425,12 @@ impl Schema {
         part: (&str, bool),
         keywords: &[Placed],
         value: Option<&Json<'_>>,
-    ) -> bool
-        ensures { result ≡ spec.is_led (inner self.now (compiled self.now draft left)) part.entry.0.now part.entry.1
-            keywords.now (option_map (λ v. value_view v.now) value.entry) }
+    ) -> Result<bool, AllocError>
+        ensures { IfOk result (λ r. r ≡ spec.is_led (below self.now draft left) part.entry.0.now part.entry.1
+            keywords.now (option_map (λ v. value_view v.now) value.entry)) }
     {
         match value {
-            None => true,
+            None => Ok(true),
             Some(Json::Array(items)) => self.items_lead(
                 draft,
                 left,
@@ -422,16 +460,16 @@ impl Schema {
         name: &str,
         keywords: &[Placed],
         items: &[Json<'_>],
-    ) -> bool
-        ensures { result ≡ spec.items_lead (inner self.now (compiled self.now draft left)) name.now keywords.now 0
-            (items_view items.now) }
+    ) -> Result<bool, AllocError>
+        ensures { IfOk result (λ r. r ≡ spec.items_lead (below self.now draft left) name.now keywords.now 0
+            (items_view items.now)) }
     {
         for (at, item) in items.iter().enumerate() {
-            if !self.leads(draft, left, name, item, node_among(name, at, "", keywords)) {
-                return false;
+            if !self.leads(draft, left, name, item, node_among(name, at, "", keywords))? {
+                return Ok(false);
             }
         }
-        true
+        Ok(true)
     }
 
     /// Returns whether each of the schemas `members` of the keyword `name` is compiled.
@@ -443,17 +481,17 @@ impl Schema {
         name: &str,
         keywords: &[Placed],
         members: &[(&str, Json<'_>)],
-    ) -> bool
-        ensures { result ≡ spec.members_lead (inner self.now (compiled self.now draft left)) name.now keywords.now 0
-            (members_view members.now) }
+    ) -> Result<bool, AllocError>
+        ensures { IfOk result (λ r. r ≡ spec.members_lead (below self.now draft left) name.now keywords.now 0
+            (members_view members.now)) }
     {
         for (at, member) in members.iter().enumerate() {
             let node = node_among(name, at, member.0, keywords);
-            if !self.leads(draft, left, name, &member.1, node) {
-                return false;
+            if !self.leads(draft, left, name, &member.1, node)? {
+                return Ok(false);
             }
         }
-        true
+        Ok(true)
     }
 
     /// Returns whether a schema of the keyword `name` is compiled to `node`. Also true if the schema has a `$schema` of
@@ -466,21 +504,23 @@ impl Schema {
         name: &str,
         value: &Json<'_>,
         node: Option<usize>,
-    ) -> bool
-        ensures { result ≡ spec.leads (inner self.now (compiled self.now draft left)) name.now (value_view value.now)
-            node }
+    ) -> Result<bool, AllocError>
+        ensures { IfOk result (λ r. r ≡ spec.leads (below self.now draft left) name.now (value_view value.now)
+            node) }
     {
         let Some(node) = node else {
-            return false;
+            return Ok(false);
         };
-        is_present(value, "$schema")
-            || self.is_compiled(draft, left, value, node)
-            || name == "patternProperties" && self.keywords(node).is_empty()
+        Ok(
+            is_present(value, "$schema")
+                || self.is_compiled(draft, left, value, node)?
+                || name == "patternProperties" && self.keywords(node).is_empty(),
+        )
     }
 }
 
-/// Fails with `Internal` if a schema lacks a keyword of its JSON text, which is a bug. Fails with `OutOfMemory` if an
-/// allocation fails.
+/// Fails with `Internal` if a schema lacks a keyword or a value of its JSON text, which is a bug. Fails with
+/// `OutOfMemory` if an allocation fails.
 pub(crate) fn ensure_compiled(alloc: Global, text: &str, schema: &Schema) -> Result<(), SchemaError>
     ensures { OnOk result (IsCompiled text.now schema.now) }
 {
@@ -492,10 +532,10 @@ pub(crate) fn ensure_compiled(alloc: Global, text: &str, schema: &Schema) -> Res
     };
     let is_right = match draft_in(&value) {
         Some(draft) => schema.is_compiled(draft, MOST_LEVELS, &value, 0),
-        None => true,
+        None => Ok(true),
     };
     drop(value);
-    if is_right {
+    if is_right? {
         Ok(())
     } else {
         refuse(alloc, text)

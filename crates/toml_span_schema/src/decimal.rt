@@ -4,7 +4,7 @@ ghost use Rattle.std.specs.Fmt.{signed_decimal};
 ghost use Rattle.std.specs.Str.Parse.{AllDigits, digits_value};
 ghost use Rattle.toml_span_tree.specs.Value.{float_value, inner_of, view};
 ghost use Rattle.toml_span_schema.specs.Numbers.{compare, compare_alike, compare_quantity, compare_sizes};
-ghost use Rattle.toml_span_schema.specs.Numbers.{decimal_of, exponent, float_quantity};
+ghost use Rattle.toml_span_schema.specs.Numbers.{count_in, decimal_of, exponent, float_quantity};
 ghost use Rattle.toml_span_schema.specs.Numbers.{is_multiple, is_whole, leading_zeros, normal, plain, quantity};
 ghost use Rattle.toml_span_schema.specs.Numbers.{quantity_in, raised, sign, significant, unsigned_of, value_after};
 
@@ -249,6 +249,15 @@ fn remainder_of_zeros(left: u64, zeros: u64, divisor: u64) -> u64
         left = shifted(left, 0, divisor);
     }
     left
+}
+
+/// Returns the count that a JSON number says. A count above `u64::MAX` becomes `u64::MAX`.
+pub(crate) fn count_in(text: &str) -> u64
+    ensures { result ≡ count_in text.now }
+{
+    Numeral::scan(text.as_bytes())
+        .whole_u64()
+        .unwrap_or(u64::MAX)
 }
 
 /// Returns the number in a value, or `None` if the value is not a number.

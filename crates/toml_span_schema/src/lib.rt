@@ -20,6 +20,7 @@
 //! `schema-deprecated`. If there are more than 100 violations, the last report has the code `too-many-errors`.
 #![tactic(auto)]
 
+mod agrees;
 mod alternatives;
 mod applied;
 mod asserted;

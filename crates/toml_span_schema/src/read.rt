@@ -1,7 +1,9 @@
 //! Reads the keywords of a schema object. The functions that return nothing append what they find to `Site::keywords`.
 
+use crate::agrees::count_or;
 use crate::canonical::canonical;
 use crate::compile::{Compiler, Site};
+use crate::decimal::count_in;
 use crate::error::SchemaError;
 use crate::formats::format_of;
 use crate::keyword::{Keyword, Node, Placed, Types};
@@ -9,7 +11,6 @@ use crate::keywords::{Want, want_of};
 use crate::numbers::Decimal;
 use crate::patterns::{compile_pattern, unsupported};
 use crate::sources::{Draft, is_true, text_of};
-use fast_float::Numeral;
 use json::Value as Json;
 use regex::Error;
 use std::alloc::{AllocError, Global};
@@ -270,13 +271,6 @@ fn names_by_key(
     Ok(list)
 }
 
-/// Returns the count that a JSON number says. A count above `u64::MAX` becomes `u64::MAX`.
-fn count_in(text: &str) -> u64 {
-    Numeral::scan(text.as_bytes())
-        .whole_u64()
-        .unwrap_or(u64::MAX)
-}
-
 /// Returns the keyword that combines the subschemas `nodes` and has this name.
 fn combination(name: &str, nodes: Vec<usize>) -> Keyword {
     match name {
@@ -416,8 +410,8 @@ impl<'v, 'a> Compiler<'v, 'a> {
         Ok(())
     }
 
-    /// Returns the keyword `name` with this value, called `own`, or `None` if there is no such keyword in this draft, or
-    /// if the value allows everything. Fails like `add_pattern`.
+    /// Returns the keyword `name` with this value, called `own`. Returns `None` if the draft has no such keyword, or if
+    /// the value allows everything. Fails like `add_pattern`.
     fn assertion(
         &mut self,
         site: &Site<'v, 'a>,
@@ -602,11 +596,9 @@ impl<'v, 'a> Compiler<'v, 'a> {
         if let Some(schema) = self.one(site, "contains")? {
             let counts = draft >= Draft::Of2019 && site.dialect.validates;
             let (mut least, mut most) = (1, u64::MAX);
-            if let (true, Some(Json::Number(text))) = (counts, site.value.get("minContains")) {
-                least = count_in(*text);
-            }
-            if let (true, Some(Json::Number(text))) = (counts, site.value.get("maxContains")) {
-                most = count_in(*text);
+            if counts {
+                least = count_or(least, site.value.get("minContains"));
+                most = count_or(most, site.value.get("maxContains"));
             }
             let keyword = Keyword::Contains(schema, least, most, draft >= Draft::Of2020);
             site.put("contains", "contains", keyword)?;

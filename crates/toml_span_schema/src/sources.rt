@@ -1,4 +1,8 @@
 //! The documents of a schema, with the addresses and anchors inside them.
+ghost use Rattle.std.specs.Prelude.{◌≡◌};
+ghost use Rattle.json.specs.Find.{get};
+ghost use Rattle.json.specs.Value.{value_view};
+ghost use Rattle.toml_span_schema.specs.Agrees.{is_true};
 
 use crate::error::{Flaw, SchemaError};
 use crate::keywords::{
@@ -667,8 +671,10 @@ fn meant_help(alloc: Global, word: &str, known: &str) -> Result<Option<String>, 
 }
 
 /// Returns whether the member `name` of a value is `true`.
-pub(crate) fn is_true(value: &Json<'_>, name: &str) -> bool {
-    value.get(name).and_then(|member| member.as_bool()) == Some(true)
+pub(crate) fn is_true(value: &Json<'_>, name: &str) -> bool
+    ensures { result ≡ is_true (get name.now (value_view value.now)) }
+{
+    matches!(value.get(name), Some(Json::Bool(true)))
 }
 
 /// Returns the name of the anchor that `keyword` with the value `text` defines in this draft, or `None` if it defines

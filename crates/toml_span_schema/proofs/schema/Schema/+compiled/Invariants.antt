@@ -1,6 +1,6 @@
 use Rattle.std.proofs.Common.{◌≡◌, ◌+◌, ◌*◌, drop, map}
 use Rattle.json.specs.Value.{items_view, members_view, value_view}
-use Rattle.toml_span_schema.specs.Compiled.{are_led, compiled, inner, items_lead, members_lead}
+use Rattle.toml_span_schema.specs.Compiled.{are_led, below, items_lead, members_lead}
 use Rattle.toml_span_schema.proofs.schema.Schema.+compiled.Given as goal
 
 abbrev pub decreases-is_compiled : goal.decreases-is_compiled
@@ -44,17 +44,17 @@ decreases-leads l = 9 * l.left + 1
 
 abbrev pub invariant-are_led-loop-name : goal.invariant-are_led-loop-name
 invariant-are_led-loop-name l =
-    are_led (inner l.self (compiled l.self l.draft l.left)) (map (λ n. n.now) (drop l.name-index l.names)) l.keywords
+    are_led (below l.self l.draft l.left) (map (λ n. n.now) (drop l.name-index l.names)) l.keywords
     (value_view l.value)
-    ≡ are_led (inner l.self (compiled l.self l.draft l.left)) (map (λ n. n.now) l.names) l.keywords (value_view l.value)
+    ≡ are_led (below l.self l.draft l.left) (map (λ n. n.now) l.names) l.keywords (value_view l.value)
 
 abbrev pub invariant-items_lead-loop-at : goal.invariant-items_lead-loop-at
 invariant-items_lead-loop-at l =
-    items_lead (inner l.self (compiled l.self l.draft l.left)) l.name l.keywords l.at (items_view (drop l.at l.items))
-    ≡ items_lead (inner l.self (compiled l.self l.draft l.left)) l.name l.keywords 0 (items_view l.items)
+    items_lead (below l.self l.draft l.left) l.name l.keywords l.at (items_view (drop l.at l.items))
+    ≡ items_lead (below l.self l.draft l.left) l.name l.keywords 0 (items_view l.items)
 
 abbrev pub invariant-members_lead-loop-at : goal.invariant-members_lead-loop-at
 invariant-members_lead-loop-at l =
-    members_lead (inner l.self (compiled l.self l.draft l.left)) l.name l.keywords l.at
+    members_lead (below l.self l.draft l.left) l.name l.keywords l.at
     (members_view (drop l.at l.members))
-    ≡ members_lead (inner l.self (compiled l.self l.draft l.left)) l.name l.keywords 0 (members_view l.members)
+    ≡ members_lead (below l.self l.draft l.left) l.name l.keywords 0 (members_view l.members)
