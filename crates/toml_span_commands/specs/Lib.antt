@@ -3,6 +3,7 @@ pub mod Colours
 pub mod Commands
 pub mod Configured
 pub mod Explain
+pub mod Files
 pub mod Fmt
 pub mod Options
 pub mod Paths

@@ -1,5 +1,6 @@
 //! Reads and replaces single files, with options of the command line, and reports files that were not edited.
-ghost use Rattle.std.specs.Prelude.{◌≤◌};
+ghost use Rattle.std.specs.Prelude.{◌≡◌, ◌≤◌, IfOk, is_none, is_ok};
+ghost use Rattle.toml_span_commands.specs.Files as spec;
 
 use crate::answers::{Answer, failed};
 use std::alloc::{AllocError, Global};
@@ -32,7 +33,8 @@ pub(crate) fn read_file(
 
 /// Returns the start of the message about a file that was not edited, and the exit status.
 fn beginning(failure: &Failure) -> (&'static str, u8)
-    ensures { result.1 ≤ 3 }
+    ensures small { result.1 ≤ 3 }
+    ensures status { result.1 ≡ spec.failure_status failure.now }
 {
     match failure {
         Failure::Unread(_) | Failure::Directory => ("error: cannot read ", 2),
@@ -86,7 +88,9 @@ pub(crate) fn unedited(
     failure: &Failure,
     options: Options,
     has_wait: bool,
-) -> Result<Answer, AllocError> {
+) -> Result<Answer, AllocError>
+    ensures { IfOk result (λ answer. answer.status ≡ spec.failure_status failure.now) }
+{
     if let Failure::Memory = failure {
         return Err(AllocError);
     }

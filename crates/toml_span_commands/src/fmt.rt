@@ -1,6 +1,7 @@
 //! The command `fmt`.
-ghost use Rattle.std.specs.Prelude.{◌≡◌, ◌≤◌, IfOk, false};
+ghost use Rattle.std.specs.Prelude.{◌≡◌, ◌≤◌, ◌&&◌, not, IfOk, OnOk, false};
 ghost use Rattle.std.specs.Str.{IsValidUpTo};
+ghost use Rattle.toml_span_commands.specs.Fmt as spec;
 ghost use Rattle.toml_span_commands.specs.Fmt.{FormatsAs};
 
 use crate::answers::{Answer, failed, give, helped, misused, printed, stopped};
@@ -246,7 +247,9 @@ fn asked_of<'w>(alloc: Global, arguments: &'w [String]) -> Result<Asked<'w>, Sto
 }
 
 /// Returns the answer for a file whose text has this error: the report that `check` makes.
-fn invalid(alloc: Global, name: &str, text: &str, error: &Error<'_>) -> Result<Answer, AllocError> {
+fn invalid(alloc: Global, name: &str, text: &str, error: &Error<'_>) -> Result<Answer, AllocError>
+    ensures { IfOk result (λ answer. answer.status ≡ 1) }
+{
     let report = error_report(alloc, error, text)?;
     Ok(Answer {
         out: String::new(alloc),
@@ -262,7 +265,9 @@ fn refused(
     name: &str,
     text: &str,
     error: &FormatError<'_>,
-) -> Result<Answer, AllocError> {
+) -> Result<Answer, AllocError>
+    ensures { IfOk result (λ answer. answer.status ≡ 1) }
+{
     if let FormatError::Invalid(error) = error {
         return invalid(alloc, name, text, error);
     }
@@ -277,6 +282,7 @@ fn refused(
 /// first invalid byte.
 fn not_text(alloc: Global, name: &str, bytes: &[u8], at: usize) -> Result<Answer, AllocError>
     requires { IsValidUpTo bytes.now at }
+    ensures { IfOk result (λ answer. answer.status ≡ 1) }
 {
     let (report, text) = not_utf8(alloc, bytes, at)?;
     Ok(Answer {
@@ -293,7 +299,9 @@ fn would_change(
     name: &str,
     text: &str,
     new: &str,
-) -> Result<Answer, AllocError> {
+) -> Result<Answer, AllocError>
+    ensures { IfOk result (λ answer. answer.status ≡ 1) }
+{
     let shown = shown_word(alloc, name)?;
     let shown = visible(alloc, shown.as_str())?;
     let shown = shown.as_str();
@@ -415,7 +423,9 @@ fn format_file(
 }
 
 /// Adds the answer for one file to the answer for all. The higher status counts.
-fn add(all: &mut Answer, one: &Answer) -> Result<(), AllocError> {
+fn add(all: &mut Answer, one: &Answer) -> Result<(), AllocError>
+    ensures { OnOk result (spec.Adds all.old one.now all.new) }
+{
     all.out.push_str(one.out.as_str())?;
     all.errors.push_str(one.errors.as_str())?;
     all.status = all.status.max(one.status);
