@@ -2,6 +2,8 @@ pub mod Check
 pub mod Colours
 pub mod Commands
 pub mod Configured
+pub mod Edits
+pub mod Escaped
 pub mod Explain
 pub mod Files
 pub mod Fmt
