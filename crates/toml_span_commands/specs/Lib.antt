@@ -1,3 +1,4 @@
+pub mod Arguments
 pub mod Check
 pub mod Colours
 pub mod Commands

@@ -11,7 +11,10 @@ use toml_span_lookup::disk::Disk;
 
 /// Stores an option that says how to write a file, and that has no value: `--force`, `--change-owner` or `--in-place`.
 /// Returns whether `word` is one of these.
-pub(crate) fn set_write_option(options: &mut Options, word: &str) -> bool {
+#[tactic(auto, unfolding(crate::specs::Files::with_write))]
+pub(crate) fn set_write_option(options: &mut Options, word: &str) -> bool
+    ensures { (options.new, result) ≡ spec.with_write options.old word.now }
+{
     match word {
         "--force" => options.is_forced = true,
         "--change-owner" => options.may_change_owner = true,

@@ -188,11 +188,12 @@ impl<'w> Asked<'w> {
         Ok(())
     }
 
-    /// Stores the option `word`, which has no value. Fails with a message if the option is unknown.
-    fn option(&mut self, alloc: Global, word: &str) -> Result<(), Stop<String>> {
-        if set_write_option(&mut self.writing, word) {
-            return Ok(());
-        }
+    /// Stores an option that has no value, except `--stdin` and those that say how files are written. Returns whether
+    /// `word` is one.
+    #[tactic(auto, unfolding(crate::specs::Fmt::with_own))]
+    fn own_flag(&mut self, word: &str) -> bool
+        ensures { (self.new, result) ≡ spec.with_own self.old word.now }
+    {
         match word {
             "--check" => self.is_check = true,
             "--diff" => self.is_diff = true,
@@ -201,10 +202,31 @@ impl<'w> Asked<'w> {
             "--align-comments" => self.layer.align_comments = given(true),
             "--force-exclude" => self.forces_exclude = true,
             "--no-config" => self.has_no_config = true,
-            "--stdin" => self.names.push("-")?,
             "--quiet" => self.is_quiet = true,
-            _ => return Err(Stop::Fault(unexpected(alloc, word, true, &OPTIONS)?)),
+            _ => return false,
         }
+        true
+    }
+
+    /// Stores an option that has no value, except `--stdin`. Returns whether `word` is one.
+    #[tactic(auto, unfolding(crate::specs::Fmt::with_flag))]
+    fn flag(&mut self, word: &str) -> bool
+        ensures { (self.new, result) ≡ spec.with_flag self.old word.now }
+    {
+        set_write_option(&mut self.writing, word) || self.own_flag(word)
+    }
+
+    /// Stores the option `word`, which has no value. Fails with a message if the option is unknown.
+    fn option(&mut self, alloc: Global, word: &str) -> Result<(), Stop<String>>
+        ensures { OnOk result (spec.TakesOption word.now self.old self.new) }
+    {
+        if self.flag(word) {
+            return Ok(());
+        }
+        if word != "--stdin" {
+            return Err(Stop::Fault(unexpected(alloc, word, true, &OPTIONS)?));
+        }
+        self.names.push("-")?;
         Ok(())
     }
 
