@@ -180,8 +180,10 @@ pub(crate) fn arguments_asked<'w>(
     } else {
         &VALUED[..3]
     };
-    for argument in &arguments_in(alloc, words, valued)? {
+    let given = arguments_in(alloc, words, valued)?;
+    for argument in &given.list {
         asked.take(alloc, *argument)?;
     }
+    given.complete(alloc)?;
     Ok(asked)
 }

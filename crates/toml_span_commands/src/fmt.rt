@@ -259,9 +259,11 @@ fn asked_of<'w>(alloc: Global, arguments: &'w [String]) -> Result<Asked<'w>, Sto
         config: "",
         has_no_config: false,
     };
-    for argument in &arguments_in(alloc, arguments, &VALUED)? {
+    let split = arguments_in(alloc, arguments, &VALUED)?;
+    for argument in &split.list {
         asked.take(alloc, *argument)?;
     }
+    split.complete(alloc)?;
     if asked.names.is_empty() {
         asked.names.push(".")?;
     }

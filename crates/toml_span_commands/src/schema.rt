@@ -48,7 +48,8 @@ fn asked_of<'w>(alloc: Global, words: &'w [String]) -> Result<Arguments<'w>, Sto
         folder: FOLDER,
         names: Vec::new(alloc),
     };
-    for argument in &arguments_in(alloc, words, &VALUED)? {
+    let given = arguments_in(alloc, words, &VALUED)?;
+    for argument in &given.list {
         match *argument {
             Argument::Other(word) if !word.starts_with('-') => made.names.push(word)?,
             Argument::Valued("--folder", word) => made.folder = word,
@@ -59,6 +60,7 @@ fn asked_of<'w>(alloc: Global, words: &'w [String]) -> Result<Arguments<'w>, Sto
             }
         }
     }
+    given.complete(alloc)?;
     if made.names.is_empty() {
         let message = "expected the path or the URL of a schema";
         return Err(Stop::Fault(String::from_str(alloc, message)?));
