@@ -1,5 +1,5 @@
 //! The command `check`.
-ghost use Rattle.std.specs.Prelude.{◌≡◌, ◌≤◌, IfOk, None, false, map, string_bytes};
+ghost use Rattle.std.specs.Prelude.{◌≡◌, ◌≤◌, IfOk, None, [], false, map, string_bytes};
 ghost use Rattle.toml_span_commands.specs.Check.{ChecksConfigured, ChecksFixed, ChecksWith, PerformsCheck, ShowsChanges};
 ghost use Rattle.toml_span_commands.specs.Configured as spec;
 ghost use Rattle.toml_span_commands.specs.Configured.{IsConfigured, configured_says};
@@ -395,7 +395,8 @@ fn check_fixed<O: Sink, E: Sink>(
 ) -> u8
     requires out { O.failed out.old ≡ false }
     requires errors { E.failed errors.old ≡ false }
-    ensures { ChecksFixed request.now (O.contents out.old) (O.contents out.new) (O.failed out.new)
+    ensures { ChecksFixed (string_bytes fixes.now.lines) fixes.now.status request.now (O.contents out.old)
+        (O.contents out.new) (O.failed out.new)
         (E.contents errors.old) (E.contents errors.new) (E.failed errors.new) result }
 {
     match say(errors, fixes.lines.as_str(), 0) {
@@ -419,7 +420,8 @@ fn show_changes<O: Sink, E: Sink>(
 ) -> Result<u8, AllocError>
     requires out { O.failed out.old ≡ false }
     requires errors { E.failed errors.old ≡ false }
-    ensures { IfOk result (ShowsChanges request.now (O.contents out.old) (O.contents out.new)
+    ensures { IfOk result (ShowsChanges (string_bytes fixes.old.changes) (string_bytes fixes.old.lines)
+        fixes.old.status request.now (O.contents out.old) (O.contents out.new)
         (E.contents errors.old) (E.contents errors.new) (E.failed errors.new)) }
 {
     let changes = mem::replace(&mut fixes.changes, String::new(alloc));
@@ -464,7 +466,8 @@ fn check_listed<O: Sink, E: Sink>(
             let mut fixes = fix_files(alloc, options, level, true, &listed, host)?;
             let texts = mem::replace(&mut fixes.texts, Vec::new(alloc));
             let mut files = Files::of(alloc, options, listed, texts, host)?;
-            show_changes(alloc, &mut fixes, request, &mut files, out, errors)
+            let status = show_changes(alloc, &mut fixes, request, &mut files, out, errors)?;
+            Ok(status)
         }
     }
 }
