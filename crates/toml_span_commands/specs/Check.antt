@@ -10,6 +10,7 @@ use Rattle.toml_span_commands.specs.Escaped.{escaped}
 use Rattle.toml_span_commands.specs.Say.{Prints}
 use Rattle.toml_span_commands.specs.Start.{Declines, RunsWith}
 use Rattle.toml_span_commands.specs.declared.colours.Screen.{Screen}
+use Rattle.toml_span_commands.specs.declared.configured.Configured.{Configured}
 use Rattle.toml_span_commands.specs.declared.options.Fixing.{Fixing}
 use Rattle.toml_span_commands.specs.declared.options.Fixing.TheVariants.{Diff, No, Write}
 use Rattle.toml_span_commands.specs.declared.options.Query.TheVariants as queries
@@ -48,12 +49,12 @@ ChecksWith (Diff level) request stdout stdout' out_failed stderr stderr' err_fai
     (changes lines : List ℕ) × (unwritten : ℕ) × (unwritten ≤ 3)
     × ShowsChanges changes lines unwritten request stdout stdout' stderr stderr' err_failed status
 
--- Configuration files may say the version of TOML, unless the arguments name one, and name schemas. If a configuration
--- file can't be read or is wrong, only a message is written to standard error, with status 2.
+-- Configuration files may say the version of TOML of these files, unless the arguments name one, and name schemas. If a
+-- configuration file can't be read or is wrong, only a message is written to standard error, with status 2.
 abbrev pub ChecksConfigured : Fixing → Request → Option (List ℕ) → Option (List ℕ) → Bool → Option (List ℕ)
     → Option (List ℕ) → Bool → ℕ → Type 0
 ChecksConfigured fixing request stdout stdout' out_failed stderr stderr' err_failed status =
-    ((made : Request) × IsConfigured request made
+    ((files : List Configured) × (made : Request) × IsConfigured files request made
     × ChecksWith fixing made stdout stdout' out_failed stderr stderr' err_failed status)
     ⊎ ((message : List ℕ) × Keeps stdout stdout' × Prints stderr stderr' err_failed message 2 status)
 

@@ -475,7 +475,7 @@ fn check_listed<O: Sink, E: Sink>(
 /// Sets the version of TOML that all files have, unless the arguments name one, and says who chooses schemas. If the
 /// files have several versions, they are checked as TOML 1.1, and `FileSchemas` checks each as its version.
 fn configure(options: &mut Options<'_>, listed: &Listed)
-    ensures task { IsConfigured options.old.request options.new.request }
+    ensures task { IsConfigured listed.now.files.items options.old.request options.new.request }
     ensures fixing { options.new.fixing ≡ options.old.fixing }
 {
     let files = listed.files.as_slice();

@@ -1,5 +1,5 @@
 //! Files with the settings that configuration files have for them.
-ghost use Rattle.std.specs.Prelude.{◌≡◌};
+ghost use Rattle.std.specs.Prelude.{◌≡◌, OnOk, map};
 ghost use Rattle.toml_span_commands.specs.Configured as spec;
 
 use std::alloc::{AllocError, Global};
@@ -77,22 +77,51 @@ pub(crate) fn configured_files(
     Ok(files)
 }
 
+/// Returns whether two versions of TOML are the same.
+fn is_same(one: Version, other: Version) -> bool
+    ensures { result ≡ spec.is_same one other }
+{
+    match (one, other) {
+        (Version::Auto, Version::Auto) => true,
+        (Version::Toml10, Version::Toml10) => true,
+        (Version::Toml11, Version::Toml11) => true,
+        _ => false,
+    }
+}
+
+/// Returns whether all files have this version of TOML.
+#[tactic(auto, unfolding(crate::specs::Configured::have_version))]
+fn have_version(files: &[Configured], version: Version) -> bool
+    ensures { result ≡ spec.have_version version (map spec.version_of files.now) }
+{
+    for file in files {
+        if !is_same(file.found.settings.toml.value, version) {
+            return false;
+        }
+    }
+    true
+}
+
 /// Returns the version of TOML of all files, or `None` if they have several.
-pub(crate) fn common_version(files: &[Configured]) -> Option<Version> {
+pub(crate) fn common_version(files: &[Configured]) -> Option<Version>
+    ensures { result ≡ spec.common_version (map spec.version_of files.now) }
+{
     let version = match files.first() {
         Some(file) => file.found.settings.toml.value,
         None => Version::Auto,
     };
-    for file in files {
-        if file.found.settings.toml.value != version {
-            return None;
-        }
+    if have_version(files, version) {
+        Some(version)
+    } else {
+        None
     }
-    Some(version)
 }
 
 /// Returns whether a configuration file names a schema for one of the files.
-pub(crate) fn has_schemas(files: &[Configured]) -> bool {
+#[tactic(auto, unfolding(crate::specs::Configured::has_schemas))]
+pub(crate) fn has_schemas(files: &[Configured]) -> bool
+    ensures { result ≡ spec.has_schemas files.now }
+{
     for file in files {
         if file.found.settings.schema.is_some() {
             return true;
