@@ -16,6 +16,7 @@ use Rattle.toml_span_check.specs.declared.request.Request.{Request}
 use Rattle.toml_span_check.specs.declared.schemas.Chooser.{Chooser}
 use Rattle.toml_span_check.specs.declared.schemas.Chooser.TheVariants.{Arguments}
 use Rattle.toml_span_lookup.specs.Findings.{file_says}
+use Rattle.toml_span_lookup.specs.declared.options.Options.{Options}
 use Rattle.toml_span_report.specs.Report.{ReportContent}
 use Rattle.toml_span_report.specs.declared.report.Severity.{Severity}
 use Rattle.toml_span_report.specs.declared.report.Severity.TheVariants as severities
@@ -115,3 +116,29 @@ abbrev pub configured_says : Says
 configured_says chooser name text root reports complaint =
     (version : Version) × (is_denied : Bool) × (older found : List ReportContent) × Lacks version name text older
     × file_says chooser name text root found complaint × (reports ≡ older ++ map (denied is_denied) found)
+
+-- ---- the schemas of a file
+
+-- what the settings of a file say, with this schema; the version is only checked with it if files have several
+abbrev pub named_by : Configured → String Global → Bool → Named
+named_by file schema are_mixed = record {
+  source = file.found.source;
+  schema = schema;
+  version = if are_mixed then version_of file else Toml11;
+  is_denied = file.found.settings.deny_warnings.value;
+}
+
+-- what is said of a file, if it is known
+abbrev pub IsNamed : Option Configured → Bool → Named → Type 0
+IsNamed None are_mixed named = (named.source ≡ None) × (named.version ≡ Toml11) × (named.is_denied ≡ false)
+IsNamed (Some file) are_mixed named = named ≡ named_by file named.schema are_mixed
+
+-- the schemas are those for files with this configuration file and this schema
+abbrev pub IsShared : Named → Shared → Type 0
+IsShared named shared = (shared.source ≡ named.source) × (string_bytes shared.schema ≡ string_bytes named.schema)
+
+-- The options for looking up schemas are those of the arguments.
+abbrev pub IsLookedUp : SchemaOptions → Options → Type 0
+IsLookedUp given options =
+    (string_bytes options.schema ≡ given.schema.now) × (string_bytes options.catalog ≡ given.catalog.now)
+    × (options.has_formats ≡ given.has_formats)

@@ -1,12 +1,13 @@
 //! The command `schema`, which checks schemas and prints commands that fetch them.
-ghost use Rattle.std.specs.Prelude.{◌≡◌, ◌≤◌, IfOk, false};
+ghost use Rattle.std.specs.Prelude.{◌≡◌, ◌≤◌, ◌++◌, IfOk, OnOk, false, string_bytes};
+ghost use Rattle.toml_span_commands.specs.Shell as spec;
 
 use crate::answers::{Answer, give};
 use crate::commands::Command;
 use crate::help::SCHEMA;
 use crate::options::WRONG_MAP;
 use crate::say::{say, say_misuse, unexpected};
-use crate::schemas::SchemaOptions;
+use crate::schemas::{SchemaOptions, copy_of};
 use crate::words::{Argument, arguments_in, is_help};
 use std::alloc::{AllocError, Global};
 use std::fmt::Write;
@@ -15,7 +16,7 @@ use toml_span_check::input::Host;
 use toml_span_lines::sink::Sink;
 use toml_span_lookup::disk::Disk;
 use toml_span_lookup::lookup::Lookup;
-use toml_span_lookup::options::{LocalCopy, Options, Place};
+use toml_span_lookup::options::{Options, Place};
 use toml_span_report::visible::push_visible;
 
 /// The message that the word after `schema` is missing or wrong.
@@ -75,10 +76,7 @@ fn push_copy(
     address: &str,
     path: &str,
 ) -> Result<(), AllocError> {
-    options.copies.push(LocalCopy {
-        address: String::from_str(alloc, address)?,
-        path: String::from_str(alloc, path)?,
-    })?;
+    options.copies.push(copy_of(alloc, address, path)?)?;
     Ok(())
 }
 
