@@ -4,6 +4,8 @@ ghost use Rattle.toml_span_commands.specs.Check.{ChecksConfigured, ChecksFixed, 
 ghost use Rattle.toml_span_commands.specs.Configured as spec;
 ghost use Rattle.toml_span_commands.specs.Configured.{IsConfigured, configured_says};
 ghost use Rattle.toml_span_commands.specs.Start.{RunsWith};
+ghost use Rattle.toml_span_check.specs.Fixing.{fixed};
+ghost use Rattle.toml_span_check.specs.Newer.{FixesAll};
 
 use crate::answers::Answer;
 use crate::colours::Screen;
@@ -118,6 +120,15 @@ impl Fixes {
         Ok(())
     }
 
+    /// Fixes errors of a file with this text, in the version of TOML that its settings say.
+    fn fixed(&self, alloc: Global, file: &Configured, text: &str) -> Result<Fixed, AllocError>
+        ensures { IfOk result (λ made. FixesAll file.now.found.settings.toml.value (string_bytes file.now.shown)
+            self.now.level text.now (fixed made)) }
+    {
+        let version = file.found.settings.toml.value;
+        with_all_fixes(alloc, text, version, file.shown.as_str(), self.level)
+    }
+
     /// Fixes errors of a file whose content is `bytes`, and calls `put` if there were fixes. Returns whether there were.
     /// A file that is larger than 16 MiB or not valid UTF-8 has no fixes.
     fn add_bytes(
@@ -134,8 +145,7 @@ impl Fixes {
             return Ok(false);
         };
         let (name, shown) = (file.name.as_str(), file.shown.as_str());
-        let version = file.found.settings.toml.value;
-        let made = with_all_fixes(alloc, text, version, shown, self.level)?;
+        let made = self.fixed(alloc, file, text)?;
         if made.count == 0 {
             return Ok(false);
         }

@@ -137,6 +137,17 @@ fn version_of(
     Ok(found.settings.toml.value)
 }
 
+/// Returns whether the result of edits is printed: for standard input, and with `--dry-run` or `--diff`. Otherwise it
+/// replaces the file.
+fn is_shown(file: &str, show: Show) -> bool
+    ensures { result ≡ arguments.is_shown file.now show }
+{
+    match show {
+        Show::No => file == "-",
+        Show::Text | Show::Diff => true,
+    }
+}
+
 /// Makes edits, and returns the answer. For `-`, `--dry-run` and `--diff`, does what `show` does; otherwise replaces
 /// the file. If the configuration file can't be read or is wrong, makes no edits, and the answer says why.
 fn perform(
@@ -157,7 +168,7 @@ fn perform(
         version,
         name,
     };
-    if file == "-" || asked.show != Show::No {
+    if is_shown(file, asked.show) {
         show(alloc, file, changes, asked, way, host)
     } else {
         write(alloc, file, changes, asked, way, host)

@@ -104,6 +104,23 @@ pub(crate) fn unedited(
     Ok(answer)
 }
 
+/// Returns `None` if the file `name` was written (`done`), otherwise the answer for a file that was not edited with
+/// these options. `has_wait` says whether the command has the option `--wait`. Fails if an allocation fails.
+fn unwritten(
+    alloc: Global,
+    name: &str,
+    options: Options,
+    has_wait: bool,
+    done: Result<(), Failure>,
+) -> Result<Option<Answer>, AllocError>
+    ensures { IfOk result (λ answer. is_none answer ≡ is_ok done) }
+{
+    match done {
+        Ok(()) => Ok(None),
+        Err(failure) => Ok(Some(unedited(alloc, name, &failure, options, has_wait)?)),
+    }
+}
+
 /// Replaces the content of the file `name` with `text`, if the content is still `bytes`. Returns `None` on success,
 /// otherwise the answer for a file that was not written. `has_wait` says whether the command has the option `--wait`.
 pub(crate) fn replace(
@@ -115,8 +132,6 @@ pub(crate) fn replace(
     bytes: &[u8],
     text: &str,
 ) -> Result<Option<Answer>, AllocError> {
-    match put_file(rt, name, options, bytes, text) {
-        Ok(()) => Ok(None),
-        Err(failure) => Ok(Some(unedited(alloc, name, &failure, options, has_wait)?)),
-    }
+    let done = put_file(rt, name, options, bytes, text);
+    unwritten(alloc, name, options, has_wait, done)
 }

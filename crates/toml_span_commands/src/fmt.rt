@@ -165,6 +165,15 @@ fn crlf_of(alloc: Global, word: &str) -> Result<Crlf, Stop<String>> {
     }
 }
 
+impl Asked<'_> {
+    /// Returns whether formatted files are written: not with `--check` and `--diff`.
+    fn writes(&self) -> bool
+        ensures { result ≡ (not self.now.is_check && not self.now.is_diff) }
+    {
+        !self.is_check && !self.is_diff
+    }
+}
+
 impl<'w> Asked<'w> {
     /// Parses `word` as the value of the option `name`, and stores it. Fails with a message if the value is wrong.
     fn set(&mut self, alloc: Global, name: &str, word: &'w str) -> Result<(), Stop<String>> {
@@ -356,7 +365,7 @@ fn put(
     count: &mut Count,
 ) -> Result<Answer, AllocError> {
     let name = file.name.as_str();
-    let is_written = !asked.is_check && !asked.is_diff;
+    let is_written = asked.writes();
     if is_written && name == "-" {
         return Ok(printed(alloc, new));
     }
