@@ -11,6 +11,7 @@ pub mod Fmt
 pub mod Options
 pub mod Paths
 pub mod Say
+pub mod Shell
 pub mod Show
 pub mod Start
 pub mod Words

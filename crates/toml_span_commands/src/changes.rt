@@ -152,7 +152,9 @@ fn checked<'w>(
 pub(crate) fn option_changes<'w>(
     alloc: Global,
     edits: &[&'w str],
-) -> Result<Vec<PathEdit<'w>>, Stop<String>> {
+) -> Result<Vec<PathEdit<'w>>, Stop<String>>
+    ensures { IfOk result (λ changes. vec_len changes ≡ length edits.now) }
+{
     let mut changes = Vec::new(alloc);
     for (at, edit) in edits.iter().enumerate() {
         changes.push(checked(alloc, "edit", at.saturating_add(1), *edit)?)?;

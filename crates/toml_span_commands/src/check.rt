@@ -246,6 +246,16 @@ struct NamedInputs {
     opens_pipes: bool,
 }
 
+impl NamedInputs {
+    /// Returns the names of all files the first time, and then none.
+    fn take_names(&mut self, alloc: Global) -> Vec<String>
+        ensures taken { result ≡ self.old.names }
+        ensures left { self.new.names.items ≡ [] }
+    {
+        mem::replace(&mut self.names, Vec::new(alloc))
+    }
+}
+
 impl Inputs for NamedInputs {
     ghost log = { λ _. None };
 
@@ -256,7 +266,7 @@ impl Inputs for NamedInputs {
         _excludes: &[&str],
         _name: &str,
     ) -> Result<Vec<String>, AllocError> {
-        Ok(mem::replace(&mut self.names, Vec::new(alloc)))
+        Ok(self.take_names(alloc))
     }
 
     fn read(&mut self, alloc: Global, name: &str) -> Result<Result<Vec<u8>, String>, AllocError> {
@@ -336,6 +346,30 @@ fn find_files(
     Ok(Listed { files, sources })
 }
 
+/// Returns the names of files in reports.
+fn names_of(alloc: Global, files: &[Configured]) -> Result<Vec<String>, AllocError>
+    ensures { IfOk result (λ names. map (λ name. string_bytes name) names.items ≡ map spec.shown_name files.now) }
+{
+    let mut names = Vec::new(alloc);
+    for file in files {
+        names.push(file.shown.clone()?)?;
+    }
+    Ok(names)
+}
+
+/// Returns whether standard input is one of the files.
+#[tactic(auto, unfolding(crate::specs::Configured::has_stdin))]
+fn has_stdin(files: &[Configured]) -> bool
+    ensures { result ≡ spec.has_stdin files.now }
+{
+    for file in files {
+        if file.name.as_str() == "-" {
+            return true;
+        }
+    }
+    false
+}
+
 impl Files {
     /// Returns the files, and their schemas for `options`. `texts` are the bytes of files that are not read, by the
     /// numbers of the files. Reads nothing yet.
@@ -347,12 +381,8 @@ impl Files {
         host: &Host,
     ) -> Result<Files, AllocError> {
         let Listed { files, sources } = listed;
-        let mut names = Vec::new(alloc);
-        let mut is_waiting = false;
-        for file in &files {
-            names.push(file.shown.clone()?)?;
-            is_waiting = is_waiting || file.name.as_str() == "-";
-        }
+        let names = names_of(alloc, files.as_slice())?;
+        let is_waiting = has_stdin(files.as_slice());
         let are_mixed = common_version(files.as_slice()).is_none();
         let reader = Host { rt: host.rt };
         Ok(Files {

@@ -33,6 +33,23 @@ pub(crate) struct Wanted<'w> {
     pub(crate) forces_exclude: bool,
 }
 
+/// Appends a file, unless its configuration excludes it. `is_named` says whether an argument names the file, which is
+/// excluded only if this is forced.
+fn push_included(
+    file: Configured,
+    is_named: bool,
+    forces_exclude: bool,
+    files: &mut Vec<Configured>,
+) -> Result<(), AllocError>
+    ensures { OnOk result (files.new.items ≡ spec.with_file files.old.items file is_named forces_exclude) }
+{
+    if file.found.is_excluded && (!is_named || forces_exclude) {
+        return Ok(());
+    }
+    files.push(file)?;
+    Ok(())
+}
+
 /// Appends the file `name`, unless its configuration excludes it. `is_named` says whether an argument names the file,
 /// which is excluded only if this is forced. Fails with a message if the configuration is wrong.
 fn push_file(
@@ -50,10 +67,8 @@ fn push_file(
         name.clone()?
     };
     let found = sources.settings_for(alloc, host, shown.as_str())?;
-    if found.is_excluded && (!is_named || wanted.forces_exclude) {
-        return Ok(());
-    }
-    files.push(Configured { name, shown, found })?;
+    let file = Configured { name, shown, found };
+    push_included(file, is_named, wanted.forces_exclude, files)?;
     Ok(())
 }
 

@@ -81,15 +81,33 @@ fn push_copy(
 }
 
 /// Appends a word in quotes for a shell.
-fn push_shell_word(out: &mut String, word: &str) -> Result<(), AllocError> {
+fn push_shell_word(out: &mut String, word: &str) -> Result<(), AllocError>
+    ensures { OnOk result (string_bytes out.new ≡ string_bytes out.old ++ spec.shell_word word.now) }
+{
     out.push('\'')?;
-    for c in word.chars() {
-        match c {
-            '\'' => out.push_str("'\\''")?,
-            _ => out.push(c)?,
-        }
-    }
+    push_shell_chars(out, word)?;
     out.push('\'')
+}
+
+/// Appends a character of a word in quotes for a shell: a quote ends the quotes, and begins them again after it.
+fn push_shell_char(out: &mut String, c: char) -> Result<(), AllocError>
+    ensures { OnOk result (string_bytes out.new ≡ string_bytes out.old ++ spec.shell_char c) }
+{
+    if c == '\'' {
+        out.push_str("'\\''")
+    } else {
+        out.push(c)
+    }
+}
+
+/// Appends the characters of a word in quotes for a shell.
+fn push_shell_chars(out: &mut String, word: &str) -> Result<(), AllocError>
+    ensures { OnOk result (string_bytes out.new ≡ string_bytes out.old ++ spec.shell_chars word.now) }
+{
+    for c in word.chars() {
+        push_shell_char(out, c)?;
+    }
+    Ok(())
 }
 
 /// Checks the schemas that the arguments name. Returns status 1 if one of them can't be used.
