@@ -1,12 +1,17 @@
+pub mod Arguments
 pub mod Check
 pub mod Colours
 pub mod Commands
 pub mod Configured
+pub mod Edits
+pub mod Escaped
 pub mod Explain
+pub mod Files
 pub mod Fmt
 pub mod Options
 pub mod Paths
 pub mod Say
+pub mod Shell
 pub mod Show
 pub mod Start
 pub mod Words

@@ -2,6 +2,7 @@
 -- state.
 use Rattle.std.specs.Prelude.{map, ◌≡◌, ◌==◌, ◌&&◌, ◌||◌, not, ℕ, Bool, true, false, List, [], ◌∷◌, length, Option, Some, None, codes}
 use Rattle.std.specs.Prelude.{◌++◌, ◌-◌, slice_get, take, unwrap_or, if◌then◌else◌, Result, Ok, Err}
+use Rattle.std.specs.Borrow.{Bor}
 use Rattle.std.specs.Str.{bytes_eq}
 use Rattle.clap.specs.Lexer.{usize_max}
 use Rattle.clap.specs.Kinds.{Kinds, or_else}
@@ -23,9 +24,14 @@ use Rattle.toml_span_check.specs.declared.newer.Version.TheVariants as version
 use Rattle.toml_span_check.specs.declared.schemas.Chooser.{Chooser}
 use Rattle.toml_span_check.specs.declared.schemas.Chooser.TheVariants.{Files, Arguments}
 use Rattle.toml_span_check.specs.declared.request.Request.{Request}
+use Rattle.toml_span_config.specs.declared.sources.Search.{Search}
+use Rattle.toml_span_config.specs.declared.sources.Search.TheVariants as search
+use Rattle.toml_span_files.specs.declared.disk.Options.{Options as Writing}
+use Rattle.toml_span_files.specs.declared.disk.TheConstants.Options.{USUAL}
 use Rattle.toml_span_commands.specs.declared.colours.Screen.{Screen}
 use Rattle.toml_span_commands.specs.declared.options.Fixing.{Fixing}
 use Rattle.toml_span_commands.specs.declared.options.Fixing.TheVariants as fixings
+use Rattle.toml_span_commands.specs.declared.options.Options.{Options}
 use Rattle.toml_span_commands.specs.declared.options.Mistake.{Mistake}
 use Rattle.toml_span_commands.specs.declared.options.Mistake.TheVariants as mistake
 use Rattle.toml_span_commands.specs.declared.options.Query.{Query}
@@ -226,6 +232,19 @@ abbrev pub has_writing : List Row → Bool
 has_writing rows =
     is_given rows (codes "force") || is_given rows (codes "change-owner") || is_given rows (codes "in-place")
 
+-- how fixed files are written
+abbrev pub writing_of : List Row → Writing
+writing_of rows = record USUAL {
+  is_forced = is_given rows (codes "force");
+  may_change_owner = is_given rows (codes "change-owner");
+  is_in_place = is_given rows (codes "in-place");
+}
+
+-- which configuration file to use, by the value of `--config` and whether `--no-config` is given
+abbrev pub search_of : Bor (List ℕ) → Bool → Search
+search_of config true = search.No
+search_of config false = if length config.now == 0 then search.Nearest else search.Given config
+
 -- whether there is an option that needs `--fix`, but not `--fix`
 abbrev pub lacks_fix : List Row → Bool
 lacks_fix rows =
@@ -285,6 +304,20 @@ pub record Asks (query : Query) (words : List (List ℕ)) (screen : Screen) (req
   pub quiet : request.is_quiet ≡ is_given (options query words) (codes "quiet")
   pub watched : request.is_watched ≡ screen.is_watched
   pub fixes : fixing ≡ fixing_of (options query words)
+
+-- What the other options set: the name of standard input, how fixed files are written, which schemas and which
+-- configuration files apply, and whether these exclude named files and warnings are errors.
+pub record Sets (rows : List Row) (o : Options) : Type 0 where
+  pub stdin_name : o.stdin_name.now ≡ value_of rows (codes "stdin-name")
+  pub writing : o.writing ≡ writing_of rows
+  pub schema : o.schemas.schema.now ≡ value_of rows (codes "schema")
+  pub catalog : o.schemas.catalog.now ≡ value_of rows (codes "catalog")
+  pub maps : map (λ m. m.now) o.schemas.maps.items ≡ values_of rows (codes "schema-map")
+  pub formats : o.schemas.has_formats ≡ not (is_given rows (codes "no-formats"))
+  pub config : o.config.now ≡ value_of rows (codes "config")
+  pub no_config : o.has_no_config ≡ is_given rows (codes "no-config")
+  pub exclusion : o.forces_exclude ≡ is_given rows (codes "force-exclude")
+  pub warnings : o.denies_warnings ≡ is_given rows (codes "deny-warnings")
 
 -- ---- mistakes in the options
 

@@ -1,11 +1,12 @@
 //! The output and the exit status of a command that prints only at its end.
-ghost use Rattle.std.specs.Prelude.{◌≡◌, ◌≤◌, false};
+ghost use Rattle.std.specs.Prelude.{◌≡◌, ◌≤◌, IfOk, [], false, string_bytes};
+ghost use Rattle.toml_span_commands.specs.Say.{Gives};
+ghost use Rattle.toml_span_lex.specs.declared.stop.Stop.TheVariants as stops;
 
 use crate::commands::{Command, help_of};
-use crate::say::{misuse_text, quoted_word};
+use crate::say::{misuse_text, quoted_word, say};
 use std::alloc::{AllocError, Global};
 use toml_span::Stop;
-use toml_span_lines::run::write_bytes;
 use toml_span_lines::sink::Sink;
 use toml_span_report::visible::push_visible;
 
@@ -19,7 +20,11 @@ pub(crate) struct Answer {
 }
 
 /// Returns the answer of a command that succeeds and prints `out`.
-pub(crate) fn printed(alloc: Global, out: String) -> Answer {
+pub(crate) fn printed(alloc: Global, out: String) -> Answer
+    ensures prints { result.out ≡ out }
+    ensures silent { string_bytes result.errors ≡ [] }
+    ensures succeeds { result.status ≡ 0 }
+{
     Answer {
         out,
         errors: String::new(alloc),
@@ -37,6 +42,7 @@ pub(crate) fn failed(
     status: u8,
 ) -> Result<Answer, AllocError>
     requires { status ≤ 4 }
+    ensures { IfOk result (λ answer. answer.status ≡ status) }
 {
     let mut errors = String::from_str(alloc, front)?;
     errors.push_str(quoted_word(alloc, file)?.as_str())?;
@@ -51,12 +57,16 @@ pub(crate) fn failed(
 }
 
 /// Returns the answer of a command that prints its help.
-pub(crate) fn helped(alloc: Global, command: Command) -> Result<Answer, AllocError> {
+pub(crate) fn helped(alloc: Global, command: Command) -> Result<Answer, AllocError>
+    ensures { IfOk result (λ answer. answer.status ≡ 0) }
+{
     Ok(printed(alloc, String::from_str(alloc, help_of(command))?))
 }
 
 /// Returns the answer for wrong arguments. `message` says what is wrong.
-pub(crate) fn misuse(alloc: Global, command: Command, message: &str) -> Result<Answer, AllocError> {
+pub(crate) fn misuse(alloc: Global, command: Command, message: &str) -> Result<Answer, AllocError>
+    ensures { IfOk result (λ answer. answer.status ≡ 2) }
+{
     Ok(Answer {
         out: String::new(alloc),
         errors: misuse_text(alloc, command, message)?,
@@ -70,14 +80,19 @@ pub(crate) fn misused(
     alloc: Global,
     command: Command,
     stop: Stop<String>,
-) -> Result<Answer, AllocError> {
+) -> Result<Answer, AllocError>
+    ensures { IfOk result (λ answer. answer.status ≡ 2) }
+{
     let message = stop.fault()?;
     misuse(alloc, command, message.as_str())
 }
 
 /// Returns the answer of a command that fails with status 2. `stop` has the message for standard error. Fails if `stop`
 /// is `Stop::Memory`.
-pub(crate) fn stopped(alloc: Global, stop: Stop<String>) -> Result<Answer, AllocError> {
+pub(crate) fn stopped(alloc: Global, stop: Stop<String>) -> Result<Answer, AllocError>
+    ensures says { IfOk result (λ answer. stop ≡ stops.Fault answer.errors) }
+    ensures fails { IfOk result (λ answer. answer.status ≡ 2) }
+{
     Ok(Answer {
         out: String::new(alloc),
         errors: stop.fault()?,
@@ -89,14 +104,13 @@ pub(crate) fn stopped(alloc: Global, stop: Stop<String>) -> Result<Answer, Alloc
 pub(crate) fn give<O: Sink, E: Sink>(answer: &Answer, out: &mut O, errors: &mut E) -> u8
     requires out { O.failed out.old ≡ false }
     requires errors { E.failed errors.old ≡ false }
-    ensures { result ≤ 4 }
+    ensures small { result ≤ 4 }
+    ensures gives { Gives (string_bytes answer.now.out) (string_bytes answer.now.errors) answer.now.status
+        (O.contents out.old) (O.contents out.new) (O.failed out.new)
+        (E.contents errors.old) (E.contents errors.new) (E.failed errors.new) result }
 {
-    if !write_bytes(errors, answer.errors.as_bytes()) {
-        return 3;
-    }
-    if write_bytes(out, answer.out.as_bytes()) {
-        answer.status
-    } else {
-        3
+    match say(errors, answer.errors.as_str(), 0) {
+        0 => say(out, answer.out.as_str(), answer.status),
+        _ => 3,
     }
 }

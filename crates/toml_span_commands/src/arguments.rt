@@ -1,4 +1,7 @@
 //! The arguments of the commands that edit a file.
+ghost use Rattle.std.specs.Prelude.{◌≡◌, OnOk};
+ghost use Rattle.toml_span_commands.specs.Arguments as spec;
+
 use crate::commands::Command;
 use crate::files::set_write_option;
 use crate::options::search_of;
@@ -99,12 +102,12 @@ impl<'w> Arguments<'w> {
         Ok(())
     }
 
-    /// Stores the argument `word`, which begins with a dash and is no option with a value. Fails with a message if it
-    /// is an unknown option with two dashes. Any other unknown argument, such as `-1`, is not an option.
-    fn option(&mut self, alloc: Global, word: &'w str) -> Result<(), Stop<String>> {
-        if set_write_option(&mut self.options, word) {
-            return Ok(());
-        }
+    /// Stores an option that has no value, other than one that says how files are written. Returns whether
+    /// `word` is one.
+    #[tactic(auto, unfolding(crate::specs::Arguments::with_own))]
+    fn own_flag(&mut self, word: &str) -> bool
+        ensures { (self.new, result) ≡ spec.with_own self.old word.now }
+    {
         match word {
             "-h" | "--help" => self.is_help = true,
             "--string" => self.is_string = true,
@@ -112,13 +115,31 @@ impl<'w> Arguments<'w> {
             "--no-config" => self.has_no_config = true,
             "--dry-run" => self.show = Show::Text,
             "--diff" => self.show = Show::Diff,
-            _ => {
-                if word.starts_with("--") {
-                    return Err(Stop::Fault(unexpected(alloc, word, true, &OPTIONS)?));
-                }
-                self.words.push(word)?;
-            }
+            _ => return false,
         }
+        true
+    }
+
+    /// Stores an option that has no value. Returns whether `word` is one.
+    #[tactic(auto, unfolding(crate::specs::Arguments::with_flag))]
+    fn flag(&mut self, word: &str) -> bool
+        ensures { (self.new, result) ≡ spec.with_flag self.old word.now }
+    {
+        set_write_option(&mut self.options, word) || self.own_flag(word)
+    }
+
+    /// Stores the argument `word`, which begins with a dash and is no option with a value. Fails with a message if it
+    /// is an unknown option with two dashes. Any other unknown argument, such as `-1`, is not an option.
+    fn option(&mut self, alloc: Global, word: &'w str) -> Result<(), Stop<String>>
+        ensures { OnOk result (spec.TakesOption word.entry self.old self.new) }
+    {
+        if self.flag(word) {
+            return Ok(());
+        }
+        if word.starts_with("--") {
+            return Err(Stop::Fault(unexpected(alloc, word, true, &OPTIONS)?));
+        }
+        self.words.push(word)?;
         Ok(())
     }
 
@@ -159,8 +180,10 @@ pub(crate) fn arguments_asked<'w>(
     } else {
         &VALUED[..3]
     };
-    for argument in &arguments_in(alloc, words, valued)? {
+    let given = arguments_in(alloc, words, valued)?;
+    for argument in &given.list {
         asked.take(alloc, *argument)?;
     }
+    given.complete(alloc)?;
     Ok(asked)
 }

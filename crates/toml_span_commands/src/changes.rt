@@ -1,4 +1,7 @@
 //! The edits that arguments and scripts describe.
+ghost use Rattle.std.specs.Prelude.{◌≡◌, IfOk, length, vec_len};
+ghost use Rattle.toml_span_commands.specs.Edits as spec;
+
 use crate::commands::Command;
 use crate::paths::wrong_path;
 use std::alloc::{AllocError, Global};
@@ -42,7 +45,9 @@ pub(crate) fn count_of(command: Command) -> usize {
 
 /// Returns the edit that a command makes. `words` are the arguments after the name of the file. Returns `None` if their
 /// number is wrong, or if `command` is not a command that makes exactly one edit.
-pub(crate) fn change_of<'w>(command: Command, words: &[&'w str]) -> Option<PathEdit<'w>> {
+pub(crate) fn change_of<'w>(command: Command, words: &[&'w str]) -> Option<PathEdit<'w>>
+    ensures { result ≡ spec.change_of command words.now }
+{
     let [path, rest @ ..] = words else {
         return None;
     };
@@ -147,7 +152,9 @@ fn checked<'w>(
 pub(crate) fn option_changes<'w>(
     alloc: Global,
     edits: &[&'w str],
-) -> Result<Vec<PathEdit<'w>>, Stop<String>> {
+) -> Result<Vec<PathEdit<'w>>, Stop<String>>
+    ensures { IfOk result (λ changes. vec_len changes ≡ length edits.now) }
+{
     let mut changes = Vec::new(alloc);
     for (at, edit) in edits.iter().enumerate() {
         changes.push(checked(alloc, "edit", at.saturating_add(1), *edit)?)?;

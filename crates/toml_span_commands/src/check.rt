@@ -1,9 +1,11 @@
 //! The command `check`.
-ghost use Rattle.std.specs.Prelude.{◌≡◌, ◌≤◌, IfOk, None, false, map, string_bytes};
+ghost use Rattle.std.specs.Prelude.{◌≡◌, ◌≤◌, IfOk, None, [], false, map, string_bytes};
 ghost use Rattle.toml_span_commands.specs.Check.{ChecksConfigured, ChecksFixed, ChecksWith, PerformsCheck, ShowsChanges};
 ghost use Rattle.toml_span_commands.specs.Configured as spec;
 ghost use Rattle.toml_span_commands.specs.Configured.{IsConfigured, configured_says};
 ghost use Rattle.toml_span_commands.specs.Start.{RunsWith};
+ghost use Rattle.toml_span_check.specs.Fixing.{fixed};
+ghost use Rattle.toml_span_check.specs.Newer.{FixesAll};
 
 use crate::answers::Answer;
 use crate::colours::Screen;
@@ -118,6 +120,15 @@ impl Fixes {
         Ok(())
     }
 
+    /// Fixes errors of a file with this text, in the version of TOML that its settings say.
+    fn fixed(&self, alloc: Global, file: &Configured, text: &str) -> Result<Fixed, AllocError>
+        ensures { IfOk result (λ made. FixesAll file.now.found.settings.toml.value (string_bytes file.now.shown)
+            self.now.level text.now (fixed made)) }
+    {
+        let version = file.found.settings.toml.value;
+        with_all_fixes(alloc, text, version, file.shown.as_str(), self.level)
+    }
+
     /// Fixes errors of a file whose content is `bytes`, and calls `put` if there were fixes. Returns whether there were.
     /// A file that is larger than 16 MiB or not valid UTF-8 has no fixes.
     fn add_bytes(
@@ -134,8 +145,7 @@ impl Fixes {
             return Ok(false);
         };
         let (name, shown) = (file.name.as_str(), file.shown.as_str());
-        let version = file.found.settings.toml.value;
-        let made = with_all_fixes(alloc, text, version, shown, self.level)?;
+        let made = self.fixed(alloc, file, text)?;
         if made.count == 0 {
             return Ok(false);
         }
@@ -236,6 +246,16 @@ struct NamedInputs {
     opens_pipes: bool,
 }
 
+impl NamedInputs {
+    /// Returns the names of all files the first time, and then none.
+    fn take_names(&mut self, alloc: Global) -> Vec<String>
+        ensures taken { result ≡ self.old.names }
+        ensures left { self.new.names.items ≡ [] }
+    {
+        mem::replace(&mut self.names, Vec::new(alloc))
+    }
+}
+
 impl Inputs for NamedInputs {
     ghost log = { λ _. None };
 
@@ -246,7 +266,7 @@ impl Inputs for NamedInputs {
         _excludes: &[&str],
         _name: &str,
     ) -> Result<Vec<String>, AllocError> {
-        Ok(mem::replace(&mut self.names, Vec::new(alloc)))
+        Ok(self.take_names(alloc))
     }
 
     fn read(&mut self, alloc: Global, name: &str) -> Result<Result<Vec<u8>, String>, AllocError> {
@@ -326,6 +346,30 @@ fn find_files(
     Ok(Listed { files, sources })
 }
 
+/// Returns the names of files in reports.
+fn names_of(alloc: Global, files: &[Configured]) -> Result<Vec<String>, AllocError>
+    ensures { IfOk result (λ names. map (λ name. string_bytes name) names.items ≡ map spec.shown_name files.now) }
+{
+    let mut names = Vec::new(alloc);
+    for file in files {
+        names.push(file.shown.clone()?)?;
+    }
+    Ok(names)
+}
+
+/// Returns whether standard input is one of the files.
+#[tactic(auto, unfolding(crate::specs::Configured::has_stdin))]
+fn has_stdin(files: &[Configured]) -> bool
+    ensures { result ≡ spec.has_stdin files.now }
+{
+    for file in files {
+        if file.name.as_str() == "-" {
+            return true;
+        }
+    }
+    false
+}
+
 impl Files {
     /// Returns the files, and their schemas for `options`. `texts` are the bytes of files that are not read, by the
     /// numbers of the files. Reads nothing yet.
@@ -337,12 +381,8 @@ impl Files {
         host: &Host,
     ) -> Result<Files, AllocError> {
         let Listed { files, sources } = listed;
-        let mut names = Vec::new(alloc);
-        let mut is_waiting = false;
-        for file in &files {
-            names.push(file.shown.clone()?)?;
-            is_waiting = is_waiting || file.name.as_str() == "-";
-        }
+        let names = names_of(alloc, files.as_slice())?;
+        let is_waiting = has_stdin(files.as_slice());
         let are_mixed = common_version(files.as_slice()).is_none();
         let reader = Host { rt: host.rt };
         Ok(Files {
@@ -395,7 +435,8 @@ fn check_fixed<O: Sink, E: Sink>(
 ) -> u8
     requires out { O.failed out.old ≡ false }
     requires errors { E.failed errors.old ≡ false }
-    ensures { ChecksFixed request.now (O.contents out.old) (O.contents out.new) (O.failed out.new)
+    ensures { ChecksFixed (string_bytes fixes.now.lines) fixes.now.status request.now (O.contents out.old)
+        (O.contents out.new) (O.failed out.new)
         (E.contents errors.old) (E.contents errors.new) (E.failed errors.new) result }
 {
     match say(errors, fixes.lines.as_str(), 0) {
@@ -419,7 +460,8 @@ fn show_changes<O: Sink, E: Sink>(
 ) -> Result<u8, AllocError>
     requires out { O.failed out.old ≡ false }
     requires errors { E.failed errors.old ≡ false }
-    ensures { IfOk result (ShowsChanges request.now (O.contents out.old) (O.contents out.new)
+    ensures { IfOk result (ShowsChanges (string_bytes fixes.old.changes) (string_bytes fixes.old.lines)
+        fixes.old.status request.now (O.contents out.old) (O.contents out.new)
         (E.contents errors.old) (E.contents errors.new) (E.failed errors.new)) }
 {
     let changes = mem::replace(&mut fixes.changes, String::new(alloc));
@@ -464,7 +506,8 @@ fn check_listed<O: Sink, E: Sink>(
             let mut fixes = fix_files(alloc, options, level, true, &listed, host)?;
             let texts = mem::replace(&mut fixes.texts, Vec::new(alloc));
             let mut files = Files::of(alloc, options, listed, texts, host)?;
-            show_changes(alloc, &mut fixes, request, &mut files, out, errors)
+            let status = show_changes(alloc, &mut fixes, request, &mut files, out, errors)?;
+            Ok(status)
         }
     }
 }
@@ -472,7 +515,7 @@ fn check_listed<O: Sink, E: Sink>(
 /// Sets the version of TOML that all files have, unless the arguments name one, and says who chooses schemas. If the
 /// files have several versions, they are checked as TOML 1.1, and `FileSchemas` checks each as its version.
 fn configure(options: &mut Options<'_>, listed: &Listed)
-    ensures task { IsConfigured options.old.request options.new.request }
+    ensures task { IsConfigured listed.now.files.items options.old.request options.new.request }
     ensures fixing { options.new.fixing ≡ options.old.fixing }
 {
     let files = listed.files.as_slice();

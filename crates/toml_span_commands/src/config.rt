@@ -38,7 +38,8 @@ fn asked_of<'w>(alloc: Global, arguments: &'w [String]) -> Result<Asked<'w>, Sto
         has_no_config: false,
         file: None,
     };
-    for argument in &arguments_in(alloc, arguments, &["--config"])? {
+    let given = arguments_in(alloc, arguments, &["--config"])?;
+    for argument in &given.list {
         match *argument {
             Argument::Valued(_, word) => asked.config = word,
             Argument::Flag("--no-config") => asked.has_no_config = true,
@@ -48,6 +49,7 @@ fn asked_of<'w>(alloc: Global, arguments: &'w [String]) -> Result<Asked<'w>, Sto
             }
         }
     }
+    given.complete(alloc)?;
     Ok(asked)
 }
 

@@ -1,5 +1,5 @@
 //! Files with the settings that configuration files have for them.
-ghost use Rattle.std.specs.Prelude.{◌≡◌};
+ghost use Rattle.std.specs.Prelude.{◌≡◌, OnOk, map};
 ghost use Rattle.toml_span_commands.specs.Configured as spec;
 
 use std::alloc::{AllocError, Global};
@@ -33,6 +33,23 @@ pub(crate) struct Wanted<'w> {
     pub(crate) forces_exclude: bool,
 }
 
+/// Appends a file, unless its configuration excludes it. `is_named` says whether an argument names the file, which is
+/// excluded only if this is forced.
+fn push_included(
+    file: Configured,
+    is_named: bool,
+    forces_exclude: bool,
+    files: &mut Vec<Configured>,
+) -> Result<(), AllocError>
+    ensures { OnOk result (files.new.items ≡ spec.with_file files.old.items file is_named forces_exclude) }
+{
+    if file.found.is_excluded && (!is_named || forces_exclude) {
+        return Ok(());
+    }
+    files.push(file)?;
+    Ok(())
+}
+
 /// Appends the file `name`, unless its configuration excludes it. `is_named` says whether an argument names the file,
 /// which is excluded only if this is forced. Fails with a message if the configuration is wrong.
 fn push_file(
@@ -50,10 +67,8 @@ fn push_file(
         name.clone()?
     };
     let found = sources.settings_for(alloc, host, shown.as_str())?;
-    if found.is_excluded && (!is_named || wanted.forces_exclude) {
-        return Ok(());
-    }
-    files.push(Configured { name, shown, found })?;
+    let file = Configured { name, shown, found };
+    push_included(file, is_named, wanted.forces_exclude, files)?;
     Ok(())
 }
 
@@ -77,22 +92,51 @@ pub(crate) fn configured_files(
     Ok(files)
 }
 
+/// Returns whether two versions of TOML are the same.
+fn is_same(one: Version, other: Version) -> bool
+    ensures { result ≡ spec.is_same one other }
+{
+    match (one, other) {
+        (Version::Auto, Version::Auto) => true,
+        (Version::Toml10, Version::Toml10) => true,
+        (Version::Toml11, Version::Toml11) => true,
+        _ => false,
+    }
+}
+
+/// Returns whether all files have this version of TOML.
+#[tactic(auto, unfolding(crate::specs::Configured::have_version))]
+fn have_version(files: &[Configured], version: Version) -> bool
+    ensures { result ≡ spec.have_version version (map spec.version_of files.now) }
+{
+    for file in files {
+        if !is_same(file.found.settings.toml.value, version) {
+            return false;
+        }
+    }
+    true
+}
+
 /// Returns the version of TOML of all files, or `None` if they have several.
-pub(crate) fn common_version(files: &[Configured]) -> Option<Version> {
+pub(crate) fn common_version(files: &[Configured]) -> Option<Version>
+    ensures { result ≡ spec.common_version (map spec.version_of files.now) }
+{
     let version = match files.first() {
         Some(file) => file.found.settings.toml.value,
         None => Version::Auto,
     };
-    for file in files {
-        if file.found.settings.toml.value != version {
-            return None;
-        }
+    if have_version(files, version) {
+        Some(version)
+    } else {
+        None
     }
-    Some(version)
 }
 
 /// Returns whether a configuration file names a schema for one of the files.
-pub(crate) fn has_schemas(files: &[Configured]) -> bool {
+#[tactic(auto, unfolding(crate::specs::Configured::has_schemas))]
+pub(crate) fn has_schemas(files: &[Configured]) -> bool
+    ensures { result ≡ spec.has_schemas files.now }
+{
     for file in files {
         if file.found.settings.schema.is_some() {
             return true;

@@ -1,5 +1,7 @@
 //! The commands that edit a file.
-ghost use Rattle.std.specs.Prelude.{◌≡◌, ◌≤◌, IfOk, false};
+ghost use Rattle.std.specs.Prelude.{◌≡◌, ◌≤◌, ◌++◌, IfOk, OnOk, false, true, string_bytes};
+ghost use Rattle.toml_span_commands.specs.Arguments as arguments;
+ghost use Rattle.toml_span_commands.specs.Escaped as spec;
 
 use crate::answers::{Answer, failed, give, misuse, misused, printed, stopped};
 use crate::arguments::{Arguments, Show, arguments_asked};
@@ -22,24 +24,39 @@ use toml_span_lines::sink::Sink;
 use toml_span_report::Style;
 use toml_span_report::visible::{push_char, visible};
 
-/// Returns a text as it is printed. For a terminal, characters that terminals act on are escaped, except tabs and line
-/// ends.
-pub(crate) fn escaped(
-    alloc: Global,
-    text: String,
-    is_terminal: bool,
-) -> Result<String, AllocError> {
-    if !is_terminal {
-        return Ok(text);
+/// Appends a character, escaped if terminals act on it, unless it is a tab or belongs to a line end.
+fn push_kept(out: &mut String, c: char) -> Result<(), AllocError>
+    ensures { OnOk result (string_bytes out.new ≡ string_bytes out.old ++ spec.kept_char c) }
+{
+    if c == '\t' || c == '\r' || c == '\n' {
+        out.push(c)
+    } else {
+        push_char(out, c)
     }
+}
+
+/// Returns a text for a terminal: characters that terminals act on are escaped, except tabs and line ends.
+fn terminal_text(alloc: Global, text: &str) -> Result<String, AllocError>
+    ensures { IfOk result (λ out. string_bytes out ≡ spec.escaped true text.now) }
+{
     let mut out = String::new(alloc);
-    for c in text.as_str().chars() {
-        match c {
-            '\t' | '\r' | '\n' => out.push(c)?,
-            _ => push_char(&mut out, c)?,
-        }
+    for c in text.chars() {
+        push_kept(&mut out, c)?;
     }
     Ok(out)
+}
+
+/// Returns a text as it is printed. For a terminal, characters that terminals act on are escaped, except tabs and line
+/// ends.
+#[tactic(auto, unfolding(crate::specs::Escaped::escaped))]
+pub(crate) fn escaped(alloc: Global, text: String, is_terminal: bool) -> Result<String, AllocError>
+    ensures { IfOk result (λ out. string_bytes out ≡ spec.escaped is_terminal (string_bytes text)) }
+{
+    if is_terminal {
+        terminal_text(alloc, text.as_str())
+    } else {
+        Ok(text)
+    }
 }
 
 /// Returns the answer for edits that were refused for the reason in `stop`. Fails if `stop` is `Stop::Memory`.
@@ -120,6 +137,17 @@ fn version_of(
     Ok(found.settings.toml.value)
 }
 
+/// Returns whether the result of edits is printed: for standard input, and with `--dry-run` or `--diff`. Otherwise it
+/// replaces the file.
+fn is_shown(file: &str, show: Show) -> bool
+    ensures { result ≡ arguments.is_shown file.now show }
+{
+    match show {
+        Show::No => file == "-",
+        Show::Text | Show::Diff => true,
+    }
+}
+
 /// Makes edits, and returns the answer. For `-`, `--dry-run` and `--diff`, does what `show` does; otherwise replaces
 /// the file. If the configuration file can't be read or is wrong, makes no edits, and the answer says why.
 fn perform(
@@ -140,7 +168,7 @@ fn perform(
         version,
         name,
     };
-    if file == "-" || asked.show != Show::No {
+    if is_shown(file, asked.show) {
         show(alloc, file, changes, asked, way, host)
     } else {
         write(alloc, file, changes, asked, way, host)

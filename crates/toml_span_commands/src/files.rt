@@ -1,5 +1,6 @@
 //! Reads and replaces single files, with options of the command line, and reports files that were not edited.
-ghost use Rattle.std.specs.Prelude.{◌≤◌};
+ghost use Rattle.std.specs.Prelude.{◌≡◌, ◌≤◌, IfOk, is_none, is_ok};
+ghost use Rattle.toml_span_commands.specs.Files as spec;
 
 use crate::answers::{Answer, failed};
 use std::alloc::{AllocError, Global};
@@ -10,7 +11,10 @@ use toml_span_lookup::disk::Disk;
 
 /// Stores an option that says how to write a file, and that has no value: `--force`, `--change-owner` or `--in-place`.
 /// Returns whether `word` is one of these.
-pub(crate) fn set_write_option(options: &mut Options, word: &str) -> bool {
+#[tactic(auto, unfolding(crate::specs::Files::with_write))]
+pub(crate) fn set_write_option(options: &mut Options, word: &str) -> bool
+    ensures { (options.new, result) ≡ spec.with_write options.old word.now }
+{
     match word {
         "--force" => options.is_forced = true,
         "--change-owner" => options.may_change_owner = true,
@@ -32,7 +36,8 @@ pub(crate) fn read_file(
 
 /// Returns the start of the message about a file that was not edited, and the exit status.
 fn beginning(failure: &Failure) -> (&'static str, u8)
-    ensures { result.1 ≤ 3 }
+    ensures small { result.1 ≤ 3 }
+    ensures status { result.1 ≡ spec.failure_status failure.now }
 {
     match failure {
         Failure::Unread(_) | Failure::Directory => ("error: cannot read ", 2),
@@ -86,7 +91,9 @@ pub(crate) fn unedited(
     failure: &Failure,
     options: Options,
     has_wait: bool,
-) -> Result<Answer, AllocError> {
+) -> Result<Answer, AllocError>
+    ensures { IfOk result (λ answer. answer.status ≡ spec.failure_status failure.now) }
+{
     if let Failure::Memory = failure {
         return Err(AllocError);
     }
@@ -95,6 +102,23 @@ pub(crate) fn unedited(
     let mut answer = failed(alloc, front, file, reason.as_str(), status)?;
     answer.errors.push_str(hint(failure, options, has_wait))?;
     Ok(answer)
+}
+
+/// Returns `None` if the file `name` was written (`done`), otherwise the answer for a file that was not edited with
+/// these options. `has_wait` says whether the command has the option `--wait`. Fails if an allocation fails.
+fn unwritten(
+    alloc: Global,
+    name: &str,
+    options: Options,
+    has_wait: bool,
+    done: Result<(), Failure>,
+) -> Result<Option<Answer>, AllocError>
+    ensures { IfOk result (λ answer. is_none answer ≡ is_ok done) }
+{
+    match done {
+        Ok(()) => Ok(None),
+        Err(failure) => Ok(Some(unedited(alloc, name, &failure, options, has_wait)?)),
+    }
 }
 
 /// Replaces the content of the file `name` with `text`, if the content is still `bytes`. Returns `None` on success,
@@ -108,8 +132,6 @@ pub(crate) fn replace(
     bytes: &[u8],
     text: &str,
 ) -> Result<Option<Answer>, AllocError> {
-    match put_file(rt, name, options, bytes, text) {
-        Ok(()) => Ok(None),
-        Err(failure) => Ok(Some(unedited(alloc, name, &failure, options, has_wait)?)),
-    }
+    let done = put_file(rt, name, options, bytes, text);
+    unwritten(alloc, name, options, has_wait, done)
 }

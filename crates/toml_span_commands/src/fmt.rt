@@ -1,6 +1,7 @@
 //! The command `fmt`.
-ghost use Rattle.std.specs.Prelude.{◌≡◌, ◌≤◌, IfOk, false};
+ghost use Rattle.std.specs.Prelude.{◌≡◌, ◌≤◌, ◌&&◌, not, IfOk, OnOk, false};
 ghost use Rattle.std.specs.Str.{IsValidUpTo};
+ghost use Rattle.toml_span_commands.specs.Fmt as spec;
 ghost use Rattle.toml_span_commands.specs.Fmt.{FormatsAs};
 
 use crate::answers::{Answer, failed, give, helped, misused, printed, stopped};
@@ -164,6 +165,15 @@ fn crlf_of(alloc: Global, word: &str) -> Result<Crlf, Stop<String>> {
     }
 }
 
+impl Asked<'_> {
+    /// Returns whether formatted files are written: not with `--check` and `--diff`.
+    fn writes(&self) -> bool
+        ensures { result ≡ (not self.now.is_check && not self.now.is_diff) }
+    {
+        !self.is_check && !self.is_diff
+    }
+}
+
 impl<'w> Asked<'w> {
     /// Parses `word` as the value of the option `name`, and stores it. Fails with a message if the value is wrong.
     fn set(&mut self, alloc: Global, name: &str, word: &'w str) -> Result<(), Stop<String>> {
@@ -187,11 +197,12 @@ impl<'w> Asked<'w> {
         Ok(())
     }
 
-    /// Stores the option `word`, which has no value. Fails with a message if the option is unknown.
-    fn option(&mut self, alloc: Global, word: &str) -> Result<(), Stop<String>> {
-        if set_write_option(&mut self.writing, word) {
-            return Ok(());
-        }
+    /// Stores an option that has no value, except `--stdin` and those that say how files are written. Returns whether
+    /// `word` is one.
+    #[tactic(auto, unfolding(crate::specs::Fmt::with_own))]
+    fn own_flag(&mut self, word: &str) -> bool
+        ensures { (self.new, result) ≡ spec.with_own self.old word.now }
+    {
         match word {
             "--check" => self.is_check = true,
             "--diff" => self.is_diff = true,
@@ -200,10 +211,31 @@ impl<'w> Asked<'w> {
             "--align-comments" => self.layer.align_comments = given(true),
             "--force-exclude" => self.forces_exclude = true,
             "--no-config" => self.has_no_config = true,
-            "--stdin" => self.names.push("-")?,
             "--quiet" => self.is_quiet = true,
-            _ => return Err(Stop::Fault(unexpected(alloc, word, true, &OPTIONS)?)),
+            _ => return false,
         }
+        true
+    }
+
+    /// Stores an option that has no value, except `--stdin`. Returns whether `word` is one.
+    #[tactic(auto, unfolding(crate::specs::Fmt::with_flag))]
+    fn flag(&mut self, word: &str) -> bool
+        ensures { (self.new, result) ≡ spec.with_flag self.old word.now }
+    {
+        set_write_option(&mut self.writing, word) || self.own_flag(word)
+    }
+
+    /// Stores the option `word`, which has no value. Fails with a message if the option is unknown.
+    fn option(&mut self, alloc: Global, word: &str) -> Result<(), Stop<String>>
+        ensures { OnOk result (spec.TakesOption word.now self.old self.new) }
+    {
+        if self.flag(word) {
+            return Ok(());
+        }
+        if word != "--stdin" {
+            return Err(Stop::Fault(unexpected(alloc, word, true, &OPTIONS)?));
+        }
+        self.names.push("-")?;
         Ok(())
     }
 
@@ -236,9 +268,11 @@ fn asked_of<'w>(alloc: Global, arguments: &'w [String]) -> Result<Asked<'w>, Sto
         config: "",
         has_no_config: false,
     };
-    for argument in &arguments_in(alloc, arguments, &VALUED)? {
+    let split = arguments_in(alloc, arguments, &VALUED)?;
+    for argument in &split.list {
         asked.take(alloc, *argument)?;
     }
+    split.complete(alloc)?;
     if asked.names.is_empty() {
         asked.names.push(".")?;
     }
@@ -246,7 +280,9 @@ fn asked_of<'w>(alloc: Global, arguments: &'w [String]) -> Result<Asked<'w>, Sto
 }
 
 /// Returns the answer for a file whose text has this error: the report that `check` makes.
-fn invalid(alloc: Global, name: &str, text: &str, error: &Error<'_>) -> Result<Answer, AllocError> {
+fn invalid(alloc: Global, name: &str, text: &str, error: &Error<'_>) -> Result<Answer, AllocError>
+    ensures { IfOk result (λ answer. answer.status ≡ 1) }
+{
     let report = error_report(alloc, error, text)?;
     Ok(Answer {
         out: String::new(alloc),
@@ -262,7 +298,9 @@ fn refused(
     name: &str,
     text: &str,
     error: &FormatError<'_>,
-) -> Result<Answer, AllocError> {
+) -> Result<Answer, AllocError>
+    ensures { IfOk result (λ answer. answer.status ≡ 1) }
+{
     if let FormatError::Invalid(error) = error {
         return invalid(alloc, name, text, error);
     }
@@ -277,6 +315,7 @@ fn refused(
 /// first invalid byte.
 fn not_text(alloc: Global, name: &str, bytes: &[u8], at: usize) -> Result<Answer, AllocError>
     requires { IsValidUpTo bytes.now at }
+    ensures { IfOk result (λ answer. answer.status ≡ 1) }
 {
     let (report, text) = not_utf8(alloc, bytes, at)?;
     Ok(Answer {
@@ -293,7 +332,9 @@ fn would_change(
     name: &str,
     text: &str,
     new: &str,
-) -> Result<Answer, AllocError> {
+) -> Result<Answer, AllocError>
+    ensures { IfOk result (λ answer. answer.status ≡ 1) }
+{
     let shown = shown_word(alloc, name)?;
     let shown = visible(alloc, shown.as_str())?;
     let shown = shown.as_str();
@@ -324,7 +365,7 @@ fn put(
     count: &mut Count,
 ) -> Result<Answer, AllocError> {
     let name = file.name.as_str();
-    let is_written = !asked.is_check && !asked.is_diff;
+    let is_written = asked.writes();
     if is_written && name == "-" {
         return Ok(printed(alloc, new));
     }
@@ -415,7 +456,9 @@ fn format_file(
 }
 
 /// Adds the answer for one file to the answer for all. The higher status counts.
-fn add(all: &mut Answer, one: &Answer) -> Result<(), AllocError> {
+fn add(all: &mut Answer, one: &Answer) -> Result<(), AllocError>
+    ensures { OnOk result (spec.Adds all.old one.now all.new) }
+{
     all.out.push_str(one.out.as_str())?;
     all.errors.push_str(one.errors.as_str())?;
     all.status = all.status.max(one.status);

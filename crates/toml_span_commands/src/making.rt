@@ -1,5 +1,7 @@
 //! Makes edits in the text of a file.
+ghost use Rattle.std.specs.Prelude.{◌≡◌};
 ghost use Rattle.std.specs.Str.{IsValidUpTo};
+ghost use Rattle.toml_span_commands.specs.Edits as spec;
 
 use crate::changes::{Action, PathEdit};
 use std::alloc::{AllocError, Global};
@@ -108,7 +110,9 @@ fn value_of(alloc: Global, value: &str, way: Way<'_>) -> Result<String, Stop<Ref
 }
 
 /// Returns the kind of an edit with this action.
-fn kind_of(action: Action<'_>) -> Kind {
+fn kind_of(action: Action<'_>) -> Kind
+    ensures { result ≡ spec.kind_of action.entry }
+{
     match action {
         Action::Set(_) => Kind::Set,
         Action::Rename(_) => Kind::Rename,
@@ -182,7 +186,9 @@ fn prepare_all<'w>(
 }
 
 /// Converts a prepared edit to an `Edit` of `toml_span_edit`.
-fn edit_of<'w>(prepared: &'w Prepared<'w>) -> Edit<'w> {
+fn edit_of<'w>(prepared: &'w Prepared<'w>) -> Edit<'w>
+    ensures { spec.IsEditOf prepared.entry.now result }
+{
     let value = prepared.value.as_str();
     let change = match prepared.kind {
         Kind::Set => toml_span_edit::Change::SetOrAdd(value),

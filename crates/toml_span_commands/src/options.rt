@@ -74,7 +74,9 @@ impl<'w> Options<'w> {
 
 /// Returns which configuration file to use. `config` is the value of `--config`, or an empty text, and `has_none` says
 /// whether `--no-config` is given.
-pub(crate) fn search_of<'w>(config: &'w str, has_none: bool) -> Search<'w> {
+pub(crate) fn search_of<'w>(config: &'w str, has_none: bool) -> Search<'w>
+    ensures { result ≡ spec.search_of config.entry has_none }
+{
     if has_none {
         Search::No
     } else if config.is_empty() {
@@ -438,7 +440,9 @@ fn lacks_fix(matches: &ArgMatches<'_>) -> bool
 }
 
 /// Returns how fixed files are written.
-fn writing_of(matches: &ArgMatches<'_>) -> toml_span_files::Options {
+fn writing_of(matches: &ArgMatches<'_>) -> toml_span_files::Options
+    ensures { result ≡ spec.writing_of (rows_of (found_of matches.now)) }
+{
     toml_span_files::Options {
         is_forced: is_given(matches, "force"),
         may_change_owner: is_given(matches, "change-owner"),
@@ -549,8 +553,8 @@ pub(crate) fn options_of<'w>(
 ) -> Result<Options<'w>, Error>
     ensures ok { IfOk result (λ o.
         spec.Asks query (map (λ w. string_bytes w) words.entry.now) screen o.request o.fixing) }
-    ensures denies { IfOk result (λ o. o.denies_warnings
-        ≡ spec.is_given (spec.options query (map (λ w. string_bytes w) words.entry.now)) (codes "deny-warnings")) }
+    ensures sets { IfOk result
+        (λ o. spec.Sets (spec.options query (map (λ w. string_bytes w) words.entry.now)) o) }
     ensures fails { FailsBy
         (spec.faults query (map (λ w. string_bytes w) words.entry.now) (spec.coloured query screen)) result }
 {

@@ -1,5 +1,6 @@
 //! Prints texts, quotes arguments, and reports wrong arguments.
-ghost use Rattle.std.specs.Prelude.{◌≡◌, ℕ, List, IfOk, false, string_bytes};
+ghost use Rattle.std.specs.Prelude.{◌≡◌, ℕ, List, IfOk, false, map, string_bytes};
+ghost use Rattle.toml_span_commands.specs.Words as words;
 ghost use Rattle.toml_span_report.specs.Visible.{visible_lines as shown_lines};
 ghost use Rattle.toml_span_commands.specs.Say.{Prints, Warns};
 
@@ -47,7 +48,10 @@ pub(crate) fn similar_line(
 }
 
 /// Returns whether `name` is one of `names`.
-fn is_among(name: &str, names: &[&str]) -> bool {
+#[tactic(auto, unfolding(crate::specs::Words::is_among))]
+pub(crate) fn is_among(name: &str, names: &[&str]) -> bool
+    ensures { result ≡ words.is_among name.now (map (λ n. n.now) names.now) }
+{
     for one in names {
         if *one == name {
             return true;

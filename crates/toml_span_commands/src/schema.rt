@@ -1,12 +1,13 @@
 //! The command `schema`, which checks schemas and prints commands that fetch them.
-ghost use Rattle.std.specs.Prelude.{◌≡◌, ◌≤◌, IfOk, false};
+ghost use Rattle.std.specs.Prelude.{◌≡◌, ◌≤◌, ◌++◌, IfOk, OnOk, false, string_bytes};
+ghost use Rattle.toml_span_commands.specs.Shell as spec;
 
 use crate::answers::{Answer, give};
 use crate::commands::Command;
 use crate::help::SCHEMA;
 use crate::options::WRONG_MAP;
 use crate::say::{say, say_misuse, unexpected};
-use crate::schemas::SchemaOptions;
+use crate::schemas::{SchemaOptions, copy_of};
 use crate::words::{Argument, arguments_in, is_help};
 use std::alloc::{AllocError, Global};
 use std::fmt::Write;
@@ -15,7 +16,7 @@ use toml_span_check::input::Host;
 use toml_span_lines::sink::Sink;
 use toml_span_lookup::disk::Disk;
 use toml_span_lookup::lookup::Lookup;
-use toml_span_lookup::options::{LocalCopy, Options, Place};
+use toml_span_lookup::options::{Options, Place};
 use toml_span_report::visible::push_visible;
 
 /// The message that the word after `schema` is missing or wrong.
@@ -48,7 +49,8 @@ fn asked_of<'w>(alloc: Global, words: &'w [String]) -> Result<Arguments<'w>, Sto
         folder: FOLDER,
         names: Vec::new(alloc),
     };
-    for argument in &arguments_in(alloc, words, &VALUED)? {
+    let given = arguments_in(alloc, words, &VALUED)?;
+    for argument in &given.list {
         match *argument {
             Argument::Other(word) if !word.starts_with('-') => made.names.push(word)?,
             Argument::Valued("--folder", word) => made.folder = word,
@@ -59,6 +61,7 @@ fn asked_of<'w>(alloc: Global, words: &'w [String]) -> Result<Arguments<'w>, Sto
             }
         }
     }
+    given.complete(alloc)?;
     if made.names.is_empty() {
         let message = "expected the path or the URL of a schema";
         return Err(Stop::Fault(String::from_str(alloc, message)?));
@@ -73,23 +76,38 @@ fn push_copy(
     address: &str,
     path: &str,
 ) -> Result<(), AllocError> {
-    options.copies.push(LocalCopy {
-        address: String::from_str(alloc, address)?,
-        path: String::from_str(alloc, path)?,
-    })?;
+    options.copies.push(copy_of(alloc, address, path)?)?;
     Ok(())
 }
 
 /// Appends a word in quotes for a shell.
-fn push_shell_word(out: &mut String, word: &str) -> Result<(), AllocError> {
+fn push_shell_word(out: &mut String, word: &str) -> Result<(), AllocError>
+    ensures { OnOk result (string_bytes out.new ≡ string_bytes out.old ++ spec.shell_word word.now) }
+{
     out.push('\'')?;
-    for c in word.chars() {
-        match c {
-            '\'' => out.push_str("'\\''")?,
-            _ => out.push(c)?,
-        }
-    }
+    push_shell_chars(out, word)?;
     out.push('\'')
+}
+
+/// Appends a character of a word in quotes for a shell: a quote ends the quotes, and begins them again after it.
+fn push_shell_char(out: &mut String, c: char) -> Result<(), AllocError>
+    ensures { OnOk result (string_bytes out.new ≡ string_bytes out.old ++ spec.shell_char c) }
+{
+    if c == '\'' {
+        out.push_str("'\\''")
+    } else {
+        out.push(c)
+    }
+}
+
+/// Appends the characters of a word in quotes for a shell.
+fn push_shell_chars(out: &mut String, word: &str) -> Result<(), AllocError>
+    ensures { OnOk result (string_bytes out.new ≡ string_bytes out.old ++ spec.shell_chars word.now) }
+{
+    for c in word.chars() {
+        push_shell_char(out, c)?;
+    }
+    Ok(())
 }
 
 /// Checks the schemas that the arguments name. Returns status 1 if one of them can't be used.

@@ -1,5 +1,6 @@
 //! Looks up the schemas of files, as the options about schemas and configuration files say.
-ghost use Rattle.std.specs.Prelude.{◌≡◌, ◌<◌, ◌++◌, IfOk, OnOk, length, map, string_bytes};
+ghost use Rattle.std.specs.Prelude.{◌≡◌, ◌<◌, ◌++◌, IfOk, IsSomeAnd, IsTrue, OnOk, length, map, slice_get};
+ghost use Rattle.std.specs.Prelude.{string_bytes};
 ghost use Rattle.toml_span_commands.specs.Configured as spec;
 ghost use Rattle.toml_span_commands.specs.Configured.{configured_says};
 ghost use Rattle.toml_span_lookup.specs.Findings.{file_says};
@@ -31,23 +32,40 @@ pub(crate) struct SchemaOptions<'w> {
     pub(crate) has_formats: bool,
 }
 
+/// Returns the local copies that values of `--schema-map` name. Leaves out values without `=`.
+fn copies_of(alloc: Global, maps: &[&str]) -> Result<Vec<LocalCopy>, AllocError> {
+    let mut copies = Vec::new(alloc);
+    for map in maps {
+        if let Some((address, path)) = map.rsplit_once('=') {
+            copies.push(copy_of(alloc, address, path)?)?;
+        }
+    }
+    Ok(copies)
+}
+
 impl SchemaOptions<'_> {
     /// Converts the options for `Lookup`. Leaves out values of `maps` without `=`.
-    pub(crate) fn options(&self, alloc: Global) -> Result<Options, AllocError> {
+    pub(crate) fn options(&self, alloc: Global) -> Result<Options, AllocError>
+        ensures { IfOk result (spec.IsLookedUp self.now) }
+    {
         let mut options = Options::new(alloc, Place::Arguments);
         options.schema = String::from_str(alloc, self.schema)?;
         options.catalog = String::from_str(alloc, self.catalog)?;
         options.has_formats = self.has_formats;
-        for map in self.maps.as_slice() {
-            if let Some((address, path)) = map.rsplit_once('=') {
-                options.copies.push(LocalCopy {
-                    address: String::from_str(alloc, address)?,
-                    path: String::from_str(alloc, path)?,
-                })?;
-            }
-        }
+        options.copies = copies_of(alloc, self.maps.as_slice())?;
         Ok(options)
     }
+}
+
+/// Returns the local copy at `path` of what is at `address`.
+pub(crate) fn copy_of(alloc: Global, address: &str, path: &str) -> Result<LocalCopy, AllocError>
+    ensures address { IfOk result (λ copy. string_bytes copy.address ≡ address.now) }
+    ensures path { IfOk result (λ copy. string_bytes copy.path ≡ path.now) }
+{
+    Ok(LocalCopy {
+        address: String::from_str(alloc, address)?,
+        path: String::from_str(alloc, path)?,
+    })
 }
 
 /// The schemas of files that have the same configuration file, and for which it names the same schema.
@@ -90,6 +108,42 @@ pub(crate) struct FileSchemas {
     shared: Vec<Shared>,
 }
 
+/// Returns what the settings of a file say, and the schema that it has. `are_mixed` says whether the files have several
+/// versions of TOML.
+fn named_by(file: &Configured, schema: String, are_mixed: bool) -> Named
+    ensures { result ≡ spec.named_by file.now schema are_mixed }
+{
+    let settings = &file.found.settings;
+    Named {
+        source: file.found.source,
+        schema,
+        version: if are_mixed {
+            settings.toml.value
+        } else {
+            Version::Toml11
+        },
+        is_denied: settings.deny_warnings.value,
+    }
+}
+
+/// Returns whether two files have the same configuration file, by its position, or both none.
+fn is_same(one: Option<usize>, other: Option<usize>) -> bool
+    ensures { IsTrue result → one ≡ other }
+{
+    match (one, other) {
+        (Some(one), Some(other)) => one == other,
+        (None, None) => true,
+        _ => false,
+    }
+}
+
+/// Returns whether the schemas are those for files with this configuration file and this schema.
+fn is_shared(shared: &Shared, named: &Named) -> bool
+    ensures { IsTrue result → spec.IsShared named.now shared.now }
+{
+    is_same(shared.source, named.source) && shared.schema.as_str() == named.schema.as_str()
+}
+
 impl FileSchemas {
     /// Returns a source of the schemas of `files`, which are named by files, by `options`, by the configuration files in
     /// `sources` or by the catalog in `options`. `are_mixed` says whether the files have several versions of TOML. Reads
@@ -129,7 +183,11 @@ impl FileSchemas {
 
     /// Returns what the configuration says of the file that reports call `name`, and whose content is `text`. The option
     /// `--schema`, and a directive in the file, come before a schema that the configuration names.
-    fn named(&mut self, alloc: Global, name: &str, text: &str) -> Result<Named, AllocError> {
+    fn named(&mut self, alloc: Global, name: &str, text: &str) -> Result<Named, AllocError>
+        ensures keeps { self.new ≡ record self.old { last = self.new.last } }
+        ensures named { IfOk result
+            (spec.IsNamed (slice_get self.new.files.items self.new.last) self.new.are_mixed) }
+    {
         self.last = self.position_of(name).unwrap_or(self.last);
         let Some(file) = self.files.get(self.last) else {
             return Ok(Named {
@@ -139,7 +197,6 @@ impl FileSchemas {
                 is_denied: false,
             });
         };
-        let settings = &file.found.settings;
         let schema = if !self.options.schema.is_empty() {
             Some(self.options.schema.clone()?)
         } else if directive_of(text).is_some() {
@@ -147,45 +204,50 @@ impl FileSchemas {
         } else {
             self.sources.schema_of(alloc, &file.found)?
         };
-        Ok(Named {
-            source: file.found.source,
-            schema: schema.unwrap_or(String::new(alloc)),
-            version: if self.are_mixed {
-                settings.toml.value
-            } else {
-                Version::Toml11
-            },
-            is_denied: settings.deny_warnings.value,
-        })
+        Ok(named_by(file, schema.unwrap_or(String::new(alloc)), self.are_mixed))
     }
 
-    /// Returns the options of the command line with the schema and the local copies that a configuration file names.
-    fn options_of(&self, alloc: Global, named: &Named) -> Result<Options, AllocError> {
-        let mut options = self.options.clone()?;
-        options.schema = named.schema.clone()?;
+    /// Appends the local copies that a configuration file names, if the schema for a file is from one.
+    fn push_copies(
+        &self,
+        alloc: Global,
+        named: &Named,
+        copies: &mut Vec<LocalCopy>,
+    ) -> Result<(), AllocError> {
         let source = match named.source {
             Some(at) => self.sources.list.get(at),
             None => None,
         };
         let Some(source) = source else {
-            return Ok(options);
+            return Ok(());
         };
         for copy in &source.config.copies {
-            options.copies.push(LocalCopy {
-                address: copy.address.clone()?,
-                path: source.shown_path(alloc, copy.path.as_str())?,
-            })?;
+            let path = source.shown_path(alloc, copy.path.as_str())?;
+            copies.push(copy_of(alloc, copy.address.as_str(), path.as_str())?)?;
         }
+        Ok(())
+    }
+
+    /// Returns the options of the command line with the schema and the local copies that a configuration file names.
+    fn options_of(&self, alloc: Global, named: &Named) -> Result<Options, AllocError>
+        ensures { IfOk result (λ options. string_bytes options.schema ≡ string_bytes named.now.schema) }
+    {
+        let mut options = self.options.clone()?;
+        options.schema = named.schema.clone()?;
+        self.push_copies(alloc, named, &mut options.copies)?;
         Ok(options)
     }
 
     /// Returns the position in `shared` of the schemas for a file, and appends them if they are not there.
     fn shared_at(&mut self, alloc: Global, named: &Named) -> Result<usize, AllocError>
-        ensures { IfOk result (λ at. at < length self.new.shared.items) }
+        ensures within { IfOk result (λ at. at < length self.new.shared.items) }
+        ensures same { IfOk result (λ at. IsSomeAnd (slice_get self.new.shared.items at) (spec.IsShared named.now)) }
     {
-        for (at, shared) in self.shared.as_slice().iter().enumerate() {
-            if shared.source == named.source && shared.schema.as_str() == named.schema.as_str() {
-                return Ok(at);
+        for at in 0..self.shared.len() {
+            if let Some(shared) = self.shared.get(at) {
+                if is_shared(shared, named) {
+                    return Ok(at);
+                }
             }
         }
         let at = self.shared.len();

@@ -1,8 +1,8 @@
 //! Reads the arguments of the command line, tests single ones, and separates options from other arguments.
-ghost use Rattle.std.specs.Prelude.{◌≡◌};
+ghost use Rattle.std.specs.Prelude.{◌≡◌, IfOk, OnOk, None, map, string_bytes};
 ghost use Rattle.toml_span_commands.specs.Words as spec;
 
-use crate::say::missing_value;
+use crate::say::{is_among, missing_value};
 use std::alloc::{AllocError, Global};
 use std::env::FillError;
 use std::rt::Env;
@@ -101,36 +101,89 @@ pub(crate) enum Argument<'w> {
     Other(&'w str),
 }
 
+/// Returns the text before the first `=` of an argument, and the text after it. Without `=`, the first is the whole
+/// argument, and the second is empty.
+fn parts(word: &str) -> (&str, &str)
+    ensures name { result.0.now ≡ spec.name_of word.now }
+    ensures value { result.1.now ≡ spec.value_in word.now }
+{
+    match word.split_once('=') {
+        Some(parts) => parts,
+        None => (word, ""),
+    }
+}
+
+/// The arguments of a command.
+#[derive(Drop)]
+pub(crate) struct Given<'w> {
+    pub(crate) list: Vec<Argument<'w>>,
+    /// An option whose value is the next argument.
+    waiting: Option<&'w str>,
+    /// Whether there was a `--`.
+    is_over: bool,
+}
+
+impl<'w> Given<'w> {
+    /// Reads one more argument. The options in `valued` have a value.
+    #[tactic(auto, unfolding(crate::specs::Words::with_word))]
+    fn read(&mut self, valued: &[&str], word: &'w str) -> Result<(), AllocError>
+        ensures { OnOk result (spec.state self.new
+            ≡ spec.with_word (map (λ v. v.now) valued.now) (spec.state self.old) word.entry.now) }
+    {
+        if let Some(option) = self.waiting.take() {
+            self.list.push(Argument::Valued(option, word))?;
+            return Ok(());
+        }
+        if self.is_over || !begins_with(word, b'-') || word == "-" {
+            self.list.push(Argument::Other(word))?;
+            return Ok(());
+        }
+        if word == "--" {
+            self.is_over = true;
+            return Ok(());
+        }
+        let (name, value) = parts(word);
+        if !is_among(name, valued) {
+            self.list.push(Argument::Flag(word))?;
+            return Ok(());
+        }
+        if name.len() < word.len() {
+            self.list.push(Argument::Valued(name, value))?;
+            return Ok(());
+        }
+        self.waiting = Some(name);
+        Ok(())
+    }
+
+    /// Fails with a message if the last argument is an option whose value is missing.
+    pub(crate) fn complete(&self, alloc: Global) -> Result<(), Stop<String>>
+        ensures { OnOk result (self.now.waiting ≡ None) }
+    {
+        match self.waiting {
+            Some(option) => Err(Stop::Fault(missing_value(alloc, option)?)),
+            None => Ok(()),
+        }
+    }
+}
+
 /// Splits `words`, the arguments of a command. An option in `valued` has a value: the text after `=`, or the next
-/// argument. `--` is left out, and no argument after it is an option. Fails with a message if the value of the last
-/// argument is missing.
+/// argument. `--` is left out, and no argument after it is an option. The value of the last argument may be missing
+/// (see `complete`).
 pub(crate) fn arguments_in<'w>(
     alloc: Global,
     words: &'w [String],
     valued: &[&str],
-) -> Result<Vec<Argument<'w>>, Stop<String>> {
-    let mut made = Vec::new(alloc);
-    let mut waiting = None;
-    let mut is_over = false;
+) -> Result<Given<'w>, AllocError>
+    ensures { IfOk result (λ given. spec.state given
+        ≡ spec.arguments_in (map (λ v. v.now) valued.now) (map (λ w. string_bytes w) words.entry.now)) }
+{
+    let mut given = Given {
+        list: Vec::new(alloc),
+        waiting: None,
+        is_over: false,
+    };
     for word in words {
-        let word = word.as_str();
-        let (name, value) = word.split_once('=').unwrap_or((word, ""));
-        if let Some(option) = waiting.take() {
-            made.push(Argument::Valued(option, word))?;
-        } else if is_over || word == "-" || !word.starts_with('-') {
-            made.push(Argument::Other(word))?;
-        } else if word == "--" {
-            is_over = true;
-        } else if !valued.contains(&name) {
-            made.push(Argument::Flag(word))?;
-        } else if name.len() < word.len() {
-            made.push(Argument::Valued(name, value))?;
-        } else {
-            waiting = Some(name);
-        }
+        given.read(valued, word.as_str())?;
     }
-    match waiting {
-        Some(option) => Err(Stop::Fault(missing_value(alloc, option)?)),
-        None => Ok(made),
-    }
+    Ok(given)
 }

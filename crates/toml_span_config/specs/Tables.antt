@@ -1,5 +1,5 @@
 -- The settings that the tables of a configuration file set.
-use Rattle.std.specs.Prelude.{ℕ, ◌+◌, List, [], ◌∷◌, map, Option, Some, None, String, Vec}
+use Rattle.std.specs.Prelude.{ℕ, ◌+◌, List, [], ◌∷◌, map, Option, Some, None, String, Vec, string_bytes}
 use Rattle.std.specs.Global.{Global}
 use Rattle.toml_span_check.specs.declared.newer.Version.{Version}
 use Rattle.toml_span_lex.specs.declared.spanned.Spanned.{Spanned}
@@ -49,6 +49,11 @@ abbrev pub schema_layer : Option (Spanned (String Global)) → ℕ → Layer
 schema_layer None at = empty
 schema_layer (Some path) at =
     record empty { schema = Some (record { value = at; origin = origins.File path.span }) }
+
+-- the path or URL of the schema that an entry names, as it is written; empty if it names none
+abbrev pub schema_text : Option (Spanned (String Global)) → List ℕ
+schema_text None = []
+schema_text (Some path) = string_bytes path.value
 
 -- the settings of the entry of `files` at this position
 abbrev pub entry_layer : FilesTable → ℕ → Layer

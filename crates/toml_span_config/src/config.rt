@@ -1,5 +1,6 @@
 //! Configurations, and the settings that they have for a file.
 ghost use Rattle.std.specs.Prelude.{◌≡◌, ◌<◌, ◌==◌, ◌&&◌, IfOk, length, map, slice_index, take, Some, true};
+ghost use Rattle.std.specs.Prelude.{string_bytes};
 ghost use Rattle.toml_span_check.specs.Patterns.{pattern, parts};
 ghost use Rattle.toml_span_config.specs.Config as spec;
 ghost use Rattle.toml_span_config.specs.Tables as tables;
@@ -113,7 +114,8 @@ fn schema_layer(schema: &Option<Spanned<String>>, at: usize) -> Layer
 
 /// Returns the entry at the position `at`.
 fn entry_of(alloc: Global, table: FilesTable, at: usize) -> Result<Entry, AllocError>
-    ensures { IfOk result (λ entry. spec.entry entry ≡ tables.entry_content table at) }
+    ensures content { IfOk result (λ entry. spec.entry entry ≡ tables.entry_content table at) }
+    ensures schema { IfOk result (λ entry. string_bytes entry.schema ≡ tables.schema_text table.schema) }
 {
     let FilesTable {
         globs,

@@ -1,5 +1,5 @@
 //! Finds and reads the configuration files of files.
-ghost use Rattle.std.specs.Prelude.{◌≡◌, IfOk, map, option_map};
+ghost use Rattle.std.specs.Prelude.{◌≡◌, IfOk, IfSome, map, option_map};
 ghost use Rattle.toml_span_config.specs.Sources as spec;
 
 use crate::config::Config;
@@ -144,7 +144,10 @@ impl Sources {
         search: Search<'_>,
         arguments: Layer,
         style: Style,
-    ) -> Result<Sources, Stop<String>> {
+    ) -> Result<Sources, Stop<String>>
+        ensures arguments { IfOk result (λ sources. sources.arguments ≡ arguments) }
+        ensures search { IfOk result (λ sources. spec.IsSearched search.entry sources.fixed) }
+    {
         let mut sources = Sources {
             style,
             base: current_folder(alloc, &host.rt)?,
@@ -166,7 +169,9 @@ impl Sources {
 
     /// Reads the configuration file at an absolute path, and appends it to the list. Returns its position. Fails with a
     /// message if the file can't be read or is wrong.
-    fn read(&mut self, alloc: Global, host: &mut Host, path: &str) -> Result<usize, Stop<String>> {
+    fn read(&mut self, alloc: Global, host: &mut Host, path: &str) -> Result<usize, Stop<String>>
+        ensures { self.new ≡ record self.old { list = self.new.list } }
+    {
         let folder = above(path).unwrap_or("");
         let front = front(alloc, self.base.as_str(), folder)?;
         let file = path.rsplit_once('/').map_or(path, |pair| pair.1);
@@ -203,7 +208,9 @@ impl Sources {
         alloc: Global,
         host: &mut Host,
         path: &str,
-    ) -> Result<usize, Stop<String>> {
+    ) -> Result<usize, Stop<String>>
+        ensures { self.new ≡ record self.old { list = self.new.list } }
+    {
         let folder = above(path).unwrap_or("");
         for (at, source) in self.list.as_slice().iter().enumerate() {
             if source.folder.as_str() == folder {
@@ -220,7 +227,10 @@ impl Sources {
         alloc: Global,
         host: &mut Host,
         folder: &str,
-    ) -> Result<Option<usize>, Stop<String>> {
+    ) -> Result<Option<usize>, Stop<String>>
+        ensures keeps { self.new ≡ record self.old { list = self.new.list; folders = self.new.folders } }
+        ensures fixed { IfOk result (λ at. IfSome self.old.fixed (λ fixed. at ≡ fixed)) }
+    {
         if let Some(fixed) = self.fixed {
             return Ok(fixed);
         }
@@ -243,7 +253,10 @@ impl Sources {
         alloc: Global,
         host: &mut Host,
         path: &str,
-    ) -> Result<Found, Stop<String>> {
+    ) -> Result<Found, Stop<String>>
+        ensures keeps { self.new ≡ record self.old { list = self.new.list; folders = self.new.folders } }
+        ensures settles { IfOk result (spec.Settles self.old self.new) }
+    {
         let path = absolute(alloc, self.base.as_str(), path)?;
         let path = path.as_str();
         let at = self.source_of(alloc, host, above(path).unwrap_or(""))?;

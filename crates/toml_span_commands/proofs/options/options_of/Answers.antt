@@ -1,4 +1,4 @@
-use Rattle.toml_span_lex.proofs.Common.{◌≡◌, ◌∙◌, ap, refl, sym, subst, inl, inr, ℕ, Bool, true, List, [], ◌∷◌, map, Result, Err, Option, err_from_is_err_and, unwrap_or, arith, nat_tests, common_steps}
+use Rattle.toml_span_lex.proofs.Common.{◌≡◌, ◌∙◌, ap, refl, sym, subst, inl, inr, ℕ, Bool, not, true, List, [], ◌∷◌, map, Result, Err, Option, err_from_is_err_and, unwrap_or, arith, nat_tests, common_steps}
 use Rattle.clap.specs.Kinds.{HasKind, Kinds, or_else}
 use Rattle.clap.specs.Values as clap
 use Rattle.clap.specs.Words.{App, HasMatchesOf, Row, all_of, fault_of, found_of, is_simple, is_simple_and_free, matches_of, rows_of}
@@ -6,9 +6,10 @@ use Rattle.clap.specs.declared.error.Error.{Error}
 use Rattle.clap.specs.declared.parser.matches.ArgMatches.{ArgMatches}
 use Rattle.toml_span_check.specs.declared.answer.Task.{Task}
 use Rattle.toml_span_check.specs.declared.formats.Format.{Format}
-use Rattle.toml_span_commands.specs.Options.{asked, check, coloured, common, configured, faults, fixing, fixing_of, forms, get, is_given, kind_of, names_of, options, path_of, program, refusals, schemas}
+use Rattle.toml_span_commands.specs.Options.{Sets, asked, check, coloured, common, configured, faults, fixing, fixing_of, forms, get, is_given, kind_of, names_of, options, path_of, program, refusals, schemas}
 use Rattle.toml_span_commands.specs.declared.colours.Screen.{Screen}
 use Rattle.toml_span_commands.specs.declared.options.Mistake.{Mistake}
+use Rattle.toml_span_commands.specs.declared.options.Options.{Options}
 use Rattle.toml_span_commands.specs.declared.options.Query.{Query}
 use Rattle.toml_span_commands.specs.declared.options.Query.TheVariants as queries
 use Rattle.toml_span_commands.proofs.Rows.{all-row, or-none}
@@ -29,6 +30,10 @@ rows : (query : Query) (app : App) (words : List (List ℕ)) (m : ArgMatches) �
     rows_of (found_of m) ≡ options query words
 unfolding options
 rows query app words m is has = (has (ap is_simple is ∙ is-simple query)).0 ∙ ap (λ a. matches_of a words) is
+
+-- what the rows set, the words set
+sets : (rs other : List Row) (o : Options) → rs ≡ other → Sets rs o → Sets other o
+sets rs other o is h = subst (λ (r : List Row). Sets r o) is h
 
 -- clap refuses only because of the words
 refused : (query : Query) (app : App) (words : List (List ℕ)) (e : Error) → app ≡ program query →
@@ -80,10 +85,24 @@ returns-in-Ok-clause-ok c =
       fixes = c.fixing_of.ensures ∙ ap fixing_of these;
     }
 
-pub returns-in-Ok-clause-denies : goal.returns-in-Ok-clause-denies
-returns-in-Ok-clause-denies c =
+pub returns-in-Ok-clause-sets : goal.returns-in-Ok-clause-sets
+returns-in-Ok-clause-sets c =
     let these = rows _ _ _ c.in_ok-matches.matches c.in_ok-command.ensures c.in_ok-matches.ensures.ok.2 in
-    c.is_given-in-Ok-4.ensures ∙ ap (λ rs. is_given rs (100 ∷ 101 ∷ 110 ∷ 121 ∷ 45 ∷ 119 ∷ 97 ∷ 114 ∷ 110 ∷ 105 ∷ 110 ∷ 103 ∷ 115 ∷ [])) these
+    sets _ _ _ these (record {
+      stdin_name = c.value_of.ensures;
+      writing = c.writing_of.ensures;
+      schema = c.value_of-in-Ok.ensures;
+      catalog = c.value_of-in-Ok-2.ensures;
+      maps =
+          ap (map (λ name. name.now)) (c.in_ok-from_slice-in-Ok-2.ensures.items ∙ ap (λ s. s.now) c.unwrap_or-in-Ok.ensures)
+          ∙ or-none c.get_strs-in-Ok.result _ refl
+          ∙ ap (λ (o : Option (List (List ℕ))). unwrap_or o []) (c.get_strs-in-Ok.ensures ∙ all-row c.in_ok-matches.matches _);
+      formats = ap not c.is_given-in-Ok.ensures;
+      config = c.value_of-in-Ok-3.ensures;
+      no_config = c.is_given-in-Ok-2.ensures;
+      exclusion = c.is_given-in-Ok-3.ensures;
+      warnings = c.is_given-in-Ok-4.ensures;
+    })
 
 pub returns-in-Ok-clause-fails : goal.returns-in-Ok-clause-fails
 returns-in-Ok-clause-fails c =
