@@ -9,3 +9,4 @@ pub mod Laws
 pub mod Partial
 pub mod Positions
 pub mod Renaming
+pub mod Repairs
