@@ -4,8 +4,10 @@ pub mod Diagnostics
 pub mod Documents
 pub mod Edits
 pub mod Formatting
+pub mod Keys
 pub mod Labels
 pub mod Laws
+pub mod Missing
 pub mod Partial
 pub mod Positions
 pub mod Renaming

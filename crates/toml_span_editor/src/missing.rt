@@ -1,4 +1,11 @@
 //! Inserts keys that a schema requires.
+ghost use Rattle.std.specs.Prelude.{IfOk, IfSome, OnOk, map, string_bytes};
+ghost use Rattle.std.specs.List.{All};
+ghost use Rattle.toml_span_editor.specs.Edits.{edit_content};
+ghost use Rattle.toml_span_editor.specs.Missing as spec;
+ghost use Rattle.toml_span_tree.specs.Nodes.{step_of};
+ghost use Rattle.toml_span_tree.specs.Value.{view};
+
 use crate::document::Document;
 use crate::edits::{Edit, differences};
 use crate::keys::{has_key, value_of};
@@ -44,7 +51,10 @@ fn added<'x>(
     text: &str,
     path: &'x [&'x str],
     value: &'x str,
-) -> Result<Option<String>, AllocError> {
+) -> Result<Option<String>, AllocError>
+    ensures { IfOk result (λ made. IfSome made
+        (λ new. spec.Adds value.now (map (λ s. s.now) path.now) text.now (string_bytes new))) }
+{
     let mut edits = Edits::new(alloc, text);
     let change = Change::SetOrAdd(value);
     edits.push(KeyEdit { path, change })?;
@@ -62,7 +72,10 @@ fn edits_for<'d>(
     path: &[Step<'d>],
     name: &'d str,
     value: &str,
-) -> Result<Option<Vec<Edit>>, AllocError> {
+) -> Result<Option<Vec<Edit>>, AllocError>
+    ensures { IfOk result (λ made. IfSome made (λ edits. spec.AddsBy value.now
+        (spec.segments_to (map step_of path.now) name.now) text.now (map edit_content edits.items))) }
+{
     let mut segments = segments_of(alloc, path)?;
     segments.push(CowStr::Borrowed(name))?;
     let names = segment_names(alloc, segments.as_slice())?;
@@ -81,7 +94,10 @@ fn push_insertions(
     path: &[Step<'_>],
     place: Span,
     found: &mut Vec<Insertion>,
-) -> Result<(), AllocError> {
+) -> Result<(), AllocError>
+    ensures { All (spec.IsInsertion document.now.text.now (view document.now.root)) found.old.items
+        → OnOk result (All (spec.IsInsertion document.now.text.now (view document.now.root)) found.new.items) }
+{
     let table = subschemas_at(alloc, guide, &document.root, path)?;
     let value = value_of(&document.root, path);
     for name in guide.keys_of(alloc, &table)? {
@@ -111,7 +127,10 @@ pub fn insertions(
     guide: &Guide,
     document: &Document<'_>,
     span: Span,
-) -> Result<Vec<Insertion>, AllocError> {
+) -> Result<Vec<Insertion>, AllocError>
+    ensures { IfOk result (λ found. All (spec.IsInsertion document.now.text.now (view document.now.root))
+        found.items) }
+{
     let mut found = Vec::new(alloc);
     for node in nodes(alloc, &document.root)? {
         let place = if node.path.is_empty() {
