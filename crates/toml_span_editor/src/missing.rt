@@ -1,5 +1,6 @@
 //! Inserts keys that a schema requires.
-ghost use Rattle.std.specs.Prelude.{IfOk, IfSome, OnOk, map, string_bytes};
+ghost use Rattle.std.specs.Prelude.{◌≡◌, IfOk, IfSome, OnOk, map, string_bytes};
+ghost use Rattle.std.specs.Cow.{cow_str_bytes};
 ghost use Rattle.std.specs.List.{All};
 ghost use Rattle.toml_span_editor.specs.Edits.{edit_content};
 ghost use Rattle.toml_span_editor.specs.Missing as spec;
@@ -65,6 +66,20 @@ fn added<'x>(
     }
 }
 
+/// Returns the segments of the path of the key `name` in the table at `path`.
+fn segments_to<'d>(
+    alloc: Global,
+    path: &[Step<'d>],
+    name: &'d str,
+) -> Result<Vec<CowStr<'d>>, AllocError>
+    ensures { IfOk result (λ segments. map cow_str_bytes segments.items
+        ≡ spec.segments_to (map step_of path.now) name.now) }
+{
+    let mut segments = segments_of(alloc, path)?;
+    segments.push(CowStr::Borrowed(name))?;
+    Ok(segments)
+}
+
 /// Returns edits that add the key `name` with this value to the table at `path`. Returns `None` if it can't be added.
 fn edits_for<'d>(
     alloc: Global,
@@ -76,13 +91,13 @@ fn edits_for<'d>(
     ensures { IfOk result (λ made. IfSome made (λ edits. spec.AddsBy value.now
         (spec.segments_to (map step_of path.now) name.now) text.now (map edit_content edits.items))) }
 {
-    let mut segments = segments_of(alloc, path)?;
-    segments.push(CowStr::Borrowed(name))?;
+    let segments = segments_to(alloc, path, name)?;
     let names = segment_names(alloc, segments.as_slice())?;
-    match added(alloc, text, names.as_slice(), value)? {
-        Some(new) => Ok(Some(differences(alloc, text, new.as_str())?)),
-        None => Ok(None),
-    }
+    let Some(new) = added(alloc, text, names.as_slice(), value)? else {
+        return Ok(None);
+    };
+    let edits = differences(alloc, text, new.as_str())?;
+    Ok(Some(edits))
 }
 
 /// Appends an insertion for each key that `guide` requires in the table at `path`, and that is missing there. `place`
