@@ -147,6 +147,7 @@ pub fn definition(
 }
 
 /// Returns whether `value` is a table with the key `name`. Returns `false` for `None`.
+#[tactic(auto, using(crate::proofs::KeyLemmas::is_some_map))]
 pub(crate) fn has_key(value: Option<&Value<'_>>, name: &str) -> bool
     ensures { result ≡ is_some (option_and_then (tree.child (tree.key name.now))
         (option_map (λ v. view v.now) value.entry)) }
@@ -166,6 +167,7 @@ fn element<'v, 'de>(array: &'v Array<'de>, at: usize) -> Option<&'v Value<'de>>
 
 /// Returns the value that `step` names in the table or array `value`: the value of an entry, or an element. Returns
 /// `None` if there is no such entry or element.
+#[tactic(auto, using(crate::proofs::KeyLemmas::child_key, crate::proofs::KeyLemmas::child_position))]
 pub(crate) fn child<'v, 'de>(value: &'v Value<'de>, step: Step<'_>) -> Option<&'v Value<'de>>
     ensures { option_map (λ v. view v.now) result ≡ tree.child (step_of step.entry) (view value.now) }
 {
@@ -176,6 +178,7 @@ pub(crate) fn child<'v, 'de>(value: &'v Value<'de>, step: Step<'_>) -> Option<&'
 }
 
 /// Returns the value at a path, or `None` if it does not exist.
+#[tactic(auto, using(crate::proofs::KeyLemmas::node_at_step))]
 pub(crate) fn value_of<'v, 'de>(root: &'v Value<'de>, path: &[Step<'_>]) -> Option<&'v Value<'de>>
     ensures { option_map (λ v. view v.now) result ≡ tree.node_at (map step_of path.now) (view root.now) }
 {
