@@ -1,10 +1,11 @@
 //! Reads messages from the client (JSON-RPC 2.0).
-ghost use Rattle.std.specs.Prelude.{◌≡◌, None, Ok, Some, codes};
+ghost use Rattle.std.specs.Prelude.{◌≡◌, IfSome, None, Ok, Some, codes};
 ghost use Rattle.json.specs.Find.{get};
 ghost use Rattle.json.specs.Token.{Token};
 ghost use Rattle.json.specs.Value.{value_view};
 ghost use Rattle.toml_span_lsp.specs.Messages as spec;
 ghost use Rattle.toml_span_lsp.specs.Messages.{HasId, IsNotification, IsRequest};
+ghost use Rattle.toml_span_lsp.specs.Params as params;
 ghost use Rattle.toml_span_lsp.specs.Phases.{IsReadAs};
 
 use json::Value;
@@ -98,13 +99,18 @@ pub(crate) fn text_in<'v>(value: &'v Value<'_>, names: &[&str]) -> Option<&'v st
 }
 
 /// Returns the number in the member `name`, or `None` if the member is missing or not an integer of at least 0.
-fn count_in(value: &Value<'_>, name: &str) -> Option<usize> {
+#[tactic(auto, using(crate::proofs::Params::count_is))]
+fn count_in(value: &Value<'_>, name: &str) -> Option<usize>
+    ensures { IfSome result (params.HasCount name.now (value_view value.now)) }
+{
     let count = value.get(name)?.as_u64()?;
     usize::try_from(count).ok()
 }
 
 /// Reads a JSON value as a position. Returns `None` if `line` or `character` is missing or not valid.
-pub(crate) fn position_of(value: &Value<'_>) -> Option<Position> {
+pub(crate) fn position_of(value: &Value<'_>) -> Option<Position>
+    ensures { IfSome result (params.IsPosition (value_view value.now)) }
+{
     Some(Position {
         line: count_in(value, "line")?,
         character: count_in(value, "character")?,
@@ -112,7 +118,9 @@ pub(crate) fn position_of(value: &Value<'_>) -> Option<Position> {
 }
 
 /// Reads a JSON value as a range. Returns `None` if `start` or `end` is missing or not valid.
-pub(crate) fn range_of(value: &Value<'_>) -> Option<Range> {
+pub(crate) fn range_of(value: &Value<'_>) -> Option<Range>
+    ensures { IfSome result (params.IsRange (value_view value.now)) }
+{
     Some(Range {
         start: position_of(value.get("start")?)?,
         end: position_of(value.get("end")?)?,
