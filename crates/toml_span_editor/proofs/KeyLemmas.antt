@@ -1,8 +1,7 @@
 -- Values at steps.
-use Rattle.toml_span_lex.proofs.Common.{◌≡◌, ℕ, List, ◌∷◌, Bool, Option, Some, None, is_some, option_map, option_and_then, refl}
+use Rattle.toml_span_lex.proofs.Common.{◌≡◌, ℕ, List, Bool, Option, Some, None, is_some, option_map, option_and_then, refl}
 use Rattle.toml_span_tree.specs.Node.{Node, node, get_item, get_member, taken, scalar, array, table}
-use Rattle.toml_span_tree.proofs.Pointers.{node_at-more}
-use Rattle.toml_span_tree.specs.Path.{Path, Step, child, key, node_at, position}
+use Rattle.toml_span_tree.specs.Path.{child, key, position}
 use Rattle.toml_span_tree.specs.Value.{inner_of, items_in, members_in}
 
 -- the entry with a name
@@ -18,10 +17,6 @@ child_position at (node taken span) = refl
 child_position at (node (scalar s) span) = refl
 child_position at (node (array ns) span) = refl
 child_position at (node (table ms) span) = refl
-
--- the value at a path, one step at a time
-pub node_at_step : (s : Step) (path : Path) (n : Node) → node_at (s ∷ path) n ≡ option_and_then (node_at path) (child s n)
-node_at_step s path n = node_at-more s path n
 
 pub is_some_map : {A B : Type 0} (f : A → B) (o : Option A) → is_some (option_map f o) ≡ is_some o
 is_some_map f None = refl

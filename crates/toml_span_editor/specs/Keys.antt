@@ -1,5 +1,5 @@
--- Keys: the places where they are written.
-use Rattle.std.specs.Prelude.{ℕ, Bool, true, false, List, [], ◌∷◌, Option, Some, None, if◌then◌else◌}
+-- Keys: the places where they are written, and the values to which they lead.
+use Rattle.std.specs.Prelude.{ℕ, Bool, true, false, List, [], ◌∷◌, Option, Some, None, if◌then◌else◌, option_and_then}
 use Rattle.toml_span_editor.specs.Renaming.{key_at}
 use Rattle.toml_span_editor.specs.declared.keys.Mention.{Mention}
 use Rattle.toml_span_lex.specs.declared.span.Span.{Span}
@@ -7,7 +7,8 @@ use Rattle.toml_span_places.specs.Keys.{KeyMention}
 use Rattle.toml_span_places.specs.declared.keys.Role.{Role}
 use Rattle.toml_span_places.specs.declared.keys.Role.TheVariants as roles
 use Rattle.toml_span_read.specs.Paths.{same_path}
-use Rattle.toml_span_tree.specs.Path.{Path}
+use Rattle.toml_span_tree.specs.Node.{Node}
+use Rattle.toml_span_tree.specs.Path.{Path, child}
 
 -- whether a part with this role is the last part of a header, or of the key of an assignment
 abbrev pub is_last : Role → Bool
@@ -45,3 +46,8 @@ first_span (mention ∷ mentions) = Some mention.span
 -- the span of the first definition or, without one, of the first place
 abbrev pub definition_of : List Mention → Option Span
 definition_of mentions = definition_or (first_span mentions) mentions
+
+-- the value at a path, one step at a time
+abbrev pub value_at : Path → Node → Option Node
+value_at [] n = Some n
+value_at (step ∷ path) n = option_and_then (value_at path) (child step n)

@@ -5,11 +5,12 @@ use Rattle.toml_span_edit.specs.declared.edits.Change.{Change}
 use Rattle.toml_span_edit.specs.declared.edits.Change.TheVariants as changes
 use Rattle.toml_span_edit.specs.declared.edits.Edit.{Edit}
 use Rattle.toml_span_editor.specs.Edits.{ChangesInto, edit_content}
+use Rattle.toml_span_editor.specs.Keys.{value_at}
 use Rattle.toml_span_editor.specs.Renaming.{segment_of}
 use Rattle.toml_span_editor.specs.declared.missing.Insertion.{Insertion}
 use Rattle.toml_span_lex.specs.declared.span.Span.{Span}
 use Rattle.toml_span_tree.specs.Node.{Node}
-use Rattle.toml_span_tree.specs.Path.{Path, child, key, node_at}
+use Rattle.toml_span_tree.specs.Path.{Path, child, key}
 
 -- The change sets a value to `value`, or adds it if it is missing.
 abbrev pub SetsOrAdds : List ℕ → Change → Type 0
@@ -32,7 +33,7 @@ segments_to path name = map segment_of path ++ name ∷ []
 
 -- whether the tree has a table with the key `name` at `path`
 abbrev pub has_key : Path → List ℕ → Node → Bool
-has_key path name root = is_some (option_and_then (child (key name)) (node_at path root))
+has_key path name root = is_some (option_and_then (child (key name)) (value_at path root))
 
 -- The insertion adds a key that is missing in a table of `text`, whose tree is `root`.
 abbrev pub IsInsertion : List ℕ → Node → Insertion → Type 0

@@ -178,9 +178,8 @@ pub(crate) fn child<'v, 'de>(value: &'v Value<'de>, step: Step<'_>) -> Option<&'
 }
 
 /// Returns the value at a path, or `None` if it does not exist.
-#[tactic(auto, using(crate::proofs::KeyLemmas::node_at_step))]
 pub(crate) fn value_of<'v, 'de>(root: &'v Value<'de>, path: &[Step<'_>]) -> Option<&'v Value<'de>>
-    ensures { option_map (λ v. view v.now) result ≡ tree.node_at (map step_of path.now) (view root.now) }
+    ensures { option_map (λ v. view v.now) result ≡ places.value_at (map step_of path.now) (view root.now) }
 {
     let [step, rest @ ..] = path else {
         return Some(root);
