@@ -5,5 +5,6 @@ pub mod Methods
 pub mod Params
 pub mod Phases
 pub mod Served
+pub mod Settings
 pub mod Shown
 pub mod Sync

@@ -1,5 +1,5 @@
 -- Positions and ranges in the parameters of requests (LSP 3.17: Position, Range).
-use Rattle.std.specs.Prelude.{◌≡◌, ℕ, List, Some, codes, max, min}
+use Rattle.std.specs.Prelude.{◌≡◌, ℕ, List, [], ◌∷◌, Option, Some, codes, max, min, option_and_then}
 use Rattle.std.specs.Str.Parse.{IsNumeral, digits_value, without_leading_plus}
 use Rattle.json.specs.Find.{get}
 use Rattle.json.specs.Json.{Json}
@@ -9,6 +9,11 @@ use Rattle.toml_span_editor.specs.declared.positions.Encoding.{Encoding}
 use Rattle.toml_span_editor.specs.declared.positions.Position.{Position}
 use Rattle.toml_span_editor.specs.declared.positions.Range.{Range}
 use Rattle.toml_span_lex.specs.declared.span.Span.{Span}
+
+-- the member at a path of names in nested objects
+abbrev pub member_at : List (List ℕ) → Json → Option Json
+member_at [] value = Some value
+member_at (name ∷ names) value = option_and_then (member_at names) (get name value)
 
 -- The value is the integer `n`.
 abbrev pub IsCount : Json → ℕ → Type 0

@@ -20,11 +20,14 @@ abbrev pub first_line : Range → Range
 first_line range =
     record { start = range.start; end = record { line = min (range.start.line + 1) (2 ^ 64 - 1); character = 0 } }
 
--- the range that is marked: of several lines, only the first one if a schema caused the diagnostic
+-- whether a schema caused the diagnostic with this code and range, and the range has several lines
+abbrev pub is_about_lines : List ℕ → Range → Bool
+is_about_lines code range = nat_lt range.start.line range.end.line && starts_with nat_eq code (codes "schema")
+
+-- the range that is marked: only the first line if a schema caused the diagnostic and there are several
 abbrev pub shown_range : List ℕ → Range → Range
 shown_range code range =
-    if nat_lt range.start.line range.end.line && starts_with nat_eq code (codes "schema") then first_line range
-    else range
+    if is_about_lines code range then first_line range else range
 
 -- a severity if warnings are errors
 abbrev pub deny : Severity → Severity

@@ -50,20 +50,29 @@ fn write_deprecated(out: &mut Json) {
     out.end_array();
 }
 
+/// Returns whether a schema caused the diagnostic with this range and code, and the range has several lines.
+fn is_about_lines(range: Range, code: &str) -> bool
+    ensures { result ≡ spec.is_about_lines code.now range }
+{
+    range.start.line < range.end.line && code.starts_with("schema")
+}
+
 /// Returns the range to mark for a diagnostic. If a schema caused the diagnostic and its range has several lines, as
 /// for a missing key, returns only the first line of the range.
 fn shown_range(diagnostic: &Diagnostic) -> Range
     ensures { result ≡ spec.shown_range (string_bytes diagnostic.now.code) diagnostic.now.range }
 {
-    let Range { start, end } = diagnostic.range;
-    if start.line < end.line && diagnostic.code.as_str().starts_with("schema") {
-        let end = Position {
-            line: start.line.saturating_add(1),
-            character: 0,
-        };
-        return Range { start, end };
+    let range = diagnostic.range;
+    if !is_about_lines(range, diagnostic.code.as_str()) {
+        return range;
     }
-    Range { start, end }
+    Range {
+        start: range.start,
+        end: Position {
+            line: range.start.line.saturating_add(1),
+            character: 0,
+        },
+    }
 }
 
 /// Writes a diagnostic of the document `uri`, without what the client does not support.
@@ -195,12 +204,22 @@ fn deny(severity: Severity) -> Severity
 }
 
 /// Turns warnings into errors.
+#[tactic(auto, using(crate::proofs::Lists::set_one))]
 fn deny_warnings(diagnostics: &mut Vec<Diagnostic>)
     ensures { diagnostics.new.items ≡ map spec.denied diagnostics.old.items }
 {
     for index in 0..diagnostics.len() {
         let severity = diagnostics[index].severity;
         diagnostics[index].severity = deny(severity);
+    }
+}
+
+/// Turns warnings into errors if `denies` is set.
+fn deny_if(denies: bool, diagnostics: &mut Vec<Diagnostic>)
+    ensures { diagnostics.new.items ≡ spec.denied_if denies diagnostics.old.items }
+{
+    if denies {
+        deny_warnings(diagnostics);
     }
 }
 
@@ -230,9 +249,7 @@ fn shown(
         complaint,
     } = diagnosed(alloc, encoding, document.settings, document, lookup)?;
     push_schema_fault(alloc, encoding, document, &mut diagnostics)?;
-    if denies_warnings(document.settings) {
-        deny_warnings(&mut diagnostics);
-    }
+    deny_if(denies_warnings(document.settings), &mut diagnostics);
     let found = Findings {
         diagnostics,
         reports,
