@@ -106,8 +106,8 @@ pub fn mentions(
     document: &Document<'_>,
     at: usize,
 ) -> Result<Vec<Mention>, AllocError>
-    ensures { IfOk result (λ found. found.items
-        ≡ places.mentions_at at (document_keys document.now.text.now (map parsed_section document.now.sections.items))) }
+    ensures { IfOk result (λ found. found.items ≡ places.mentions_at at
+        (document_keys document.now.text.now (map parsed_section document.now.sections.items))) }
 {
     let keys = key_places(alloc, document.text, document.sections.as_slice())?;
     match key_at(keys.as_slice(), at) {

@@ -1,6 +1,6 @@
 -- Diagnostics as the client shows them.
-use Rattle.std.specs.Prelude.{◌≡◌, ◌≤◌, ℕ, ◌+◌, ◌-◌, ◌^◌, ◌&&◌, min, nat_eq, nat_lt, Bool, List, ◌++◌, codes, length, map}
-use Rattle.std.specs.Prelude.{if◌then◌else◌}
+use Rattle.std.specs.Prelude.{◌≡◌, ◌≤◌, ℕ, ◌+◌, ◌-◌, ◌^◌, ◌&&◌, min, nat_eq, nat_lt, Bool, List, ◌++◌, codes, length}
+use Rattle.std.specs.Prelude.{if◌then◌else◌, map}
 use Rattle.std.specs.List.{starts_with}
 use Rattle.toml_span_editor.specs.declared.diagnostics.Diagnosed.{Diagnosed}
 use Rattle.toml_span_editor.specs.declared.diagnostics.Diagnostic.{Diagnostic}
