@@ -422,7 +422,10 @@ pub fn repairs(
     table: &PositionTable<'_>,
     reports: &[Report],
     span: Span,
-) -> Result<Vec<Repair>, AllocError> {
+) -> Result<Vec<Repair>, AllocError>
+    ensures { IfOk result (λ found. repairs.AreRepairs table.now.encoding table.now.text.now
+        (map report_content reports.now) found.items) }
+{
     let mut found = Vec::new(alloc);
     for report in reports {
         let place = main_span(report.labels.as_slice());

@@ -262,8 +262,7 @@ fn take_text<D: Disk>(
     }
 }
 
-/// Carries out the message in `content`, which is not JSON, as if it had no lone surrogates. Otherwise, does the same as
-/// `take_text`.
+/// Carries out the message in `content`, which is not JSON, as `take_text` does, as if it had no lone surrogates.
 fn take_repaired<D: Disk>(
     alloc: Global,
     server: &mut Server,
