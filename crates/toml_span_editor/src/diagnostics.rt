@@ -7,7 +7,7 @@ ghost use Rattle.toml_span_report.specs.Report.{report_content};
 ghost use Rattle.toml_span_tree.specs.Value.{view};
 ghost use Rattle.toml_span_editor.specs.Diagnostics as spec;
 ghost use Rattle.toml_span_editor.specs.Edits.{edit_content};
-ghost use Rattle.toml_span_editor.specs.Repairs as repairs;
+ghost use Rattle.toml_span_editor.specs.Repairs as mending;
 
 use crate::document::Document;
 use crate::duplicates::without_duplicate;
@@ -327,7 +327,7 @@ pub fn diagnostics_without_schema(
 /// Converts replacements to edits.
 fn edits_of(alloc: Global, replacements: &[Replacement]) -> Result<Vec<Edit>, AllocError>
     ensures { IfOk result (λ edits. map edit_content edits.items
-        ≡ map repairs.replacement_edit (map plain.repair_of replacements.now)) }
+        ≡ map mending.replacement_edit (map plain.repair_of replacements.now)) }
 {
     let mut edits = Vec::new(alloc);
     for replacement in replacements {
@@ -353,7 +353,7 @@ fn title_of(alloc: Global, help: &str) -> Result<String, AllocError> {
 /// Returns the edits that repair a report, or `None` if there are none. For a duplicate key, they are those of
 /// `without_duplicate`. For another report, they make the replacements of the report, if these fit the text.
 fn repairing(alloc: Global, text: &str, report: &Report) -> Result<Option<Vec<Edit>>, AllocError>
-    ensures { IfOk result (λ found. repairs.Mends text.now (report_content report.now)
+    ensures { IfOk result (λ found. mending.Mends text.now (report_content report.now)
         (option_map (λ edits. map edit_content edits.items) found)) }
 {
     if report.code.as_str() == DUPLICATE_KEY {
@@ -400,7 +400,7 @@ fn repair_of(
     report: &Report,
 ) -> Result<Option<Repair>, AllocError>
     ensures { IfOk result (λ found. IfSome found
-        (repairs.IsRepair table.now.encoding table.now.text.now (report_content report.now))) }
+        (mending.IsRepair table.now.encoding table.now.text.now (report_content report.now))) }
 {
     let Some(edits) = repairing(alloc, table.text, report)? else {
         return Ok(None);
@@ -423,7 +423,7 @@ pub fn repairs(
     reports: &[Report],
     span: Span,
 ) -> Result<Vec<Repair>, AllocError>
-    ensures { IfOk result (λ found. repairs.AreRepairs table.now.encoding table.now.text.now
+    ensures { IfOk result (λ found. mending.AreRepairs table.now.encoding table.now.text.now
         (map report_content reports.now) found.items) }
 {
     let mut found = Vec::new(alloc);
