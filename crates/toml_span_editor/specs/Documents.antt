@@ -30,6 +30,10 @@ HasErrorAt text (Some at) =
 
 -- ---- the statements of a text
 
+-- The pieces and the statements are those of the text.
+abbrev pub IsSplit : List ℕ → List Piece → List Statement → Type 0
+IsSplit text pieces ss = Covers text 0 pieces (length text) × Splits pieces 0 ss (length pieces)
+
 -- The part is this statement. It is kept if and only if it is valid TOML by itself.
 pub record IsPart (text : List ℕ) (pieces : List Piece) (s : Statement) (part : Part) : Type 0 where
   pub span : part.span ≡ lines_of text pieces s

@@ -1,11 +1,16 @@
 pub mod Changes
+pub mod Completions
 pub mod Conversions
 pub mod Diagnostics
 pub mod Documents
 pub mod Edits
 pub mod Formatting
+pub mod Hovers
+pub mod Keys
 pub mod Labels
 pub mod Laws
+pub mod Missing
 pub mod Partial
 pub mod Positions
 pub mod Renaming
+pub mod Repairs

@@ -29,6 +29,10 @@ abbrev pub path_at : ℕ → List ℕ → List ParsedSection → Option (List (L
 path_at at text sections =
     option_map (λ mention. map segment_of mention.path) (key_at at (document_keys text sections))
 
+-- the span of that key with its quotes
+abbrev pub span_at : ℕ → List ℕ → List ParsedSection → Option Span
+span_at at text sections = option_map (λ mention. mention.whole) (key_at at (document_keys text sections))
+
 -- The change renames a key to `name`.
 abbrev pub IsRenameTo : List ℕ → Change → Type 0
 IsRenameTo name (changes.Rename new) = new.now ≡ name

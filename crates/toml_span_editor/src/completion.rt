@@ -1,4 +1,7 @@
 //! Suggests what can be written at an offset.
+ghost use Rattle.std.specs.Prelude.{◌≡◌, ◌≤◌, IfOk, IfSome, false, length};
+ghost use Rattle.toml_span_editor.specs.Completions.{Replace};
+
 use crate::context::{Context, ExpectedText, NamedStep, context_at};
 use crate::document::{Document, read};
 use crate::keys::value_of;
@@ -107,7 +110,9 @@ pub(crate) fn narrowed<'n>(
     alloc: Global,
     labels: Vec<&'n str>,
     site: Site<'_>,
-) -> Result<(Vec<&'n str>, bool), AllocError> {
+) -> Result<(Vec<&'n str>, bool), AllocError>
+    ensures { length labels.entry.items ≤ 500 → IfOk result (λ kept. kept ≡ (labels.entry, false)) }
+{
     if labels.len() <= MOST {
         return Ok((labels, false));
     }
@@ -263,7 +268,9 @@ fn guided(
     guide: &Guide,
     outer: Outer<'_, '_, '_, '_>,
     site: Site<'_>,
-) -> Result<Option<Completion>, AllocError> {
+) -> Result<Option<Completion>, AllocError>
+    ensures { IfOk result (λ found. IfSome found (λ made. Replace site.entry.typed made.suggestions.items)) }
+{
     let found = subschemas_at(alloc, guide, &outer.document.root, outer.steps)?;
     if site.expected == ExpectedText::Value {
         return value_suggestions(alloc, guide, &found, site);
@@ -306,7 +313,9 @@ fn completed(
     guide: Option<&Guide>,
     outer: Outer<'_, '_, '_, '_>,
     site: Site<'_>,
-) -> Result<Completion, AllocError> {
+) -> Result<Completion, AllocError>
+    ensures { IfOk result (λ made. Replace site.entry.typed made.suggestions.items) }
+{
     if let Some(known) = guide {
         if let Some(made) = guided(alloc, known, outer, site)? {
             return Ok(made);
@@ -330,7 +339,9 @@ fn completion_in<'p>(
     document: &'p Document<'_>,
     context: &'p Context<'_>,
     site: Site<'_>,
-) -> Result<Completion, AllocError> {
+) -> Result<Completion, AllocError>
+    ensures { IfOk result (λ made. Replace site.entry.typed made.suggestions.items) }
+{
     let tables = tables_of(alloc, &*document, site.expected)?;
     let steps = steps_of(alloc, &*document, tables.as_slice(), site.at, &*context)?;
     let outer = outer_of(
@@ -352,7 +363,9 @@ fn open_siblings(
     alloc: Global,
     context: &Context<'_>,
     site: Site<'_>,
-) -> Result<Completion, AllocError> {
+) -> Result<Completion, AllocError>
+    ensures { IfOk result (λ made. Replace site.entry.typed made.suggestions.items) }
+{
     let mut made = nothing(alloc);
     let Some(document) = read(alloc, context.front.as_str())? else {
         return Ok(made);

@@ -1,10 +1,13 @@
 //! Finds the diagnostics of a text, and repairs for them.
-ghost use Rattle.std.specs.Prelude.{◌≡◌, IfOk, OnOk, fold, map, string_bytes};
+ghost use Rattle.std.specs.Prelude.{◌≡◌, IfOk, IfSome, OnOk, fold, map, option_map, string_bytes};
+ghost use Rattle.toml_span_check.specs.Safety as safety;
 ghost use Rattle.toml_span_tree.specs.Diagnostic.{label_content};
+ghost use Rattle.toml_span_report.specs.Report as plain;
 ghost use Rattle.toml_span_report.specs.Report.{report_content};
 ghost use Rattle.toml_span_tree.specs.Value.{view};
 ghost use Rattle.toml_span_editor.specs.Diagnostics as spec;
 ghost use Rattle.toml_span_editor.specs.Edits.{edit_content};
+ghost use Rattle.toml_span_editor.specs.Repairs as mending;
 
 use crate::document::Document;
 use crate::duplicates::without_duplicate;
@@ -20,7 +23,7 @@ use toml_span_check::fixing::FixLevel;
 use toml_span_check::newer::{Version, version_reports, with_all_fixes};
 use toml_span_check::schemas::{Chooser, SchemaReports, Schemas};
 use toml_span_lex::span::Span;
-use toml_span_report::{Report, Severity};
+use toml_span_report::{Replacement, Report, Severity};
 use toml_span_tree::Label;
 
 /// The code of the error that a key is written twice.
@@ -321,10 +324,13 @@ pub fn diagnostics_without_schema(
     })
 }
 
-/// Converts the replacements of a report to edits.
-fn edits_of(alloc: Global, report: &Report) -> Result<Vec<Edit>, AllocError> {
+/// Converts replacements to edits.
+fn edits_of(alloc: Global, replacements: &[Replacement]) -> Result<Vec<Edit>, AllocError>
+    ensures { IfOk result (λ edits. map edit_content edits.items
+        ≡ map mending.replacement_edit (map plain.repair_of replacements.now)) }
+{
     let mut edits = Vec::new(alloc);
-    for replacement in &report.replacements {
+    for replacement in replacements {
         edits.push(Edit {
             span: replacement.span,
             text: String::from_str(alloc, replacement.text.as_str())?,
@@ -346,16 +352,22 @@ fn title_of(alloc: Global, help: &str) -> Result<String, AllocError> {
 
 /// Returns the edits that repair a report, or `None` if there are none. For a duplicate key, they are those of
 /// `without_duplicate`. For another report, they make the replacements of the report, if these fit the text.
-fn repairing(alloc: Global, text: &str, report: &Report) -> Result<Option<Vec<Edit>>, AllocError> {
+fn repairing(alloc: Global, text: &str, report: &Report) -> Result<Option<Vec<Edit>>, AllocError>
+    ensures { IfOk result (λ found. mending.Mends text.now (report_content report.now)
+        (option_map (λ edits. map edit_content edits.items) found)) }
+{
     if report.code.as_str() == DUPLICATE_KEY {
         let place = main_span(report.labels.as_slice()).start;
         return without_duplicate(alloc, text, place);
     }
-    let edits = edits_of(alloc, report)?;
-    if edits.is_empty() || edited(alloc, text, edits.as_slice())?.is_none() {
+    let edits = edits_of(alloc, report.replacements.as_slice())?;
+    if edits.is_empty() {
         return Ok(None);
     }
-    Ok(Some(edits))
+    match edited(alloc, text, edits.as_slice())? {
+        Some(_) => Ok(Some(edits)),
+        None => Ok(None),
+    }
 }
 
 /// Returns the title of the repair of a report.
@@ -369,12 +381,27 @@ fn repair_title(alloc: Global, report: &Report) -> Result<String, AllocError> {
     }
 }
 
+/// Returns whether all the replacements are safe.
+fn all_safe(replacements: &[Replacement]) -> bool
+    ensures { result ≡ safety.all_safe (map plain.repair_of replacements.now) }
+{
+    for replacement in replacements {
+        if !replacement.is_safe {
+            return false;
+        }
+    }
+    true
+}
+
 /// Returns the repair for a report on the text of `table`, or `None` if there is none (see `repairing`).
 fn repair_of(
     alloc: Global,
     table: &PositionTable<'_>,
     report: &Report,
-) -> Result<Option<Repair>, AllocError> {
+) -> Result<Option<Repair>, AllocError>
+    ensures { IfOk result (λ found. IfSome found
+        (mending.IsRepair table.now.encoding table.now.text.now (report_content report.now))) }
+{
     let Some(edits) = repairing(alloc, table.text, report)? else {
         return Ok(None);
     };
@@ -383,7 +410,7 @@ fn repair_of(
         title: repair_title(alloc, report)?,
         diagnostic: diagnostic_of(alloc, table, report)?,
         edits,
-        is_safe: is_certain && report.replacements.iter().all(|one| one.is_safe),
+        is_safe: is_certain && all_safe(report.replacements.as_slice()),
     }))
 }
 
@@ -395,7 +422,10 @@ pub fn repairs(
     table: &PositionTable<'_>,
     reports: &[Report],
     span: Span,
-) -> Result<Vec<Repair>, AllocError> {
+) -> Result<Vec<Repair>, AllocError>
+    ensures { IfOk result (λ found. mending.AreRepairs table.now.encoding table.now.text.now
+        (map report_content reports.now) found.items) }
+{
     let mut found = Vec::new(alloc);
     for report in reports {
         let place = main_span(report.labels.as_slice());

@@ -1,4 +1,8 @@
 //! Repairs a duplicate key by removing its assignment.
+ghost use Rattle.std.specs.Prelude.{IfOk, map, option_map};
+ghost use Rattle.toml_span_editor.specs.Edits.{edit_content};
+ghost use Rattle.toml_span_editor.specs.Repairs.{RemovesLines};
+
 use crate::edits::Edit;
 use std::alloc::{AllocError, Global};
 use toml_span_check::statements::assignment_lines;
@@ -10,7 +14,10 @@ pub(crate) fn without_duplicate(
     alloc: Global,
     text: &str,
     at: usize,
-) -> Result<Option<Vec<Edit>>, AllocError> {
+) -> Result<Option<Vec<Edit>>, AllocError>
+    ensures { IfOk result (λ made. RemovesLines text.now at
+        (option_map (λ edits. map edit_content edits.items) made)) }
+{
     let Some(span) = assignment_lines(alloc, text, at)? else {
         return Ok(None);
     };

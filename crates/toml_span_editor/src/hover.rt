@@ -1,4 +1,10 @@
 //! Describes, in Markdown, the key or value at an offset.
+ghost use Rattle.std.specs.Prelude.{◌≡◌, IfOk, IfSome, Some, map};
+ghost use Rattle.toml_span_editor.specs.Hovers.{IsDescribed};
+ghost use Rattle.toml_span_editor.specs.Renaming.{span_at};
+ghost use Rattle.toml_span_read.specs.Data.{parsed_section};
+ghost use Rattle.toml_span_tree.specs.Value.{view};
+
 use crate::document::Document;
 use crate::keys::{key_at, value_of};
 use crate::paths::{dotted, pointer};
@@ -197,7 +203,10 @@ fn key_hover(
     document: &Document<'_>,
     guide: Option<&Guide>,
     at: usize,
-) -> Result<Option<Hover>, AllocError> {
+) -> Result<Option<Hover>, AllocError>
+    ensures { IfOk result (λ found. IfSome found (λ hover. Some hover.span
+        ≡ span_at at document.now.text.now (map parsed_section document.now.sections.items))) }
+{
     let keys = key_places(alloc, document.text, document.sections.as_slice())?;
     let Some(key) = key_at(keys.as_slice(), at) else {
         return Ok(None);
@@ -221,7 +230,10 @@ pub fn hover_at(
     document: &Document<'_>,
     guide: Option<&Guide>,
     at: usize,
-) -> Result<Option<Hover>, AllocError> {
+) -> Result<Option<Hover>, AllocError>
+    ensures { IfOk result (λ found. IfSome found (λ hover. IsDescribed at document.now.text.now
+        (map parsed_section document.now.sections.items) (view document.now.root) hover.span)) }
+{
     if let Some(found) = key_hover(alloc, document, guide, at)? {
         return Ok(Some(found));
     }

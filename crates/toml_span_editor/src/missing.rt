@@ -1,4 +1,12 @@
 //! Inserts keys that a schema requires.
+ghost use Rattle.std.specs.Prelude.{◌≡◌, IfOk, IfSome, OnOk, map, string_bytes};
+ghost use Rattle.std.specs.Cow.{cow_str_bytes};
+ghost use Rattle.std.specs.List.{All};
+ghost use Rattle.toml_span_editor.specs.Edits.{edit_content};
+ghost use Rattle.toml_span_editor.specs.Missing as spec;
+ghost use Rattle.toml_span_tree.specs.Nodes.{step_of};
+ghost use Rattle.toml_span_tree.specs.Value.{view};
+
 use crate::document::Document;
 use crate::edits::{Edit, differences};
 use crate::keys::{has_key, value_of};
@@ -44,7 +52,10 @@ fn added<'x>(
     text: &str,
     path: &'x [&'x str],
     value: &'x str,
-) -> Result<Option<String>, AllocError> {
+) -> Result<Option<String>, AllocError>
+    ensures { IfOk result (λ made. IfSome made
+        (λ new. spec.Adds value.now (map (λ s. s.now) path.now) text.now (string_bytes new))) }
+{
     let mut edits = Edits::new(alloc, text);
     let change = Change::SetOrAdd(value);
     edits.push(KeyEdit { path, change })?;
@@ -55,6 +66,20 @@ fn added<'x>(
     }
 }
 
+/// Returns the segments of the path of the key `name` in the table at `path`.
+fn segments_to<'d>(
+    alloc: Global,
+    path: &[Step<'d>],
+    name: &'d str,
+) -> Result<Vec<CowStr<'d>>, AllocError>
+    ensures { IfOk result (λ segments. map cow_str_bytes segments.items
+        ≡ spec.segments_to (map step_of path.now) name.now) }
+{
+    let mut segments = segments_of(alloc, path)?;
+    segments.push(CowStr::Borrowed(name))?;
+    Ok(segments)
+}
+
 /// Returns edits that add the key `name` with this value to the table at `path`. Returns `None` if it can't be added.
 fn edits_for<'d>(
     alloc: Global,
@@ -62,14 +87,17 @@ fn edits_for<'d>(
     path: &[Step<'d>],
     name: &'d str,
     value: &str,
-) -> Result<Option<Vec<Edit>>, AllocError> {
-    let mut segments = segments_of(alloc, path)?;
-    segments.push(CowStr::Borrowed(name))?;
+) -> Result<Option<Vec<Edit>>, AllocError>
+    ensures { IfOk result (λ made. IfSome made (λ edits. spec.AddsBy value.now
+        (spec.segments_to (map step_of path.now) name.now) text.now (map edit_content edits.items))) }
+{
+    let segments = segments_to(alloc, path, name)?;
     let names = segment_names(alloc, segments.as_slice())?;
-    match added(alloc, text, names.as_slice(), value)? {
-        Some(new) => Ok(Some(differences(alloc, text, new.as_str())?)),
-        None => Ok(None),
-    }
+    let Some(new) = added(alloc, text, names.as_slice(), value)? else {
+        return Ok(None);
+    };
+    let edits = differences(alloc, text, new.as_str())?;
+    Ok(Some(edits))
 }
 
 /// Appends an insertion for each key that `guide` requires in the table at `path`, and that is missing there. `place`
@@ -81,7 +109,10 @@ fn push_insertions(
     path: &[Step<'_>],
     place: Span,
     found: &mut Vec<Insertion>,
-) -> Result<(), AllocError> {
+) -> Result<(), AllocError>
+    ensures { All (spec.IsInsertion document.now.text.now (view document.now.root)) found.old.items
+        → OnOk result (All (spec.IsInsertion document.now.text.now (view document.now.root)) found.new.items) }
+{
     let table = subschemas_at(alloc, guide, &document.root, path)?;
     let value = value_of(&document.root, path);
     for name in guide.keys_of(alloc, &table)? {
@@ -111,7 +142,10 @@ pub fn insertions(
     guide: &Guide,
     document: &Document<'_>,
     span: Span,
-) -> Result<Vec<Insertion>, AllocError> {
+) -> Result<Vec<Insertion>, AllocError>
+    ensures { IfOk result (λ found. All (spec.IsInsertion document.now.text.now (view document.now.root))
+        found.items) }
+{
     let mut found = Vec::new(alloc);
     for node in nodes(alloc, &document.root)? {
         let place = if node.path.is_empty() {

@@ -58,8 +58,10 @@ pub fn renamable_at<'d>(
     document: &'d Document<'_>,
     at: usize,
 ) -> Result<Option<Renamable<'d>>, AllocError>
-    ensures { IfOk result (λ found. option_map (λ key. map cow_str_bytes key.path.items) found
+    ensures path { IfOk result (λ found. option_map (λ key. map cow_str_bytes key.path.items) found
         ≡ spec.path_at at document.now.text.now (map parsed_section document.now.sections.items)) }
+    ensures span { IfOk result (λ found. option_map (λ key. key.span) found
+        ≡ spec.span_at at document.now.text.now (map parsed_section document.now.sections.items)) }
 {
     let keys = key_places(alloc, document.text, document.sections.as_slice())?;
     match key_at(keys.as_slice(), at) {

@@ -1,4 +1,7 @@
 //! Suggests keys that similar tables have, and booleans.
+ghost use Rattle.std.specs.Prelude.{◌≡◌, IfOk};
+ghost use Rattle.toml_span_editor.specs.Completions.{Replace};
+
 use crate::completion::{Outer, Site, Suggestion, SuggestionKind};
 use crate::keys::{has_key, value_of};
 use crate::suggestions::{is_assigned, snippet_of, value_suggestion};
@@ -136,7 +139,9 @@ fn suggestion_of(
     text: &str,
     sibling: Sibling<'_, '_>,
     site: Site<'_>,
-) -> Result<Suggestion, AllocError> {
+) -> Result<Suggestion, AllocError>
+    ensures { IfOk result (λ suggestion. suggestion.span ≡ site.entry.typed) }
+{
     let label = quote_key(alloc, sibling.name)?;
     let mut new = label.clone()?;
     let mut snippet = None;
@@ -162,7 +167,9 @@ pub(crate) fn sibling_keys(
     alloc: Global,
     outer: Outer<'_, '_, '_, '_>,
     site: Site<'_>,
-) -> Result<Vec<Suggestion>, AllocError> {
+) -> Result<Vec<Suggestion>, AllocError>
+    ensures { IfOk result (λ suggestions. Replace site.entry.typed suggestions.items) }
+{
     let mut suggestions = Vec::new(alloc);
     for sibling in siblings(alloc, outer)? {
         suggestions.push(suggestion_of(alloc, outer.document.text, sibling, site)?)?;
@@ -171,7 +178,9 @@ pub(crate) fn sibling_keys(
 }
 
 /// Returns the suggestions `true` and `false`, if they can replace what is written: nothing, or a word.
-pub(crate) fn booleans(alloc: Global, site: Site<'_>) -> Result<Vec<Suggestion>, AllocError> {
+pub(crate) fn booleans(alloc: Global, site: Site<'_>) -> Result<Vec<Suggestion>, AllocError>
+    ensures { IfOk result (λ suggestions. Replace site.entry.typed suggestions.items) }
+{
     let mut suggestions = Vec::new(alloc);
     if site.is_word {
         suggestions.push(value_suggestion(alloc, site, "true", "boolean")?)?;

@@ -1,4 +1,7 @@
 //! Suggests keys, tables and values according to a schema.
+ghost use Rattle.std.specs.Prelude.{◌≡◌, IfOk, IfSome};
+ghost use Rattle.toml_span_editor.specs.Completions.{Replace};
+
 use crate::completion::{
     Completion, Outer, Site, Suggestion, SuggestionKind, last_element, narrowed,
 };
@@ -236,7 +239,9 @@ fn key_suggestion(
     name: &str,
     is_required: bool,
     next: Option<&str>,
-) -> Result<Suggestion, AllocError> {
+) -> Result<Suggestion, AllocError>
+    ensures { IfOk result (λ suggestion. suggestion.span ≡ site.entry.typed) }
+{
     let kinds = guide.kinds_of(inner);
     let mut text = quote_key(alloc, name)?;
     let label = text.clone()?;
@@ -309,7 +314,9 @@ pub(crate) fn key_suggestions(
     table: &Subschemas,
     outer: Outer<'_, '_, '_, '_>,
     site: Site<'_>,
-) -> Result<Completion, AllocError> {
+) -> Result<Completion, AllocError>
+    ensures { IfOk result (λ made. Replace site.entry.typed made.suggestions.items) }
+{
     let names = new_names(alloc, guide, table, outer, site)?;
     let (names, is_incomplete) = narrowed(alloc, names, site)?;
     let mut suggestions = Vec::new(alloc);
@@ -348,7 +355,9 @@ pub(crate) fn value_suggestion(
     site: Site<'_>,
     literal: &str,
     detail: &str,
-) -> Result<Suggestion, AllocError> {
+) -> Result<Suggestion, AllocError>
+    ensures { IfOk result (λ suggestion. suggestion.span ≡ site.entry.typed) }
+{
     let mut text = String::from_str(alloc, if site.is_tight { " " } else { "" })?;
     text.push_str(literal)?;
     if site.is_followed {
@@ -367,6 +376,32 @@ pub(crate) fn value_suggestion(
     })
 }
 
+/// Returns suggestions of these values, one of which may be the default.
+fn listed_suggestions<'l>(
+    alloc: Global,
+    literals: Vec<&'l str>,
+    default: Option<&'l str>,
+    site: Site<'_>,
+) -> Result<Completion, AllocError>
+    ensures { IfOk result (λ made. Replace site.entry.typed made.suggestions.items) }
+{
+    let (literals, is_incomplete) = narrowed(alloc, literals, site)?;
+    let mut suggestions = Vec::new(alloc);
+    for literal in literals {
+        let detail = if default == Some(literal) {
+            "default"
+        } else {
+            ""
+        };
+        let one = value_suggestion(alloc, site, literal, detail)?;
+        suggestions.push(one)?;
+    }
+    Ok(Completion {
+        suggestions,
+        is_incomplete,
+    })
+}
+
 /// Returns suggestions of values: the default, the values of `enum` and `const`, and the booleans if they are allowed.
 /// `inner` are the subschemas for the value. Returns `None` if there is no value to suggest and `inner` does not
 /// restrict the kind of the value.
@@ -375,7 +410,9 @@ pub(crate) fn value_suggestions(
     guide: &Guide,
     inner: &Subschemas,
     site: Site<'_>,
-) -> Result<Option<Completion>, AllocError> {
+) -> Result<Option<Completion>, AllocError>
+    ensures { IfOk result (λ found. IfSome found (λ made. Replace site.entry.typed made.suggestions.items)) }
+{
     let kinds = guide.kinds_of(inner);
     let default = default_of(alloc, guide, inner)?;
     let default = default.as_ref().map(|default| default.as_str());
@@ -394,18 +431,6 @@ pub(crate) fn value_suggestions(
     if literals.is_empty() && kinds.is_empty() {
         return Ok(None);
     }
-    let (literals, is_incomplete) = narrowed(alloc, literals, site)?;
-    let mut suggestions = Vec::new(alloc);
-    for literal in literals {
-        let detail = if default == Some(literal) {
-            "default"
-        } else {
-            ""
-        };
-        suggestions.push(value_suggestion(alloc, site, literal, detail)?)?;
-    }
-    Ok(Some(Completion {
-        suggestions,
-        is_incomplete,
-    }))
+    let made = listed_suggestions(alloc, literals, default, site)?;
+    Ok(Some(made))
 }

@@ -1,4 +1,6 @@
 pub mod Headers
+pub mod Lists
+pub mod Params
 pub mod Phases
 pub mod Responses
 pub mod Served

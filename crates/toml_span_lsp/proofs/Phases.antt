@@ -5,7 +5,8 @@ use Rattle.json.specs.Json.{Json, document}
 use Rattle.json.specs.Json as json
 use Rattle.json.specs.Value.{value_view}
 use Rattle.json.specs.declared.value.Value.{String, Value, the_lemmas}
-use Rattle.toml_span_lsp.specs.Phases.{AfterContent, AfterMessage, AfterNotification, AfterRequest, Follows, HasName, IsReadAs}
+use Rattle.toml_span_lsp.specs.Phases.{AfterContent, AfterMessage, AfterNotification, AfterText, AfterRequest, Follows, HasName, IsReadAs}
+use Rattle.toml_span_lsp.specs.Messages.{IsText}
 use Rattle.toml_span_lsp.specs.declared.incoming.Id.{Id}
 use Rattle.toml_span_lsp.specs.declared.incoming.Message.{Message}
 use Rattle.toml_span_lsp.specs.declared.incoming.Message.TheVariants.{Call, Response, Invalid}
@@ -41,3 +42,8 @@ after_content (Ok a) content json message p q is read after = λ other text.
     let P : Json → Type 0 = λ j. Follows j p q in
     subst P (same_Some _ _ (sym is ∙ text.1)) (follows json message p q read after)
 after_content (Err e) content json message p q is read after = tt
+
+pub after_text : {A E : Type 0} (r : Result A E) (content : List ℕ) (json : Json) (message : Message) (p q : Phase) → IsText content json → IsReadAs json message
+    → IfOk r (λ _. AfterMessage message p q) → IfOk r (λ _. AfterText content p q)
+after_text (Ok a) content json message p q text is after = inr (json, text, follows json message p q is after)
+after_text (Err e) content json message p q text is after = tt

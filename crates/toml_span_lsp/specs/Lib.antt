@@ -1,5 +1,10 @@
 pub mod Diagnosed
 pub mod Frames
 pub mod Messages
+pub mod Methods
+pub mod Params
 pub mod Phases
 pub mod Served
+pub mod Settings
+pub mod Shown
+pub mod Sync

@@ -65,6 +65,10 @@ Follows message phase next = (IsExit message × (next ≡ ended phase))
     ⊎ ((¬ (IsNotification message × IsExit message))
     × ((next ≡ phase) ⊎ ((method : List ℕ) × HasName message method × Moves method phase next)))
 
+-- The phase after a text that is read as a message: it stays the same if the text is not JSON.
+abbrev pub AfterText : List ℕ → Phase → Phase → Type 0
+AfterText text phase next = (next ≡ phase) ⊎ ((message : Json) × IsText text message × Follows message phase next)
+
 -- the phase after this content of a frame, if it is JSON
 abbrev pub AfterContent : List ℕ → Phase → Phase → Type 0
 AfterContent content phase next = (message : Json) → IsText content message → Follows message phase next

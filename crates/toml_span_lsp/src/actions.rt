@@ -1,4 +1,8 @@
 //! Code actions: repairs of diagnostics, and conversions of tables and arrays.
+ghost use Rattle.std.specs.Prelude.{IfSome};
+ghost use Rattle.json.specs.Value.{value_view};
+ghost use Rattle.toml_span_lsp.specs.Params.{IsAskedRange};
+
 use crate::incoming::{member, range_of};
 use crate::methods::Request;
 use crate::outgoing::{Json, write_workspace_edit};
@@ -232,7 +236,10 @@ pub(crate) fn write_actions(
 }
 
 /// Returns the range of a request as a span, or `None` if the request has no valid range.
-pub(crate) fn span_of(request: &Request<'_, '_, '_>) -> Option<Span> {
+pub(crate) fn span_of(request: &Request<'_, '_, '_>) -> Option<Span>
+    ensures { IfSome result (IsAskedRange (value_view request.now.params.now) request.now.table.now.encoding
+        request.now.table.now.text.now) }
+{
     let range = range_of(request.params.get("range")?)?;
     let table = request.table;
     let start = offset_at(table.encoding, table.text, range.start);

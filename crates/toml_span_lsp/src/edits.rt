@@ -1,13 +1,17 @@
 //! Writes answers about renames and formatting.
+ghost use Rattle.std.specs.Prelude.{◌≡◌, IfSome};
+ghost use Rattle.json.specs.Value.{value_view};
+ghost use Rattle.toml_span_lsp.specs.Settings as spec;
+
 use crate::actions::span_of;
-use crate::incoming::text_in;
+use crate::incoming::{count_in, text_in};
 use crate::methods::Request;
 use crate::outgoing::{Json, write_edits, write_workspace_edit};
 use crate::refusal::{INVALID_PARAMS, REQUEST_FAILED, Refusal, refused};
-use crate::settings::Settings;
+use crate::settings::{Settings, is_set};
 use json::Value;
 use std::alloc::AllocError;
-use toml_span_config::layers::Origin;
+use toml_span_config::layers::Settings as ProjectSettings;
 use toml_span_editor::document::Document;
 use toml_span_editor::formatting::{formatting, formatting_of, sorted_formatting};
 use toml_span_editor::renaming::{renamable_at, rename};
@@ -68,28 +72,76 @@ pub(crate) fn write_renamable(
     Ok(())
 }
 
+/// Returns the `tabSize` in the parameters of a request, or `None` if it is missing or not valid.
+fn tab_size(params: &Value<'_>) -> Option<usize>
+    ensures { IfSome result (spec.HasTabSize (value_view params.now)) }
+{
+    count_in(params.get("options")?, "tabSize")
+}
+
+/// Returns the options that a configuration file sets. Those that it does not set have their defaults.
+fn options_in(project: Option<ProjectSettings>) -> Options
+    ensures { result ≡ spec.options_in project }
+{
+    match project {
+        Some(project) => project.format_options(),
+        None => Options::new(),
+    }
+}
+
+/// Returns the options with this width, if there is one.
+fn with_width(width: Option<usize>, options: Options) -> Options
+    ensures { result ≡ spec.with_width width options }
+{
+    match width {
+        Some(width) => options.with_width(width),
+        None => options,
+    }
+}
+
+/// Returns the options with this indentation, if there is one of at most 64.
+fn with_indent(size: Option<usize>, options: Options) -> Options
+    ensures { result ≡ spec.with_indent size options }
+{
+    let Some(size) = size else {
+        return options;
+    };
+    if size <= 64 {
+        options.with_indent(size)
+    } else {
+        options
+    }
+}
+
+/// Returns whether the configuration file sets the indentation.
+fn sets_indent(project: Option<ProjectSettings>) -> bool
+    ensures { result ≡ spec.sets_indent project }
+{
+    match project {
+        Some(project) => is_set(project.indent.origin),
+        None => false,
+    }
+}
+
+/// Returns the options for a request that asks for the indentation `size`.
+fn options_for(settings: Settings, size: Option<usize>) -> Options
+    ensures { result ≡ spec.options_for settings size }
+{
+    let options = with_width(settings.width, options_in(settings.project));
+    if sets_indent(settings.project) {
+        options
+    } else {
+        with_indent(size, options)
+    }
+}
+
 /// Returns the options of the formatter: those that the settings set, and the `tabSize` of the request as the
 /// indentation, unless the configuration file sets one. If `tabSize` is missing, not valid or above 64, or if nothing
 /// sets an option, that option has its default.
-fn options_of(settings: Settings, params: &Value<'_>) -> Options {
-    let mut options = match settings.project {
-        Some(project) => project.format_options(),
-        None => Options::new(),
-    };
-    if let Some(width) = settings.width {
-        options = options.with_width(width);
-    }
-    if settings
-        .project
-        .is_some_and(|project| project.indent.origin != Origin::Default)
-    {
-        return options;
-    }
-    let asked = params.get("options").and_then(|asked| asked.get("tabSize"));
-    match asked.and_then(|size| size.as_u64()) {
-        Some(size) if size <= 64 => options.with_indent(size as usize),
-        _ => options,
-    }
+fn options_of(settings: Settings, params: &Value<'_>) -> Options
+    ensures { spec.AreOptions settings (value_view params.now) result }
+{
+    options_for(settings, tab_size(params))
 }
 
 /// Writes the edits that format a document or, if the request has a valid range, the lines of the range, whose keys are

@@ -1,10 +1,11 @@
 //! Reads messages from the client (JSON-RPC 2.0).
-ghost use Rattle.std.specs.Prelude.{◌≡◌, None, Ok, Some, codes};
-ghost use Rattle.json.specs.Find.{get};
+ghost use Rattle.std.specs.Prelude.{◌≡◌, IfSome, None, Ok, Some, codes, map, option_and_then, option_map};
+ghost use Rattle.json.specs.Find.{as_str, get};
 ghost use Rattle.json.specs.Token.{Token};
 ghost use Rattle.json.specs.Value.{value_view};
 ghost use Rattle.toml_span_lsp.specs.Messages as spec;
 ghost use Rattle.toml_span_lsp.specs.Messages.{HasId, IsNotification, IsRequest};
+ghost use Rattle.toml_span_lsp.specs.Params as params;
 ghost use Rattle.toml_span_lsp.specs.Phases.{IsReadAs};
 
 use json::Value;
@@ -84,7 +85,10 @@ pub(crate) fn message_of<'v, 'j>(value: &'v Value<'j>) -> Message<'v, 'j>
 
 /// Returns the value at the path `names` in the nested objects of `value`, or `None` if a member of the path is
 /// missing.
-pub(crate) fn member<'v, 'j>(value: &'v Value<'j>, names: &[&str]) -> Option<&'v Value<'j>> {
+pub(crate) fn member<'v, 'j>(value: &'v Value<'j>, names: &[&str]) -> Option<&'v Value<'j>>
+    ensures { option_map (λ v. value_view v.now) result
+        ≡ params.member_at (map (λ s. s.now) names.now) (value_view value.now) }
+{
     let [name, rest @ ..] = names else {
         return Some(value);
     };
@@ -93,18 +97,25 @@ pub(crate) fn member<'v, 'j>(value: &'v Value<'j>, names: &[&str]) -> Option<&'v
 
 /// Returns the string at the path `names` in the nested objects of `value`. Returns `None` if a member of the path is
 /// missing, or if the last member is not a string.
-pub(crate) fn text_in<'v>(value: &'v Value<'_>, names: &[&str]) -> Option<&'v str> {
+pub(crate) fn text_in<'v>(value: &'v Value<'_>, names: &[&str]) -> Option<&'v str>
+    ensures { option_map (λ s. s.now) result
+        ≡ option_and_then as_str (params.member_at (map (λ s. s.now) names.now) (value_view value.now)) }
+{
     member(value, names)?.as_str()
 }
 
 /// Returns the number in the member `name`, or `None` if the member is missing or not an integer of at least 0.
-fn count_in(value: &Value<'_>, name: &str) -> Option<usize> {
+pub(crate) fn count_in(value: &Value<'_>, name: &str) -> Option<usize>
+    ensures { IfSome result (params.HasCount name.now (value_view value.now)) }
+{
     let count = value.get(name)?.as_u64()?;
     usize::try_from(count).ok()
 }
 
 /// Reads a JSON value as a position. Returns `None` if `line` or `character` is missing or not valid.
-pub(crate) fn position_of(value: &Value<'_>) -> Option<Position> {
+pub(crate) fn position_of(value: &Value<'_>) -> Option<Position>
+    ensures { IfSome result (params.IsPosition (value_view value.now)) }
+{
     Some(Position {
         line: count_in(value, "line")?,
         character: count_in(value, "character")?,
@@ -112,7 +123,9 @@ pub(crate) fn position_of(value: &Value<'_>) -> Option<Position> {
 }
 
 /// Reads a JSON value as a range. Returns `None` if `start` or `end` is missing or not valid.
-pub(crate) fn range_of(value: &Value<'_>) -> Option<Range> {
+pub(crate) fn range_of(value: &Value<'_>) -> Option<Range>
+    ensures { IfSome result (params.IsRange (value_view value.now)) }
+{
     Some(Range {
         start: position_of(value.get("start")?)?,
         end: position_of(value.get("end")?)?,

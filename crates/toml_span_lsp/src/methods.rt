@@ -1,4 +1,7 @@
 //! The requests about documents that the server answers.
+ghost use Rattle.std.specs.Prelude.{◌≡◌, IfSome};
+ghost use Rattle.toml_span_lsp.specs.Methods.{method_name};
+
 use crate::settings::Settings;
 use crate::state::Client;
 use json::Value;
@@ -30,7 +33,9 @@ pub(crate) enum Method {
 }
 
 /// Returns the request about a document that has this name, or `None` if there is no such request.
-pub(crate) fn method_named(name: &str) -> Option<Method> {
+pub(crate) fn method_named(name: &str) -> Option<Method>
+    ensures { IfSome result (λ method. method_name method ≡ name.now) }
+{
     match name {
         "textDocument/documentSymbol" => Some(Method::Symbols),
         "textDocument/foldingRange" => Some(Method::Folds),

@@ -1,6 +1,7 @@
 //! Writes diagnostics: as notifications by the server, and as answers to requests of the client.
-ghost use Rattle.std.specs.Prelude.{IfOk, string_bytes};
-ghost use Rattle.toml_span_lsp.specs.Diagnosed.{AreChecked};
+ghost use Rattle.std.specs.Prelude.{◌≡◌, ◌≤◌, IfOk, OnOk, false, length, map, string_bytes};
+ghost use Rattle.toml_span_lsp.specs.Diagnosed.{AreChecked, AreShown, denies_in};
+ghost use Rattle.toml_span_lsp.specs.Shown as spec;
 
 use crate::outgoing::{Json, Outbox, ServerCall, write_location};
 use crate::reading::is_too_long;
@@ -19,7 +20,9 @@ use toml_span_report::Severity;
 const DEPRECATED: &str = "schema-deprecated";
 
 /// Returns the number for a severity (LSP 3.17, DiagnosticSeverity).
-fn severity_of(severity: Severity) -> usize {
+fn severity_of(severity: Severity) -> usize
+    ensures { result ≡ spec.severity_of severity }
+{
     match severity {
         Severity::Error => 1,
         Severity::Warning => 2,
@@ -47,18 +50,29 @@ fn write_deprecated(out: &mut Json) {
     out.end_array();
 }
 
+/// Returns whether a schema caused the diagnostic with this range and code, and the range has several lines.
+fn is_about_lines(range: Range, code: &str) -> bool
+    ensures { result ≡ spec.is_about_lines code.now range }
+{
+    range.start.line < range.end.line && code.starts_with("schema")
+}
+
 /// Returns the range to mark for a diagnostic. If a schema caused the diagnostic and its range has several lines, as
 /// for a missing key, returns only the first line of the range.
-fn shown_range(diagnostic: &Diagnostic) -> Range {
-    let Range { start, end } = diagnostic.range;
-    if start.line < end.line && diagnostic.code.as_str().starts_with("schema") {
-        let end = Position {
-            line: start.line.saturating_add(1),
-            character: 0,
-        };
-        return Range { start, end };
+fn shown_range(diagnostic: &Diagnostic) -> Range
+    ensures { result ≡ spec.shown_range (string_bytes diagnostic.now.code) diagnostic.now.range }
+{
+    let range = diagnostic.range;
+    if !is_about_lines(range, diagnostic.code.as_str()) {
+        return range;
     }
-    Range { start, end }
+    Range {
+        start: range.start,
+        end: Position {
+            line: range.start.line.saturating_add(1),
+            character: 0,
+        },
+    }
 }
 
 /// Writes a diagnostic of the document `uri`, without what the client does not support.
@@ -160,7 +174,9 @@ fn push_schema_fault(
     encoding: Encoding,
     document: &Open,
     found: &mut Vec<Diagnostic>,
-) -> Result<(), AllocError> {
+) -> Result<(), AllocError>
+    ensures { OnOk result (spec.Adds found.old.items found.new.items) }
+{
     let text = document.text.as_str();
     let Some(directive) = directive_of(text) else {
         return Ok(());
@@ -177,13 +193,68 @@ fn push_schema_fault(
     Ok(())
 }
 
-/// Turns warnings into errors.
-fn deny_warnings(diagnostics: &mut Vec<Diagnostic>) {
-    for diagnostic in diagnostics.as_mut_slice() {
-        if diagnostic.severity == Severity::Warning {
-            diagnostic.severity = Severity::Error;
-        }
+/// Returns a severity as it is if warnings are errors.
+fn deny(severity: Severity) -> Severity
+    ensures { result ≡ spec.deny severity }
+{
+    match severity {
+        Severity::Error | Severity::Warning => Severity::Error,
+        Severity::Note => Severity::Note,
     }
+}
+
+/// Turns warnings into errors.
+#[tactic(auto, using(crate::proofs::Lists::set_one))]
+fn deny_warnings(diagnostics: &mut Vec<Diagnostic>)
+    ensures { diagnostics.new.items ≡ map spec.denied diagnostics.old.items }
+{
+    for index in 0..diagnostics.len() {
+        let severity = diagnostics[index].severity;
+        diagnostics[index].severity = deny(severity);
+    }
+}
+
+/// Turns warnings into errors if `denies` is set.
+fn deny_if(denies: bool, diagnostics: &mut Vec<Diagnostic>)
+    ensures { diagnostics.new.items ≡ spec.denied_if denies diagnostics.old.items }
+{
+    if denies {
+        deny_warnings(diagnostics);
+    }
+}
+
+/// Returns whether warnings are errors.
+fn denies_warnings(settings: Settings) -> bool
+    ensures { result ≡ denies_in settings.project }
+{
+    match settings.project {
+        Some(project) => project.deny_warnings.value,
+        None => false,
+    }
+}
+
+/// Returns what is shown of an open document: the diagnostics of `diagnosed`, and that of `push_schema_fault`. Warnings
+/// are errors if the configuration file of the document says so. Also returns the complaint of `diagnosed`.
+fn shown(
+    alloc: Global,
+    encoding: Encoding,
+    document: &Open,
+    lookup: &mut Lookup,
+) -> Result<(Findings, String), AllocError>
+    ensures { IfOk result (λ found. AreShown lookup.old document.now encoding found.0) }
+{
+    let Diagnosed {
+        mut diagnostics,
+        reports,
+        complaint,
+    } = diagnosed(alloc, encoding, document.settings, document, lookup)?;
+    push_schema_fault(alloc, encoding, document, &mut diagnostics)?;
+    deny_if(denies_warnings(document.settings), &mut diagnostics);
+    let found = Findings {
+        diagnostics,
+        reports,
+    };
+    Ok((found, complaint))
 }
 
 /// Checks an open document against the schemas in `lookup`. If it can't be checked against its schema, adds error lines
@@ -192,40 +263,28 @@ fn deny_warnings(diagnostics: &mut Vec<Diagnostic>) {
 fn checked(
     alloc: Global,
     encoding: Encoding,
-    open: &mut Open,
+    document: &mut Open,
     lookup: &mut Lookup,
     notices: &mut String,
-) -> Result<Findings, AllocError> {
-    if is_too_long(open) {
+) -> Result<Findings, AllocError>
+    ensures { length (string_bytes document.old.text) ≤ 16777216 → document.old.settings.is_excluded ≡ false
+        → IfOk result (AreShown lookup.old document.old encoding) }
+{
+    if is_too_long(document) {
         return Ok(Findings {
             diagnostics: too_long(alloc)?,
             reports: Vec::new(alloc),
         });
     }
-    let settings = open.settings;
-    if settings.is_excluded {
+    if document.settings.is_excluded {
         return Ok(Findings {
             diagnostics: Vec::new(alloc),
             reports: Vec::new(alloc),
         });
     }
-    let Diagnosed {
-        mut diagnostics,
-        reports,
-        complaint,
-    } = diagnosed(alloc, encoding, settings, open, lookup)?;
-    show_complaint(open, notices, complaint)?;
-    push_schema_fault(alloc, encoding, open, &mut diagnostics)?;
-    if settings
-        .project
-        .is_some_and(|project| project.deny_warnings.value)
-    {
-        deny_warnings(&mut diagnostics);
-    }
-    Ok(Findings {
-        diagnostics,
-        reports,
-    })
+    let (found, complaint) = shown(alloc, encoding, document, lookup)?;
+    show_complaint(document, notices, complaint)?;
+    Ok(found)
 }
 
 /// Checks the open document `uri`, as `checked` does, unless its text has not changed and no schema has been read since

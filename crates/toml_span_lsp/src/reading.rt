@@ -1,4 +1,6 @@
 //! Documents that are read once for all requests about the same text.
+ghost use Rattle.std.specs.Prelude.{◌≡◌, IfOk, length, nat_lt, string_bytes};
+
 use crate::state::{Open, State};
 use std::alloc::{AllocError, Global};
 use toml_span_editor::document::{Document, read, readable};
@@ -91,7 +93,12 @@ pub(crate) fn reading_of<'t>(
     text: &'t str,
     document: Option<Document<'t>>,
     kept: &'t str,
-) -> Result<Reading<'t>, AllocError> {
+) -> Result<Reading<'t>, AllocError>
+    ensures text { IfOk result (λ reading. reading.table.text ≡ text.entry) }
+    ensures encoding { IfOk result (λ reading. reading.table.encoding ≡ encoding) }
+    ensures document { IfOk result (λ reading. reading.document ≡ document.entry) }
+    ensures name { IfOk result (λ reading. reading.name ≡ name) }
+{
     let partial = match &document {
         Some(_) => None,
         None => read(alloc, kept)?,
@@ -111,6 +118,8 @@ pub(crate) fn reading_of<'t>(
 }
 
 /// Returns whether the text of a document is longer than 16 MiB. Such a text is kept, but not read.
-pub(crate) fn is_too_long(open: &Open) -> bool {
-    open.text.len() > BOUND
+pub(crate) fn is_too_long(document: &Open) -> bool
+    ensures { result ≡ nat_lt 16777216 (length (string_bytes document.now.text)) }
+{
+    document.text.len() > BOUND
 }

@@ -1,4 +1,8 @@
 //! Answers requests about documents.
+ghost use Rattle.std.specs.Prelude.{IfOk, IfSome, codes};
+ghost use Rattle.json.specs.Value.{value_view};
+ghost use Rattle.toml_span_lsp.specs.Params.{HasPosition, IsAsked};
+
 use crate::actions::{span_of, write_actions};
 use crate::answers::{write_completion, write_definition, write_hover};
 use crate::edits::{write_formatting, write_renamable, write_rename};
@@ -18,21 +22,27 @@ use crate::tokens::{write_tokens, write_tokens_in};
 use json::Value;
 use std::alloc::Global;
 use toml_span_editor::document::{Document, read};
-use toml_span_editor::positions::offset_at;
+use toml_span_editor::positions::{Position, offset_at};
 use toml_span_lex::stop::Stop;
 use toml_span_schema::Guide;
 
 /// Why a request without a valid range is refused.
 const NO_RANGE: &str = "`range` must have a `start` and an `end`";
 
+/// Returns the position in the parameters of a request, or `None` if they have no valid position.
+fn asked_position(params: &Value<'_>) -> Option<Position>
+    ensures { IfSome result (HasPosition (codes "position") (value_view params.now)) }
+{
+    position_of(params.get("position")?)
+}
+
 /// Returns the offset of the position in a request. Fails with `INVALID_PARAMS` if the request has no valid position.
-fn offset_of(request: &Request<'_, '_, '_>) -> Result<usize, Stop<Refusal>> {
+fn offset_of(request: &Request<'_, '_, '_>) -> Result<usize, Stop<Refusal>>
+    ensures { IfOk result (IsAsked (value_view request.now.params.now) request.now.table.now.encoding
+        request.now.table.now.text.now) }
+{
     let table = request.table;
-    match request
-        .params
-        .get("position")
-        .and_then(|position| position_of(position))
-    {
+    match asked_position(request.params) {
         Some(position) => Ok(offset_at(table.encoding, table.text, position)),
         None => Err(refused(
             request.alloc,

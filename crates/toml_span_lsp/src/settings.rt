@@ -1,10 +1,20 @@
 //! Reads the settings of a client.
+ghost use Rattle.std.specs.Prelude.{◌≡◌};
+ghost use Rattle.toml_span_lsp.specs.Settings as spec;
+
 use crate::uris::rooted;
 use json::Value;
 use std::alloc::{AllocError, Global};
 use toml_span_check::newer::Version;
 use toml_span_config::layers::{Origin, Settings as ProjectSettings};
 use toml_span_lookup::options::{LocalCopy, Options, Place};
+
+/// Returns whether a configuration file sets a setting that comes from `origin`.
+pub(crate) fn is_set(origin: Origin) -> bool
+    ensures { result ≡ spec.is_set origin }
+{
+    !matches!(origin, Origin::Default)
+}
 
 /// The settings of a client, or those for a document, except for those about schemas.
 #[derive(Clone, Copy)]
@@ -35,17 +45,39 @@ impl Settings {
     };
 
     /// Returns these settings with those of a configuration file, which come first.
-    pub(crate) fn in_project(mut self, project: ProjectSettings, is_excluded: bool) -> Settings {
-        if project.toml.origin != Origin::Default {
-            self.version = project.toml.value;
+    pub(crate) fn in_project(self, project: ProjectSettings, is_excluded: bool) -> Settings
+        ensures { result ≡ spec.in_project self project is_excluded }
+    {
+        Settings {
+            version: self.version_in(project),
+            width: self.width_in(project),
+            project: Some(project),
+            is_excluded,
+            can_format: !is_excluded,
+            ..self
         }
-        if project.width.origin != Origin::Default {
-            self.width = Some(usize::from(project.width.value));
+    }
+
+    /// Returns the version of TOML: that of the configuration file if it sets one.
+    fn version_in(self, project: ProjectSettings) -> Version
+        ensures { result ≡ spec.version_in self project }
+    {
+        if is_set(project.toml.origin) {
+            project.toml.value
+        } else {
+            self.version
         }
-        self.project = Some(project);
-        self.is_excluded = is_excluded;
-        self.can_format = !is_excluded;
-        self
+    }
+
+    /// Returns the width of a line: that of the configuration file if it sets one.
+    fn width_in(self, project: ProjectSettings) -> Option<usize>
+        ensures { result ≡ spec.width_in self project }
+    {
+        if is_set(project.width.origin) {
+            Some(usize::from(project.width.value))
+        } else {
+            self.width
+        }
     }
 }
 

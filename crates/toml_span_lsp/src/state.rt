@@ -1,5 +1,5 @@
 //! The state of the server between messages.
-ghost use Rattle.std.specs.Prelude.{◌≡◌};
+ghost use Rattle.std.specs.Prelude.{◌≡◌, ◌+◌, ◌%◌, ◌^◌};
 ghost use Rattle.toml_span_lsp.specs.Phases as spec;
 ghost use Rattle.toml_span_lsp.specs.declared.state.Phase.TheVariants.{New};
 
@@ -199,7 +199,10 @@ impl State {
     }
 
     /// Returns a number that this function has not returned before.
-    pub(crate) fn next_number(&mut self) -> u64 {
+    pub(crate) fn next_number(&mut self) -> u64
+        ensures number { result ≡ self.new.count }
+        ensures state { self.new ≡ record self.old { count = (self.old.count + 1) % 2 ^ 64 } }
+    {
         self.count = self.count.wrapping_add(1);
         self.count
     }

@@ -1,9 +1,9 @@
 //! One step of the server: takes a message, and returns the messages to send.
-ghost use Rattle.std.specs.Prelude.{◌≡◌, IfOk, map, option_map};
+ghost use Rattle.std.specs.Prelude.{◌≡◌, ℕ, IfOk, List, map, option_map};
 ghost use Rattle.toml_span_lsp.specs.Messages as spec;
 ghost use Rattle.toml_span_lsp.specs.Messages.{Answers, IsAnswer, IsResponse, Responds};
 ghost use Rattle.toml_span_lsp.specs.Phases as phases;
-ghost use Rattle.toml_span_lsp.specs.Phases.{AfterContent, AfterMessage, AfterNotification, AfterRequest};
+ghost use Rattle.toml_span_lsp.specs.Phases.{AfterContent, AfterMessage, AfterNotification, AfterRequest, AfterText};
 ghost use Rattle.toml_span_lsp.specs.declared.state.Phase.TheVariants.{Running};
 
 use crate::capabilities::{store_client, write_capabilities};
@@ -240,19 +240,19 @@ fn take<D: Disk>(
     }
 }
 
-/// Carries out the message in `content`, which is not JSON, as if it had no lone surrogates. If it still is not JSON,
-/// returns a response that says so. Otherwise, does the same as `take`.
-fn take_repaired<D: Disk>(
+/// Carries out the message in `content`, as `take` does. If `content` is not JSON, returns a response that says so.
+fn take_text<D: Disk>(
     alloc: Global,
     server: &mut Server,
     disk: &mut D,
     content: &[u8],
     around: Around<'_, '_, '_>,
     out: &mut Outbox,
-) -> Result<Option<Vec<u8>>, AllocError> {
-    let repaired = without_lone(alloc, content)?;
+) -> Result<Option<Vec<u8>>, AllocError>
+    ensures { IfOk result (λ _. AfterText content.now server.old.phase server.new.phase) }
+{
     let mut scratch = Scratch::new(alloc);
-    match Value::from_slice(alloc, repaired.as_slice(), &mut scratch) {
+    match Value::from_slice(alloc, content, &mut scratch) {
         Ok(value) => take(alloc, server, disk, message_of(&value), around, out),
         Err(Error::OutOfMemory) => Err(AllocError),
         Err(_) => {
@@ -260,6 +260,21 @@ fn take_repaired<D: Disk>(
             Ok(Some(response))
         }
     }
+}
+
+/// Carries out the message in `content`, which is not JSON, as `take_text` does, as if it had no lone surrogates.
+fn take_repaired<D: Disk>(
+    alloc: Global,
+    server: &mut Server,
+    disk: &mut D,
+    content: &[u8],
+    around: Around<'_, '_, '_>,
+    out: &mut Outbox,
+) -> Result<Option<Vec<u8>>, AllocError>
+    ensures { IfOk result (λ _. (text : List ℕ) × AfterText text server.old.phase server.new.phase) }
+{
+    let repaired = without_lone(alloc, content)?;
+    take_text(alloc, server, disk, repaired.as_slice(), around, out)
 }
 
 /// Carries out the message in `content`, and appends the notifications and requests to send. Returns the response, if

@@ -1,4 +1,7 @@
 //! Keeps the open documents as they are in the editor.
+ghost use Rattle.std.specs.Prelude.{◌≡◌, IfOk, fold, string_bytes};
+ghost use Rattle.toml_span_lsp.specs.Sync as spec;
+
 use crate::configuration::check_all;
 use crate::incoming::{member, range_of, text_in};
 use crate::outgoing::{Outbox, log_message};
@@ -12,6 +15,14 @@ use std::alloc::{AllocError, Global};
 use toml_span_editor::changes::changed;
 use toml_span_editor::positions::{Encoding, Range};
 use toml_span_lookup::disk::Disk;
+
+/// A change of a text.
+#[derive(Clone, Copy)]
+struct Change<'v> {
+    /// The range to replace, or `None` to replace the whole text.
+    range: Option<Range>,
+    text: &'v str,
+}
 
 /// Returns the version of the document in a notification, or `None` if the notification has none.
 fn version_of(params: &Value<'_>) -> Option<i64> {
@@ -100,6 +111,37 @@ fn range_in(change: &Value<'_>) -> Result<Option<Range>, ()> {
     }
 }
 
+/// Reads changes. Returns `None` if one is not valid.
+fn changes_in<'v>(
+    alloc: Global,
+    changes: &'v [Value<'_>],
+) -> Result<Option<Vec<Change<'v>>>, AllocError> {
+    let mut read = Vec::new(alloc);
+    for change in changes {
+        let (Some(text), Ok(range)) = (text_in(change, &["text"]), range_in(change)) else {
+            return Ok(None);
+        };
+        read.push(Change { range, text })?;
+    }
+    Ok(Some(read))
+}
+
+/// Returns `text` after all the changes, each of which is made in the text that those before it left.
+fn applied(
+    alloc: Global,
+    encoding: Encoding,
+    text: &str,
+    changes: &[Change<'_>],
+) -> Result<String, AllocError>
+    ensures { IfOk result (λ made. string_bytes made ≡ fold (spec.after encoding) text.now changes.now) }
+{
+    let mut made = String::from_str(alloc, text)?;
+    for change in changes {
+        made = changed(alloc, encoding, made.as_str(), change.range, change.text)?;
+    }
+    Ok(made)
+}
+
 /// Returns `text` after `changes`, or `None` if a change is not valid.
 fn text_after(
     alloc: Global,
@@ -107,14 +149,10 @@ fn text_after(
     text: &str,
     changes: &[Value<'_>],
 ) -> Result<Option<String>, AllocError> {
-    let mut made = String::from_str(alloc, text)?;
-    for change in changes {
-        let (Some(new), Ok(range)) = (text_in(change, &["text"]), range_in(change)) else {
-            return Ok(None);
-        };
-        made = changed(alloc, encoding, made.as_str(), range, new)?;
+    match changes_in(alloc, changes)? {
+        Some(read) => Ok(Some(applied(alloc, encoding, text, read.as_slice())?)),
+        None => Ok(None),
     }
-    Ok(Some(made))
 }
 
 /// Returns the text of the open document `uri` after the changes in a notification. Returns `None` if the document is

@@ -1,0 +1,9 @@
+-- The texts of open documents after changes.
+use Rattle.std.specs.Prelude.{ℕ, List}
+use Rattle.toml_span_editor.specs.Changes.{changed}
+use Rattle.toml_span_editor.specs.declared.positions.Encoding.{Encoding}
+use Rattle.toml_span_lsp.specs.declared.sync.Change.{Change}
+
+-- the text after a change
+abbrev pub after : Encoding → List ℕ → Change → List ℕ
+after encoding text change = changed encoding text change.range change.text.now
