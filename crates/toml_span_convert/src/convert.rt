@@ -1,7 +1,7 @@
 //! Converts the table or array at an offset of a document, and checks that the values and comments are kept.
 ghost use Rattle.std.specs.Prelude.{◌⊎◌, IfOk, IfSome, string_bytes};
-ghost use Rattle.toml_span_convert.specs.Converted.{IsConverted};
-ghost use Rattle.toml_span_convert.specs.Forms.{IsArrayConverted, IsTableConverted};
+ghost use Rattle.toml_span_convert.specs.Converted.{IsArrayLaidOut, IsConverted};
+ghost use Rattle.toml_span_convert.specs.Forms.{IsTableConverted};
 
 use crate::arrays::{array_to_line, array_to_lines};
 use crate::conversions::{Conversion, Proposal};
@@ -11,7 +11,8 @@ use crate::sections::section_to_inline;
 use crate::tables::inline_to_section;
 use std::alloc::{AllocError, Global};
 use toml_span_edit::validated;
-use toml_span_format::permuted_comments;
+use toml_span_format::{permuted_comments, same_document};
+use toml_span_lex::span::Span;
 use toml_span_lex::stop::Stop;
 use toml_span_lex::tokenizer::first_place;
 use toml_span_read::Section;
@@ -35,8 +36,29 @@ fn proposed(
     }
 }
 
+/// Returns `text` with the array at `span` replaced by `array`. Returns `None` if `with_array` does, or if the new text
+/// has other tokens or comments.
+fn laid_out(
+    alloc: Global,
+    text: &str,
+    conversion: Conversion,
+    span: Span,
+    array: &str,
+) -> Result<Option<String>, AllocError>
+    ensures { IfOk result (λ made. IfSome made (λ new. IsArrayLaidOut conversion text.now (string_bytes new))) }
+{
+    let Some(new) = with_array(alloc, conversion, text, span, array)? else {
+        return Ok(None);
+    };
+    if same_document(alloc, text, new.as_str())? {
+        Ok(Some(new))
+    } else {
+        Ok(None)
+    }
+}
+
 /// Makes the change of `proposal` in `text`, and returns the new text. Returns `None` if the change is not one that
-/// `conversion` makes (see `is_converted` and `with_array`).
+/// `conversion` makes (see `is_converted` and `laid_out`).
 fn accepted(
     alloc: Global,
     text: &str,
@@ -44,7 +66,7 @@ fn accepted(
     proposal: Proposal,
 ) -> Result<Option<String>, AllocError>
     ensures { IfOk result (λ made. IfSome made (λ new. (IsTableConverted conversion text.now (string_bytes new))
-        ⊎ (IsArrayConverted conversion text.now (string_bytes new)))) }
+        ⊎ (IsArrayLaidOut conversion text.now (string_bytes new)))) }
 {
     match proposal {
         Proposal::Table(named, new) => {
@@ -54,7 +76,7 @@ fn accepted(
                 Ok(None)
             }
         }
-        Proposal::Array(span, array) => with_array(alloc, conversion, text, span, array.as_str()),
+        Proposal::Array(span, array) => laid_out(alloc, text, conversion, span, array.as_str()),
     }
 }
 

@@ -8,7 +8,7 @@ use Rattle.toml_span_tree.specs.declared.value.Value.{Value}
 use Rattle.toml_span.specs.Parsing.{IsTree}
 use Rattle.toml_span_edit.specs.Comments.{AddsNoComment}
 use Rattle.toml_span_edit.specs.Edited.{EditMade, EditsMade, IsMade, IsMoved}
-use Rattle.toml_span_edit.specs.Kept.{IsInserted, IsRemoved, IsMovedText, HasOtherHeaders, AreKeysReplaced, Keeps}
+use Rattle.toml_span_edit.specs.Kept.{IsInserted, IsRemoved, IsMovedText, HasOtherHeaders, HasOtherKey, Keeps}
 use Rattle.toml_span_edit.specs.Paths.{found}
 use Rattle.toml_span_edit.specs.declared.edits.Change.{Change}
 use Rattle.toml_span_edit.specs.declared.edits.Change.TheVariants as changes
@@ -69,7 +69,7 @@ on_ok P Q f (Err e) h = h
 
 -- a value that is removed, and then inserted elsewhere
 pub moved_of : (path : List (List ℕ)) (n : Node) (text without mid new : List ℕ) → mid ≡ without →
-    IsRemoved path n text without → IsInserted mid new ⊎ (HasOtherHeaders text new ⊎ AreKeysReplaced path text new) →
+    IsRemoved path n text without → IsInserted mid new ⊎ (HasOtherHeaders text new ⊎ HasOtherKey path text new) →
     IsMovedText path n text new
 moved_of path n text without mid new e r (inl i) = inl (without, r, subst (λ (m : List ℕ). IsInserted m new) e i)
 moved_of path n text without mid new e r (inr h) = inr h

@@ -8,6 +8,7 @@ use Rattle.toml_span_places.specs.Dotted.{IsPath}
 use Rattle.toml_span_places.specs.declared.dotted.PathError.{PathError}
 use Rattle.toml_span_edit.specs.Edited.{EditMade}
 use Rattle.toml_span_edit.specs.Paths.{Path}
+use Rattle.toml_span_edit.specs.Reasons.{BeginsWithColumn}
 use Rattle.toml_span_edit.specs.Refused.{IsRefusedEdit}
 use Rattle.toml_span_edit.specs.declared.edits.Change.{Change}
 use Rattle.toml_span_edit.specs.declared.edits.Change.TheVariants as changes
@@ -32,9 +33,10 @@ IsSetToString path string text new =
 
 -- ---- refusals
 
--- The path can't be read, and this reason says so.
+-- The path can't be read, and this reason says so, with the column of the error.
 abbrev pub IsOfPath : Reason → List ℕ → Type 0
-IsOfPath (reasons.InvalidPath message) path = (error : PathError) × IsPath path (Err error)
+IsOfPath (reasons.InvalidPath message) path =
+    (error : PathError) × IsPath path (Err error) × BeginsWithColumn path error.at (string_bytes message)
 IsOfPath _ path = ⊥
 
 -- The path can't be read, and the error has the number of edits made before, and the path. Or an allocation failed.

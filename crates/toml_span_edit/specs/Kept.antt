@@ -15,6 +15,7 @@ use Rattle.toml_span_read.specs.Read.{document}
 use Rattle.toml_span_places.specs.Keys.{KeyMention, document_keys}
 use Rattle.toml_span_places.specs.Lines.{after_line}
 use Rattle.toml_span_places.specs.Literals.{literal_span}
+use Rattle.toml_span_places.specs.Quoted.{key_text}
 use Rattle.toml_span_places.specs.Replace.{SpanEdit as Replacement, replaced}
 use Rattle.toml_span_places.specs.Sections.{SectionMention, document_sections}
 use Rattle.toml_span_edit.specs.Comments.{AddsNoComment}
@@ -38,12 +39,16 @@ abbrev pub keys_at : Path → List KeyMention → List Span
 keys_at path [] = []
 keys_at path (m ∷ ms) = if names_steps path m.path then m.whole ∷ keys_at path ms else keys_at path ms
 
--- The text `new` is `text` with one and the same key in place of each key that names the value at the path. All other
--- bytes are the same.
-abbrev pub AreKeysReplaced : Path → List ℕ → List ℕ → Type 0
-AreKeysReplaced path text new =
-    (sections : List ParsedSection) × (key : List ℕ) × document text depth_limit (Ok sections)
-    × (replaced text (map (λ span. (span, key)) (keys_at path (document_keys text sections))) ≡ Some new)
+-- The text `new` is `text` with the key `name` in place of each key that names the value at the path. The new key is in
+-- quotes if necessary. All other bytes are the same.
+abbrev pub AreKeysReplaced : List ℕ → Path → List ℕ → List ℕ → Type 0
+AreKeysReplaced name path text new =
+    (sections : List ParsedSection) × document text depth_limit (Ok sections)
+    × (replaced text (map (λ span. (span, key_text name)) (keys_at path (document_keys text sections))) ≡ Some new)
+
+-- One and the same key replaces each key that names the value at the path.
+abbrev pub HasOtherKey : Path → List ℕ → List ℕ → Type 0
+HasOtherKey path text new = (name : List ℕ) × AreKeysReplaced name path text new
 
 -- ---- what is inserted
 
@@ -243,7 +248,7 @@ HasOtherHeaders text new = (mid : List ℕ) × IsInserted text mid × AreHeaders
 abbrev pub IsMovedText : Path → Node → List ℕ → List ℕ → Type 0
 IsMovedText path n text new =
     ((mid : List ℕ) × IsRemoved path n text mid × IsInserted mid new)
-    ⊎ (HasOtherHeaders text new ⊎ AreKeysReplaced path text new)
+    ⊎ (HasOtherHeaders text new ⊎ HasOtherKey path text new)
 
 -- ---- changes
 
@@ -254,7 +259,7 @@ Keeps (changes.Set v) path n text new = IsWrittenOver v.now path n text new
 Keeps (changes.Replace v) path n text new =
     IsWrittenOver v.now path n text new ⊎ (IsRewritten path n text new × AddsNoComment v.now text new)
 Keeps (changes.SetOrAdd v) path n text new = IsWrittenOver v.now path n text new ⊎ IsAdded v.now text new
-Keeps (changes.Rename name) path n text new = AreKeysReplaced path text new
+Keeps (changes.Rename name) path n text new = AreKeysReplaced name.now path text new
 Keeps changes.Remove path n text new = IsRemoved path n text new × AddsNoComment [] text new
 Keeps (changes.Add v) path n text new = IsAdded v.now text new
 Keeps changes.AddTable path n text new = IsAdded [] text new

@@ -4,6 +4,7 @@ pub mod Paths
 pub mod Comments
 pub mod Kept
 pub mod Edited
+pub mod Reasons
 pub mod Refused
 pub mod Drafts
 pub mod Listed

@@ -19,6 +19,7 @@ use Rattle.toml_span_edit.specs.Edited.{EditsMade}
 use Rattle.toml_span_edit.specs.Kept.{IsWrittenOver, Keeps}
 use Rattle.toml_span_edit.specs.Made.{at, child, within}
 use Rattle.toml_span_edit.specs.Paths.{Path, Splits, found}
+use Rattle.toml_span_edit.specs.Reasons.{fault_text}
 use Rattle.toml_span_edit.specs.Same.{same}
 use Rattle.toml_span_edit.specs.declared.edits.Change.{Change}
 use Rattle.toml_span_edit.specs.declared.edits.Change.TheVariants as changes
@@ -30,6 +31,11 @@ use Rattle.toml_span_edit.specs.declared.reason.Reason.TheVariants as reasons
 -- The text is not a document: parsing it fails with this error.
 abbrev pub IsInvalid : List ℕ → Type 0
 IsInvalid text = (error : Error) × IsRefusal text depth_limit (stops.Fault error)
+
+-- The text is not a document, and this is the text of the error with which parsing it fails.
+abbrev pub IsInvalidAs : List ℕ → List ℕ → Type 0
+IsInvalidAs fault text =
+    (error : Error) × IsRefusal text depth_limit (stops.Fault error) × (fault ≡ fault_text error)
 
 abbrev pub is_there : Path → Node → Bool
 is_there path n = is_some (found path n)
@@ -61,12 +67,12 @@ abbrev pub is_move : Change → Bool
 is_move (changes.MoveTo target) = true
 is_move _ = false
 
--- The text that the edit would write keeps what the change must keep, but it is not a document. Nothing is said of
--- moves.
-abbrev pub IsWrittenInvalid : Change → Path → Node → List ℕ → Type 0
-IsWrittenInvalid change path n text =
+-- The text that the edit would write keeps what the change must keep, but it is not a document, for this error. Nothing
+-- is said of moves.
+abbrev pub IsWrittenInvalid : List ℕ → Change → Path → Node → List ℕ → Type 0
+IsWrittenInvalid fault change path n text =
     (is_move change ≡ true)
-    ⊎ ((new : List ℕ) × Keeps change path n text new × IsInvalid new)
+    ⊎ ((new : List ℕ) × Keeps change path n text new × IsInvalidAs fault new)
 
 -- The reason is true of this change of the document `text`, whose tree is `n`. Nothing is said of the reasons that are
 -- not named here.
@@ -76,7 +82,7 @@ IsTrueReason reasons.Nothing change path n text = is_there path n ≡ false
 IsTrueReason reasons.Root change path n text = path ≡ []
 IsTrueReason reasons.NotLiteral change path n text = is_container_at path n ≡ true
 IsTrueReason (reasons.AlreadyThere s) change path n text = IsTaken change path n
-IsTrueReason (reasons.ResultInvalid s) change path n text = IsWrittenInvalid change path n text
+IsTrueReason (reasons.ResultInvalid s) change path n text = IsWrittenInvalid (string_bytes s) change path n text
 IsTrueReason _ change path n text = ⊤
 
 -- ---- edits that are not refused
@@ -119,9 +125,9 @@ UnlessMemory P (stops.Fault reason) = P
 
 -- ---- refusals
 
--- The text is not a document, and this reason says so.
+-- The text is not a document, and this reason says so, with the text of the error.
 abbrev pub IsOfText : Reason → List ℕ → Type 0
-IsOfText (reasons.InvalidDocument fault) text = IsInvalid text
+IsOfText (reasons.InvalidDocument fault) text = IsInvalidAs (string_bytes fault) text
 IsOfText _ text = ⊥
 
 -- The text is not a document, and the reason says so. Or an allocation failed.
@@ -130,7 +136,7 @@ IsUnread text (stops.Memory error) = ⊤
 IsUnread text (stops.Fault reason) = IsOfText reason text
 
 abbrev pub IsOfResult : Reason → List ℕ → Type 0
-IsOfResult (reasons.ResultInvalid fault) new = IsInvalid new
+IsOfResult (reasons.ResultInvalid fault) new = IsInvalidAs (string_bytes fault) new
 IsOfResult (reasons.NoValue string) new = ⊤
 IsOfResult reasons.WouldDiffer new = ⊤
 IsOfResult _ new = ⊥

@@ -3,6 +3,7 @@ ghost use Rattle.std.specs.Prelude.{◌≡◌, IfErr, IfOk, map, string_bytes};
 ghost use Rattle.std.specs.Cow.{cow_str_bytes};
 ghost use Rattle.toml_span_edit.specs.Drafts as spec;
 ghost use Rattle.toml_span_edit.specs.Edited.{EditMade};
+ghost use Rattle.toml_span_edit.specs.Reasons.{next};
 ghost use Rattle.toml_span_edit.specs.Refused.{IsRefusedAs};
 
 use crate::edits::{Change, Edit, EditError, refusal};
@@ -32,7 +33,8 @@ pub struct Draft {
 impl Draft {
     /// Returns a draft with a copy of `text`, without edits. Fails if an allocation fails. Does not read `text`.
     pub fn new(alloc: Global, text: &str) -> Result<Self, AllocError>
-        ensures { IfOk result (λ draft. string_bytes draft.text ≡ text.now) }
+        ensures text { IfOk result (λ draft. string_bytes draft.text ≡ text.now) }
+        ensures none { IfOk result (λ draft. draft.count ≡ 0) }
     {
         Ok(Draft {
             alloc,
@@ -48,6 +50,7 @@ impl Draft {
     pub fn edit(self, path: &str, change: Change<'_>) -> Result<Self, Stop<EditError>>
         ensures made { IfOk result (λ draft. spec.IsEditedAt path.now change.entry (string_bytes self.text)
             (string_bytes draft.text)) }
+        ensures counted { IfOk result (λ draft. draft.count ≡ next self.count) }
         ensures refused { IfErr result (spec.IsRefusedAfter self.count path.now change.entry (string_bytes self.text)) }
     {
         let Draft { alloc, text, count } = self;
@@ -64,6 +67,7 @@ impl Draft {
     pub fn set_str(self, path: &str, string: &str) -> Result<Self, Stop<EditError>>
         ensures made { IfOk result (λ draft. spec.IsSetToString path.now string.now (string_bytes self.text)
             (string_bytes draft.text)) }
+        ensures counted { IfOk result (λ draft. draft.count ≡ next self.count) }
         ensures refused { IfErr result (spec.IsStringRefused self.count path.now string.now (string_bytes self.text)) }
     {
         let value = string_text(self.alloc, string)?;

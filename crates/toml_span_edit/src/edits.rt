@@ -1,8 +1,9 @@
 //! Collects edits of a document, and makes them one after the other.
-ghost use Rattle.std.specs.Prelude.{◌≡◌, ◌++◌, IfErr, IfOk, OnOk, [], map, string_bytes};
+ghost use Rattle.std.specs.Prelude.{◌≡◌, ◌++◌, IfErr, IfOk, OnOk, [], Some, map, string_bytes};
 ghost use Rattle.toml_span_edit.specs.Edited as spec;
 ghost use Rattle.toml_span_edit.specs.Refused as refusals;
 ghost use Rattle.toml_span_edit.specs.Listed.{Pushed};
+ghost use Rattle.toml_span_edit.specs.Reasons.{edit_error_text};
 ghost use Rattle.toml_span_edit.specs.declared.edits.Change.TheVariants as changes;
 
 use crate::given::key_text;
@@ -65,6 +66,8 @@ pub struct EditError {
 
 /// Writes the path, unless it is empty, and the reason: `package.version: there is nothing at this path`.
 impl Display for EditError {
+    ghost output = { λ error. Some (edit_error_text error) };
+
     fn fmt<W: Write>(&self, f: &mut Formatter<W>) -> fmt::Result {
         if !self.path.is_empty() {
             write!(f, "{}: ", self.path)?;

@@ -1,19 +1,41 @@
 //! Reads and compares paths: the segments from the root of a tree to a value.
-ghost use Rattle.std.specs.Prelude.{◌≡◌, map};
+ghost use Rattle.std.specs.Prelude.{◌≡◌, IfOk, count_by, map, string_bytes};
+ghost use Rattle.std.specs.Fmt.{is_char_start};
 ghost use Rattle.toml_span_tree.specs.Nodes.{step_of};
 ghost use Rattle.toml_span_edit.specs.Paths as spec;
+ghost use Rattle.toml_span_edit.specs.Reasons.{BeginsWithColumn, column};
 
 use std::alloc::{AllocError, Global};
 use toml_span::value::Step;
 use toml_span_places::PathError;
 use toml_span_tree::pointer::position;
 
+/// Returns the number of characters that begin in `bytes`.
+fn begun(bytes: &[u8]) -> usize
+    ensures { result ≡ count_by is_char_start bytes.now }
+{
+    bytes
+        .iter()
+        .filter(|byte| **byte < 0x80 || **byte >= 0xc0)
+        .count()
+}
+
+/// Returns the column of the byte offset `at` of `path`: the number of characters that begin before it, and one more.
+fn column_of(path: &str, at: usize) -> usize
+    ensures { result ≡ column path.now at }
+{
+    let end = at.min(path.len());
+    begun(&path.as_bytes()[..end]).saturating_add(1)
+}
+
 /// Returns the column and the message of `error`, with which reading `path` failed, such as `column 3: expected a key`.
 /// Columns count characters from 1. Fails if an allocation fails.
-pub fn path_error_text(alloc: Global, path: &str, error: &PathError) -> Result<String, AllocError> {
-    let before = path.char_indices().filter(|(at, _)| *at < error.at).count();
-    let column = before.saturating_add(1);
-    format!(in alloc; "column {column}: {error}")
+pub fn path_error_text(alloc: Global, path: &str, error: &PathError) -> Result<String, AllocError>
+    ensures { IfOk result (λ text. BeginsWithColumn path.now error.now.at (string_bytes text)) }
+{
+    let column = column_of(path, error.at);
+    let message = format!(in alloc; "{error}")?;
+    format!(in alloc; "column {column}: {message}")
 }
 
 /// Returns the segments of `path` after the first `count`. Returns an empty slice if `path` has fewer than `count`

@@ -1,4 +1,7 @@
 //! Why an edit was refused.
+ghost use Rattle.std.specs.Prelude.{◌≡◌, Some};
+ghost use Rattle.toml_span_edit.specs.Reasons.{reason_detail, reason_text, reason_words};
+
 use std::alloc::Global;
 use std::fmt;
 use std::fmt::{Display, Formatter, Write};
@@ -41,7 +44,9 @@ pub enum Reason {
 
 impl Reason {
     /// Returns the reason as text. If `detail` returns a string that is not empty, that string continues this text.
-    pub fn text(&self) -> &'static str {
+    pub fn text(&self) -> &'static str
+        ensures { result.now ≡ reason_words self.now }
+    {
         match self {
             Reason::InvalidDocument(_) => "the file is not valid TOML: ",
             Reason::InvalidPath(_) => "the path is invalid at ",
@@ -73,7 +78,9 @@ impl Reason {
 
     /// Returns the string in the reason, to write after what `text` returns: the place and message of an error, the
     /// place of a value, or the string that was probably meant. Returns an empty string for other reasons.
-    pub fn detail(&self) -> &str {
+    pub fn detail(&self) -> &str
+        ensures { result.now ≡ reason_detail self.now }
+    {
         match self {
             Reason::InvalidDocument(fault) => fault.as_str(),
             Reason::InvalidPath(fault) => fault.as_str(),
@@ -87,6 +94,8 @@ impl Reason {
 
 /// Writes what `text` and `detail` return.
 impl Display for Reason {
+    ghost output = { λ reason. Some (reason_text reason) };
+
     fn fmt<W: Write>(&self, f: &mut Formatter<W>) -> fmt::Result {
         f.write_str(self.text())?;
         f.write_str(self.detail())

@@ -170,7 +170,7 @@ fn check_keys(document: Document<'_, '_>, path: &[&str]) -> Edited<()> {
 /// if the keys can't be replaced.
 fn rename_keys(document: Document<'_, '_>, path: &[&str], name: &str) -> Edited<String>
     requires { read document.text.now depth_limit (Ok (map parsed_section document.sections.now)) }
-    ensures { IfOk result (λ new. spec.AreKeysReplaced (map (λ s. s.now) path.now) document.entry.text.now
+    ensures { IfOk result (λ new. spec.AreKeysReplaced name.now (map (λ s. s.now) path.now) document.entry.text.now
         (string_bytes new)) }
 {
     check_keys(document, path)?;
@@ -182,7 +182,8 @@ fn rename_keys(document: Document<'_, '_>, path: &[&str], name: &str) -> Edited<
 /// root and for an element of an array, with `Nothing` if `path` names nothing, and with `WouldDiffer` if `text` can't
 /// be split into sections or the keys can't be replaced.
 pub(crate) fn renamed_text(alloc: Global, text: &str, path: &[&str], name: &str) -> Edited<String>
-    ensures { IfOk result (λ new. spec.AreKeysReplaced (map (λ s. s.now) path.now) text.now (string_bytes new)) }
+    ensures { IfOk result (λ new. spec.AreKeysReplaced name.now (map (λ s. s.now) path.now) text.now
+        (string_bytes new)) }
 {
     let sections = sections_of(alloc, text)?;
     let document = Document {

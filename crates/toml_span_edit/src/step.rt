@@ -1,5 +1,5 @@
 //! Makes one edit, and checks that the new tree is the old one with only this change.
-ghost use Rattle.std.specs.Prelude.{◌≡◌, ◌++◌, [], IfErr, IfOk, OnErr, OnOk, true, codes, map, string_bytes};
+ghost use Rattle.std.specs.Prelude.{◌≡◌, ◌++◌, [], IfErr, IfOk, OnOk, true, codes, map, string_bytes};
 ghost use Rattle.std.specs.Prelude.{◌⊎◌};
 ghost use Rattle.toml_span_read.specs.Data.{depth_limit};
 ghost use Rattle.toml_span_tree.specs.Value.{view};
@@ -10,6 +10,7 @@ ghost use Rattle.toml_span_edit.specs.Refused as refusals;
 ghost use Rattle.toml_span_edit.specs.declared.step.Destination.TheVariants.{Here, End};
 ghost use Rattle.toml_span_edit.specs.Comments.{AddsNoComment};
 ghost use Rattle.toml_span_edit.specs.Made.{local};
+ghost use Rattle.toml_span_edit.specs.Reasons.{fault_text};
 
 use crate::comments::check_comments;
 use crate::edits::{Change, Edit};
@@ -36,7 +37,9 @@ pub(crate) enum Destination<'l> {
 }
 
 /// Returns `fault` as text: its line, its column in bytes, and its message. Line and column count from 1.
-fn fault_text(alloc: Global, fault: &Error<'_>) -> Result<String, AllocError> {
+fn fault_text(alloc: Global, fault: &Error<'_>) -> Result<String, AllocError>
+    ensures { IfOk result (λ text. string_bytes text ≡ fault_text fault.now) }
+{
     let (line, column) = fault.line_info.unwrap_or((0, 0));
     let (line, column) = (line.saturating_add(1), column.saturating_add(1));
     format!(in alloc; "{line}:{column}: {fault}")
@@ -48,7 +51,7 @@ pub(crate) fn tree<'t>(
     text: &'t str,
 ) -> Result<Result<Value<'t>, String>, AllocError>
     ensures tree { IfOk result (λ read. IfOk read (λ root. IsTree text.now depth_limit root)) }
-    ensures invalid { IfOk result (λ read. OnErr read (refusals.IsInvalid text.now)) }
+    ensures invalid { IfOk result (λ read. IfErr read (λ fault. refusals.IsInvalidAs (string_bytes fault) text.now)) }
 {
     match parse(alloc, text) {
         Ok(root) => Ok(Ok(root)),
@@ -335,7 +338,7 @@ fn moved_from(
         (view value.now) (view old.now) (string_bytes new)) }
     ensures kept { IfOk result (λ new. (kept.IsInserted base.now (string_bytes new))
         ⊎ ((kept.HasOtherHeaders text.now (string_bytes new))
-        ⊎ (kept.AreKeysReplaced (map (λ s. s.now) path.now) text.now (string_bytes new)))) }
+        ⊎ (kept.HasOtherKey (map (λ s. s.now) path.now) text.now (string_bytes new)))) }
 {
     let rest = rest_of(alloc, base, path, old)?;
     check_target(alloc, text, path, target, &rest, old)?;

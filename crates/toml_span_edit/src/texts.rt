@@ -548,7 +548,7 @@ pub(crate) fn moved_text(
 ) -> Edited<String>
     ensures { IfOk result (λ new. (spec.IsInserted without.now (string_bytes new))
         ⊎ ((spec.HasOtherHeaders text.now (string_bytes new))
-        ⊎ (spec.AreKeysReplaced (map (λ s. s.now) path.now) text.now (string_bytes new)))) }
+        ⊎ (spec.HasOtherKey (map (λ s. s.now) path.now) text.now (string_bytes new)))) }
 {
     if let Some(name) = new_name(alloc, path, target, old)? {
         return renamed_text(alloc, text, path, name);

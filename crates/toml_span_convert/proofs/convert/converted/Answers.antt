@@ -2,14 +2,15 @@ use Rattle.toml_span_lex.proofs.Common.{ℕ, List, subst, sym, string_bytes}
 use Rattle.std.specs.Prelude.{◌⊎◌, Option, String, IfSome}
 use Rattle.std.specs.Global.{Global}
 use Rattle.toml_span_format.specs.Document.{PermutedComments}
-use Rattle.toml_span_convert.specs.Forms.{IsArrayConverted, IsTableConverted}
+use Rattle.toml_span_convert.specs.Converted.{IsArrayLaidOut}
+use Rattle.toml_span_convert.specs.Forms.{IsTableConverted}
 use Rattle.toml_span_convert.proofs.convert.converted.Goals as goal
 
 pub returns-in-Ok : goal.returns-in-Ok
 returns-in-Ok c =
     let text : List ℕ = c.args.text.now in
     let Form : List ℕ → Type 0 =
-    λ new. IsTableConverted c.args.conversion text new ⊎ IsArrayConverted c.args.conversion text new in
+    λ new. IsTableConverted c.args.conversion text new ⊎ IsArrayLaidOut c.args.conversion text new in
     let IsForm : Option (String Global) → Type 0 = λ made. IfSome made (λ new. Form (string_bytes new)) in
     let Comments : List ℕ → Type 0 = λ new. PermutedComments text new in
     let form : Form (string_bytes c.in-Some-2.new) = subst IsForm c.in-Some-2.is c.in_ok-new.ensures in
