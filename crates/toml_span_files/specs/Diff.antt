@@ -1,5 +1,5 @@
 -- The parts into which a comparison splits two texts.
-use Rattle.std.specs.Prelude.{◌≡◌, ℕ, List, [], ◌++◌, ◌⊎◌, codes}
+use Rattle.std.specs.Prelude.{◌≡◌, ℕ, List, []}
 use Rattle.std.specs.List.{flat_map}
 use Rattle.toml_span_files.specs.declared.diff.Part.{Part}
 use Rattle.toml_span_files.specs.declared.diff.Part.TheVariants.{Same, Old, New}
@@ -18,12 +18,3 @@ new_part (New text) = text.now
 pub record Splits (old new : List ℕ) (parts : List Part) : Type 0 where
   pub old_text : flat_map old_part parts ≡ old
   pub new_text : flat_map new_part parts ≡ new
-
--- the two head lines of a difference in the unified format, with the same path
-abbrev pub head_lines : List ℕ → List ℕ
-head_lines name = codes "--- " ++ name ++ codes "\n+++ " ++ name ++ codes "\n"
-
--- The difference of two texts is empty or has head lines. It is empty if the texts are equal.
-pub record IsUnified (name old new out : List ℕ) : Type 0 where
-  pub equal : old ≡ new → out ≡ []
-  pub headed : (out ≡ []) ⊎ ((hunks : List ℕ) × (out ≡ head_lines name ++ hunks))

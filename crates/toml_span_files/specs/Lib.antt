@@ -1,3 +1,2 @@
 pub mod Diff
 pub mod Past
-pub mod Place

@@ -1,12 +1,8 @@
 -- What an edit has done to a file.
-use Rattle.std.specs.Prelude.{◌≡◌, ◌≤◌, ◌<◌, ⊤, ℕ, Bool, true, false, List, [], ◌∷◌, ◌++◌, length, Option, option_map}
-use Rattle.std.specs.Prelude.{MatchOption, Result, Ok, Err, String, string_bytes}
+use Rattle.std.specs.Prelude.{◌≡◌, ◌≤◌, ℕ, Bool, true, false, List, [], ◌∷◌, ◌++◌, length, Option, option_map}
+use Rattle.std.specs.Prelude.{Result, Ok, String, string_bytes}
 use Rattle.std.specs.Global.{Global}
 use Rattle.toml_span_files.specs.declared.TheConstants.{LIMIT}
-use Rattle.toml_span_files.specs.declared.failure.Failed.{Failed}
-use Rattle.toml_span_files.specs.declared.failure.Failed.TheVariants as failed
-use Rattle.toml_span_files.specs.declared.failure.Failure.{Failure}
-use Rattle.toml_span_files.specs.declared.failure.Failure.TheVariants as failures
 
 -- The bytes that the last read returned, the new text that is prepared, and each replacement so far: the bytes that
 -- were read last before it, and the text that replaced them.
@@ -74,25 +70,3 @@ pub record Edits {X : Type 0} (makes : List ℕ → Result (String Global) X →
   pub made : makes bytes (Ok text)
   pub changed : is_changed ≡ true → Replaces old new bytes (string_bytes text) × (length (string_bytes text) ≤ LIMIT)
   pub same : is_changed ≡ false → Keeps old new × (string_bytes text ≡ bytes)
-
--- The failure is not that a text is too long. Steps do not fail in this way.
-abbrev pub IsOfStep : Failure → Type 0
-IsOfStep failures.TooLong = ⊥
-IsOfStep failures.ResultTooLong = ⊥
-IsOfStep _ = ⊤
-
--- The failure is one of a step, or the new text is longer than the limit, and the failure says so.
-abbrev pub IsNotPut : List ℕ → Failure → Type 0
-IsNotPut text failures.TooLong = ⊥
-IsNotPut text failures.ResultTooLong = LIMIT < length text
-IsNotPut text _ = ⊤
-
--- The file was not edited. If the failure says that the file or the new text is too long, then the bytes that were read
--- last, or the text that the function returned, are longer than the limit. An error of the function is one that it
--- returned. Nothing is said of failed steps.
-abbrev pub IsNotEdited : {X : Type 0} → (List ℕ → Result (String Global) X → Type 0) → Option Texts → Failed X → Type 0
-IsNotEdited makes texts (failed.File failures.TooLong) = MatchOption texts ⊤ (λ t. LIMIT < length t.seen)
-IsNotEdited makes texts (failed.File failures.ResultTooLong) =
-    (bytes : List ℕ) × (text : String Global) × makes bytes (Ok text) × (LIMIT < length (string_bytes text))
-IsNotEdited makes texts (failed.File _) = ⊤
-IsNotEdited makes texts (failed.Edit refused) = (bytes : List ℕ) × makes bytes (Err refused)

@@ -5,9 +5,6 @@
 //! when the run ends. Only the run that has the lock writes, renames and removes the file. So if a file of this name
 //! and mode is not locked, it was left by a run that was interrupted or killed, and the next run removes it. No other
 //! file of this name is ever removed or changed. The new file gets its final mode last, just before it is renamed.
-ghost use Rattle.std.specs.Prelude.{IfErr};
-ghost use Rattle.toml_span_files.specs.Past.{IsOfStep};
-
 use crate::failure::{Failure, unwritten};
 use std::fs::{File, Metadata, OpenOptions, TryLockError};
 use std::io::ErrorKind;
@@ -160,9 +157,7 @@ pub(crate) fn waited(rt: &HostRuntime, file: &File, wait: u64) -> bool {
 /// is not possible yet, and then fails with `Busy` or `Left`. Fails at once with `Taken` if there is a file with this
 /// path that no run has left, and with `Unwritten` if the file can't be created, or if a file that a killed run has
 /// left can't be removed.
-pub(crate) fn lock(rt: &HostRuntime, name: String, wait: u64) -> Result<Beside, Failure>
-    ensures { IfErr result IsOfStep }
-{
+pub(crate) fn lock(rt: &HostRuntime, name: String, wait: u64) -> Result<Beside, Failure> {
     let mut is_left = false;
     for _ in 0..wait.saturating_mul(TRIES).saturating_add(1) {
         match try_lock(rt, name.as_str()).map_err(unwritten)? {

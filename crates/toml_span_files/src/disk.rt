@@ -1,8 +1,6 @@
 //! Reads and replaces a file of the file system.
-ghost use Rattle.std.specs.Prelude.{IfErr, None, OnOk};
-ghost use Rattle.std.specs.Fs.{IsFile, file_type};
-ghost use Rattle.toml_span_files.specs.Past.{IsOfStep, Past};
-ghost use Rattle.toml_span_files.specs.Place.{IsEditable, IsNotRegular, IsRefused};
+ghost use Rattle.std.specs.Prelude.{None};
+ghost use Rattle.toml_span_files.specs.Past.{Past};
 
 use crate::LIMIT;
 use crate::beside::{Beside, is_same, lock, waited};
@@ -68,11 +66,7 @@ pub struct Disk<'r> {
 }
 
 /// Checks that `found` is the metadata of a regular file. Fails with `Directory` or `NotRegular` if not.
-fn check_kind(found: &Metadata) -> Result<(), Failure>
-    ensures regular { OnOk result (IsFile (file_type found.now)) }
-    ensures other { IfErr result (IsNotRegular found.now) }
-    ensures step { IfErr result IsOfStep }
-{
+fn check_kind(found: &Metadata) -> Result<(), Failure> {
     if found.is_dir() {
         Err(Failure::Directory)
     } else if found.is_file() {
@@ -85,11 +79,7 @@ fn check_kind(found: &Metadata) -> Result<(), Failure>
 /// Checks that a file with the metadata `found` may be edited. Fails if it is not a regular file (`check_kind`). Fails
 /// with `ReadOnly` if it is read-only, unless `is_forced` is set, and with `Linked` if it has other hard links, unless
 /// `is_in_place` is set.
-fn check(found: &Metadata, options: Options) -> Result<(), Failure>
-    ensures editable { OnOk result (IsEditable found.now options) }
-    ensures refused { IfErr result (IsRefused found.now options) }
-    ensures step { IfErr result IsOfStep }
-{
+fn check(found: &Metadata, options: Options) -> Result<(), Failure> {
     check_kind(found)?;
     if found.permissions().readonly() && !options.is_forced {
         return Err(Failure::ReadOnly);
@@ -116,10 +106,7 @@ fn is_closed(failure: &Failure) -> bool {
 fn beside_or_none(
     locked: Result<Beside, Failure>,
     options: Options,
-) -> Result<Option<Beside>, Failure>
-    requires { IfErr locked IsOfStep }
-    ensures { IfErr result IsOfStep }
-{
+) -> Result<Option<Beside>, Failure> {
     match locked {
         Ok(beside) => Ok(Some(beside)),
         Err(failure) => {
@@ -135,9 +122,7 @@ fn beside_or_none(
 /// Gives the new file `file` the owner and group of the old file, whose metadata is `found`. Returns the mode for the
 /// new file. If the owner or group can't be kept, fails with `Owner` or, if `may_change_owner` is set, returns only
 /// the permission bits of the mode, without set-id bits. Fails with `Unwritten` if the metadata of `file` can't be read.
-fn keep_owner(file: &File, found: &Metadata, may_change_owner: bool) -> Result<u32, Failure>
-    ensures { IfErr result IsOfStep }
-{
+fn keep_owner(file: &File, found: &Metadata, may_change_owner: bool) -> Result<u32, Failure> {
     let new = file.metadata().map_err(unwritten)?;
     let mode = found.permissions().mode();
     if new.uid() == found.uid() && new.gid() == found.gid() {
@@ -158,18 +143,14 @@ fn fill(
     found: &Metadata,
     text: &[u8],
     may_change_owner: bool,
-) -> Result<u32, Failure>
-    ensures { IfErr result IsOfStep }
-{
+) -> Result<u32, Failure> {
     file.write_all(text).map_err(unwritten)?;
     file.sync_all().map_err(unwritten)?;
     keep_owner(file, found, may_change_owner)
 }
 
 /// Reads a file, up to its end or until more than `LIMIT` bytes have been read. Fails with `Unread` if a read fails.
-fn front_of(alloc: Global, file: &mut File) -> Result<Vec<u8>, Failure>
-    ensures { IfErr result IsOfStep }
-{
+fn front_of(alloc: Global, file: &mut File) -> Result<Vec<u8>, Failure> {
     let mut bytes = Vec::new(alloc);
     let mut buf = [0u8; 8192];
     for _ in 0..u64::MAX {
@@ -189,9 +170,7 @@ fn front_of(alloc: Global, file: &mut File) -> Result<Vec<u8>, Failure>
 /// Appends the bytes of `text` beyond the file's length to the file. A full disk is then noticed while the old bytes
 /// are still there. Fails with `Unwritten` if the file can't be examined or extended; the file then has its old length.
 /// Fails with `Damaged` if the file can neither be extended nor be cut back to its old length.
-fn extend(file: &mut File, text: &[u8]) -> Result<(), Failure>
-    ensures { IfErr result IsOfStep }
-{
+fn extend(file: &mut File, text: &[u8]) -> Result<(), Failure> {
     let length = file.metadata().map_err(unwritten)?.len();
     let tail = text
         .get(usize::try_from(length).unwrap_or(usize::MAX)..)
@@ -219,9 +198,7 @@ impl<'r> Disk<'r> {
     /// Returns the file with the path `name` or, if that is a link, the file to which the link finally leads. Fails
     /// with `Unread` if a path can't be examined, or if `name` leads through more than 40 links. Fails with `Memory` if
     /// an allocation fails.
-    pub fn new(rt: &'r HostRuntime, name: &str, options: Options) -> Result<Disk<'r>, Failure>
-        ensures { IfErr result IsOfStep }
-    {
+    pub fn new(rt: &'r HostRuntime, name: &str, options: Options) -> Result<Disk<'r>, Failure> {
         Ok(Disk {
             rt,
             place: place_of(rt, name)?,
@@ -239,9 +216,7 @@ impl<'r> Disk<'r> {
     /// Opens the file to write it in place, and locks it, since the new file, which is otherwise the lock, may not have
     /// been created. Returns the open file. Fails with `Unwritten` if the file can't be opened, and with `Busy` if
     /// another run keeps it locked.
-    fn open_in_place(&self) -> Result<File, Failure>
-        ensures { IfErr result IsOfStep }
-    {
+    fn open_in_place(&self) -> Result<File, Failure> {
         let mut options = OpenOptions::new();
         let open = options
             .read(true)
@@ -256,9 +231,7 @@ impl<'r> Disk<'r> {
 
     /// Opens the file for reading. Returns it with its metadata. Fails if it is not a regular file, or with `Changed`
     /// if another file was opened before.
-    fn open_to_read(&self) -> Result<(File, Metadata), Failure>
-        ensures { IfErr result IsOfStep }
-    {
+    fn open_to_read(&self) -> Result<(File, Metadata), Failure> {
         let place = self.place.as_str();
         // (to open a pipe would be to wait for a writer)
         check_kind(&fs::metadata(self.rt, place).map_err(unread)?)?;

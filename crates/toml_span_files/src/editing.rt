@@ -1,7 +1,7 @@
 //! Edits a file step by step.
-ghost use Rattle.std.specs.Prelude.{IfErr, IfOk, OnOk, OnErr, None};
+ghost use Rattle.std.specs.Prelude.{IfOk, OnOk, OnErr, None};
 ghost use Rattle.std.specs.Fn.{FnOnceReturnsAt};
-ghost use Rattle.toml_span_files.specs.Past.{Edits, IsLocked, IsNotEdited, IsNotPut, IsOfStep, Keeps, Replaces};
+ghost use Rattle.toml_span_files.specs.Past.{Edits, IsLocked, Keeps, Replaces};
 
 use crate::LIMIT;
 use crate::disk::{Disk, Options};
@@ -14,7 +14,6 @@ fn replace<S: Steps>(steps: &mut S, bytes: &[u8], text: &[u8]) -> Result<(), Fai
     requires locked { IsLocked (S.past steps.old) }
     ensures ok { OnOk result (Replaces (S.past steps.old).texts (S.past steps.new).texts bytes.now text.now) }
     ensures err { OnErr result (Keeps (S.past steps.old).texts (S.past steps.new).texts) }
-    ensures step { IfErr result IsOfStep }
 {
     steps.prepare(text)?;
     let now = steps.read()?;
@@ -35,7 +34,6 @@ fn attempt<S: Steps, X, F: FnOnce(&[u8]) -> Result<String, X>>(
     ensures ok { IfOk result (λ is_changed. Edits (FnOnceReturnsAt F.FnOnce make) is_changed
         (S.past steps.old).texts (S.past steps.new).texts) }
     ensures err { OnErr result (Keeps (S.past steps.old).texts (S.past steps.new).texts) }
-    ensures why { IfErr result (IsNotEdited (FnOnceReturnsAt F.FnOnce make) (S.past steps.new).texts) }
 {
     let bytes = steps.read()?;
     if bytes.len() > LIMIT {
@@ -62,7 +60,6 @@ fn put_read<S: Steps>(steps: &mut S, bytes: &[u8], text: &str) -> Result<(), Fai
     requires locked { IsLocked (S.past steps.old) }
     ensures ok { OnOk result (Replaces (S.past steps.old).texts (S.past steps.new).texts bytes.now text.now) }
     ensures err { OnErr result (Keeps (S.past steps.old).texts (S.past steps.new).texts) }
-    ensures why { IfErr result (IsNotPut text.now) }
 {
     if text.len() > LIMIT {
         return Err(Failure::ResultTooLong);
@@ -92,7 +89,6 @@ pub fn edit<S: Steps, X, F: FnOnce(&[u8]) -> Result<String, X>>(
     ensures ok { IfOk result (λ is_changed. Edits (FnOnceReturnsAt F.FnOnce make) is_changed
         (S.past steps.old).texts (S.past steps.new).texts) }
     ensures err { OnErr result (Keeps (S.past steps.old).texts (S.past steps.new).texts) }
-    ensures why { IfErr result (IsNotEdited (FnOnceReturnsAt F.FnOnce make) (S.past steps.new).texts) }
 {
     if let Err(failure) = steps.begin() {
         steps.discard();
@@ -113,8 +109,7 @@ pub fn edit_file<X, F: FnOnce(&[u8]) -> Result<String, X>>(
     make: F,
 ) -> Result<bool, Failed<X>>
     requires { F.IsAlwaysCallable make }
-    ensures ok { IfOk result (λ is_changed. Edits (FnOnceReturnsAt F.FnOnce make) is_changed None None) }
-    ensures why { IfErr result (IsNotEdited (FnOnceReturnsAt F.FnOnce make) None) }
+    ensures { IfOk result (λ is_changed. Edits (FnOnceReturnsAt F.FnOnce make) is_changed None None) }
 {
     let mut disk = Disk::new(rt, name, options)?;
     edit(&mut disk, make)
@@ -126,7 +121,6 @@ pub fn edit_file<X, F: FnOnce(&[u8]) -> Result<String, X>>(
 pub fn put<S: Steps>(steps: &mut S, bytes: &[u8], text: &str) -> Result<(), Failure>
     ensures ok { OnOk result (Replaces (S.past steps.old).texts (S.past steps.new).texts bytes.now text.now) }
     ensures err { OnErr result (Keeps (S.past steps.old).texts (S.past steps.new).texts) }
-    ensures why { IfErr result (IsNotPut text.now) }
 {
     if let Err(failure) = steps.begin() {
         steps.discard();
@@ -145,9 +139,7 @@ pub fn put_file(
     options: Options,
     bytes: &[u8],
     text: &str,
-) -> Result<(), Failure>
-    ensures { IfErr result (IsNotPut text.now) }
-{
+) -> Result<(), Failure> {
     let mut disk = Disk::new(rt, name, options)?;
     put(&mut disk, bytes, text)
 }

@@ -1,7 +1,4 @@
 //! Why a file could not be edited.
-ghost use Rattle.std.specs.Prelude.{◌≡◌};
-ghost use Rattle.toml_span_files.specs.Past.{IsOfStep};
-
 use std::alloc::{AllocError, AllocFailed};
 use std::fmt::{Display, Formatter, Write};
 use std::io::ErrorKind;
@@ -55,33 +52,25 @@ pub enum Failed<X> {
 }
 
 impl<X> From<Failure> for Failed<X> {
-    fn from(failure: Failure) -> Failed<X>
-        ensures { result ≡ Failed.File failure }
-    {
+    fn from(failure: Failure) -> Failed<X> {
         Failed::File(failure)
     }
 }
 
 impl From<AllocError> for Failure {
-    fn from(_error: AllocError) -> Failure
-        ensures { result ≡ Failure.Memory }
-    {
+    fn from(_error: AllocError) -> Failure {
         Failure::Memory
     }
 }
 
 impl<T: Drop> From<AllocFailed<T>> for Failure {
-    fn from(_error: AllocFailed<T>) -> Failure
-        ensures { result ≡ Failure.Memory }
-    {
+    fn from(_error: AllocFailed<T>) -> Failure {
         Failure::Memory
     }
 }
 
 /// Returns the failure for an error of a read: `Memory` if an allocation failed, otherwise `Unread`.
-pub(crate) fn unread(error: io::Error) -> Failure
-    ensures { IsOfStep result }
-{
+pub(crate) fn unread(error: io::Error) -> Failure {
     match error.kind() {
         ErrorKind::OutOfMemory => Failure::Memory,
         _ => Failure::Unread(error),
@@ -89,9 +78,7 @@ pub(crate) fn unread(error: io::Error) -> Failure
 }
 
 /// Returns the failure for an error of a write: `Memory` if an allocation failed, otherwise `Unwritten`.
-pub(crate) fn unwritten(error: io::Error) -> Failure
-    ensures { IsOfStep result }
-{
+pub(crate) fn unwritten(error: io::Error) -> Failure {
     match error.kind() {
         ErrorKind::OutOfMemory => Failure::Memory,
         _ => Failure::Unwritten(error),

@@ -1,7 +1,4 @@
 //! Formats differences in the unified format.
-ghost use Rattle.std.specs.Prelude.{IfOk, string_bytes};
-ghost use Rattle.toml_span_files.specs.Diff.{IsUnified};
-
 use crate::diff::{Part, parts};
 use std::alloc::{AllocError, Global};
 use std::fmt::Write;
@@ -153,12 +150,7 @@ impl<'t> Hunks<'t> {
 /// Returns the difference of two texts in the unified format, with three lines of context, or an empty text if they are
 /// equal. Both head lines have `name` as the path. Nothing is escaped, so the result may have control characters. Fails
 /// if an allocation fails.
-pub fn unified(alloc: Global, name: &str, old: &str, new: &str) -> Result<String, AllocError>
-    ensures { IfOk result (λ out. IsUnified name.now old.now new.now (string_bytes out)) }
-{
-    if old == new {
-        return Ok(String::new(alloc));
-    }
+pub fn unified(alloc: Global, name: &str, old: &str, new: &str) -> Result<String, AllocError> {
     let parts = parts(alloc, old, new)?;
     let none = Range {
         before: 0,

@@ -1,8 +1,4 @@
 //! The path of the file to edit, after its links have been followed, and the path of the new file.
-ghost use Rattle.std.specs.Prelude.{◌≡◌, IfErr, IfOk, string_bytes};
-ghost use Rattle.toml_span_files.specs.Past.{IsOfStep};
-ghost use Rattle.toml_span_files.specs.Place as spec;
-
 use crate::failure::{Failure, unread};
 use std::alloc::{AllocError, Global};
 use std::io::ErrorKind;
@@ -19,11 +15,12 @@ const KEPT: usize = 128;
 
 /// Splits a path after its last slash, and returns the directory, with the slash, and the name. Without a slash, the
 /// directory is empty.
-fn split(name: &str) -> (&str, &str)
-    ensures { (result.0.now ≡ spec.folder_of name.now) × (result.1.now ≡ spec.name_of name.now) }
-{
+fn split(name: &str) -> (&str, &str) {
     match name.rsplit_once('/') {
-        Some((_, rest)) => name.split_at(name.len() - rest.len()),
+        Some((folder, rest)) => (
+            name.get(..folder.len().saturating_add(1)).unwrap_or(""),
+            rest,
+        ),
         None => ("", name),
     }
 }
@@ -38,9 +35,7 @@ pub(crate) fn folder(place: &str) -> &str {
 
 /// Returns the path to which a link leads. `link` is the path of the link, and `target` the path that the link
 /// contains. A relative `target` starts from the directory of `link`.
-fn led_to(alloc: Global, link: &str, target: &str) -> Result<String, AllocError>
-    ensures { IfOk result (λ place. string_bytes place ≡ spec.led_to link.now target.now) }
-{
+fn led_to(alloc: Global, link: &str, target: &str) -> Result<String, AllocError> {
     if target.starts_with('/') {
         return String::from_str(alloc, target);
     }
@@ -51,9 +46,7 @@ fn led_to(alloc: Global, link: &str, target: &str) -> Result<String, AllocError>
 
 /// Follows the links of a path, and returns the path of the file or directory to which they finally lead. Fails with
 /// `Unread` if a path can't be examined, or if `name` leads through more than 40 links.
-pub(crate) fn place_of(rt: &HostRuntime, name: &str) -> Result<String, Failure>
-    ensures { IfErr result IsOfStep }
-{
+pub(crate) fn place_of(rt: &HostRuntime, name: &str) -> Result<String, Failure> {
     let mut place = String::from_str(rt.alloc(), name)?;
     for _ in 0..PATHS {
         let found = fs::symlink_metadata(rt, place.as_str()).map_err(unread)?;
