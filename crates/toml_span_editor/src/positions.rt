@@ -1,5 +1,5 @@
 //! Positions in a text, as the Language Server Protocol counts them.
-ghost use Rattle.std.specs.Prelude.{◌≡◌, ◌+◌, ◌-◌, ◌≤◌, drop, length, slice_index};
+ghost use Rattle.std.specs.Prelude.{◌≡◌, ◌+◌, ◌-◌, ◌<◌, ◌≤◌, drop, length, slice_index};
 ghost use Rattle.std.specs.Str.{IsCharBoundary};
 ghost use Rattle.toml_span_editor.specs.Positions as spec;
 
@@ -83,19 +83,22 @@ fn ends_line(byte: u8, next: u8) -> bool
     byte == b'\n' || (byte == b'\r' && next != b'\n')
 }
 
+/// Returns whether a line ends with the byte at the offset `at`.
+fn ends_line_at(text: &str, at: usize) -> bool
+    requires { at < length text.now }
+    ensures { result ≡ spec.ends_line (slice_index text.now at) (slice_index text.now (at + 1)) }
+{
+    let byte = byte_at(text, at);
+    byte == b'\n' || (byte == b'\r' && byte_at(text, at + 1) != b'\n')
+}
+
 /// Returns the position after `byte`, which is at `position` and before the byte `next`. A CR before LF does not change
 /// the position.
 fn after(encoding: Encoding, position: Position, byte: u8, next: u8) -> Position
     ensures { result ≡ spec.after encoding position byte next }
 {
     let Position { line, character } = position;
-    if byte >= b' ' && byte <= b'~' {
-        // (one test for most bytes)
-        Position {
-            line,
-            character: plus(character, 1),
-        }
-    } else if ends_line(byte, next) {
+    if ends_line(byte, next) {
         Position {
             line: plus(line, 1),
             character: 0,
@@ -108,6 +111,23 @@ fn after(encoding: Encoding, position: Position, byte: u8, next: u8) -> Position
             character: plus(character, units(encoding, byte)),
         }
     }
+}
+
+/// Returns the position after the byte at the offset `at`, which is at `position`.
+fn stepped(encoding: Encoding, text: &str, position: Position, at: usize) -> Position
+    requires { at < length text.now }
+    ensures { result ≡ spec.after encoding position (slice_index text.now at) (slice_index text.now (at + 1)) }
+{
+    let byte = byte_at(text, at);
+    if byte >= b' ' && byte <= b'~' {
+        // (one test for most bytes)
+        let Position { line, character } = position;
+        return Position {
+            line,
+            character: plus(character, 1),
+        };
+    }
+    after(encoding, position, byte, byte_at(text, at + 1))
 }
 
 /// Returns the position of the byte offset `to`, given the `position` of the byte offset `from`. Returns `position` if
@@ -123,8 +143,7 @@ pub(crate) fn advanced(
 {
     let mut position = position;
     for at in from..to.min(text.len()) {
-        let next = byte_at(text, at + 1);
-        position = after(encoding, position, byte_at(text, at), next);
+        position = stepped(encoding, text, position, at);
     }
     position
 }
@@ -146,7 +165,7 @@ pub fn line_start(text: &str, line: usize) -> usize
     let mut left = line;
     let mut at = 0;
     'lines: while left > 0 && at < text.len() {
-        if ends_line(byte_at(text, at), byte_at(text, at + 1)) {
+        if ends_line_at(text, at) {
             left -= 1;
         }
         at += 1;

@@ -1,10 +1,10 @@
-use Rattle.toml_span_lex.proofs.Common.{◌<◌, ◌≤◌, ◌⊎◌, length, inl, inr, sym, ◌∙◌, arith, cases_lt}
+use Rattle.toml_span_lex.proofs.Common.{◌<◌, ◌≤◌, ◌⊎◌, length, inl, inr, sym, refl, ◌∙◌, arith, cases_lt}
 use Rattle.toml_span_editor.proofs.PositionLemmas.{position_from-next, position_from-done}
 use Rattle.toml_span_editor.proofs.positions.advanced.Goals as goal
 
 pub loop-at-preserved : goal.loop-at-preserved
 loop-at-preserved c =
-    position_from-next c.args.encoding c.loop-at.position c.after-position.result c.args.text.now c.loop-at.at c.args.to c.byte_at.result c.byte_at-next.result (omega arith) (omega arith) c.byte_at.ensures c.byte_at-next.ensures c.after-position.ensures
+    position_from-next c.args.encoding c.loop-at.position c.stepped-position.result c.args.text.now c.loop-at.at c.args.to _ _ (omega arith) (omega arith) refl refl c.stepped-position.ensures
     ∙ c.loop-at.invariant
 
 pub returns : goal.returns
