@@ -8,9 +8,11 @@ use toml_span_editor::document::Document;
 use toml_span_editor::folding::folds;
 use toml_span_editor::keys::mentions;
 use toml_span_editor::outline::{Symbol, outline};
+use toml_span_editor::positions::Range;
 use toml_span_editor::selection::selections;
 use toml_span_editor::syntax::Syntax;
 use toml_span_editor::table::PositionTable;
+use toml_span_lex::span::Span;
 
 /// Returns the number for the kind of a value (LSP 3.17, SymbolKind).
 fn symbol_kind(kind: &str) -> usize {
@@ -33,13 +35,27 @@ fn name_of(symbol: &Symbol) -> &str {
     }
 }
 
+/// Returns the range of the selection of a symbol with the range `whole`. Most symbols begin with their selection.
+fn selection_range(table: &PositionTable<'_>, symbol: &Symbol, whole: Range) -> Range {
+    let Span { start, end } = symbol.selection;
+    Range {
+        start: if start == symbol.span.start {
+            whole.start
+        } else {
+            table.position(start)
+        },
+        end: table.position(end),
+    }
+}
+
 /// Writes a symbol and the symbols inside it.
 fn write_symbol(out: &mut Json, table: &PositionTable<'_>, symbol: &Symbol) {
+    let whole = table.range(symbol.span);
     out.begin_object();
     out.text("name", name_of(symbol));
     out.number("kind", symbol_kind(symbol.kind));
-    out.range("range", table.range(symbol.span));
-    out.range("selectionRange", table.range(symbol.selection));
+    out.range("range", whole);
+    out.range("selectionRange", selection_range(table, symbol, whole));
     if !symbol.children.is_empty() {
         out.array("children");
         for child in &symbol.children {
