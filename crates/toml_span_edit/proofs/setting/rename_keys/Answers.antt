@@ -11,7 +11,7 @@ returns c =
     let text = c.args.document.text.now in
     let sections = map parsed_section c.args.document.sections.now in
     let spans = keys_at (map (λ s. s.now) c.args.path.now) (document_keys text sections) in
-    let same = sym (c.as_str.ensures.value ∙ c.in_ok-key.ensures) in
+    let same = sym (c.as_str.ensures.value ∙ c.in_ok-key.ensures.spelling) in
     if_ok _ _
     (λ new is. (sections, c.requires, ap (λ (key : List ℕ). replaced text (map (λ span. (span, key)) spans)) same ∙ is))
     c.with_key.result c.with_key.ensures
