@@ -1,6 +1,8 @@
 //! Reads and replaces a file of the file system.
-ghost use Rattle.std.specs.Prelude.{None};
+ghost use Rattle.std.specs.Prelude.{IfErr, None, OnOk};
+ghost use Rattle.std.specs.Fs.{IsFile, file_type};
 ghost use Rattle.toml_span_files.specs.Past.{Past};
+ghost use Rattle.toml_span_files.specs.Place.{IsEditable, IsNotRegular, IsRefused};
 
 use crate::LIMIT;
 use crate::beside::{Beside, is_same, lock, waited};
@@ -66,7 +68,10 @@ pub struct Disk<'r> {
 }
 
 /// Checks that `found` is the metadata of a regular file. Fails with `Directory` or `NotRegular` if not.
-fn check_kind(found: &Metadata) -> Result<(), Failure> {
+fn check_kind(found: &Metadata) -> Result<(), Failure>
+    ensures regular { OnOk result (IsFile (file_type found.now)) }
+    ensures other { IfErr result (IsNotRegular found.now) }
+{
     if found.is_dir() {
         Err(Failure::Directory)
     } else if found.is_file() {
@@ -79,7 +84,10 @@ fn check_kind(found: &Metadata) -> Result<(), Failure> {
 /// Checks that a file with the metadata `found` may be edited. Fails if it is not a regular file (`check_kind`). Fails
 /// with `ReadOnly` if it is read-only, unless `is_forced` is set, and with `Linked` if it has other hard links, unless
 /// `is_in_place` is set.
-fn check(found: &Metadata, options: Options) -> Result<(), Failure> {
+fn check(found: &Metadata, options: Options) -> Result<(), Failure>
+    ensures editable { OnOk result (IsEditable found.now options) }
+    ensures refused { IfErr result (IsRefused found.now options) }
+{
     check_kind(found)?;
     if found.permissions().readonly() && !options.is_forced {
         return Err(Failure::ReadOnly);

@@ -1,4 +1,7 @@
 //! The path of the file to edit, after its links have been followed, and the path of the new file.
+ghost use Rattle.std.specs.Prelude.{◌≡◌, IfOk, string_bytes};
+ghost use Rattle.toml_span_files.specs.Place as spec;
+
 use crate::failure::{Failure, unread};
 use std::alloc::{AllocError, Global};
 use std::io::ErrorKind;
@@ -15,12 +18,11 @@ const KEPT: usize = 128;
 
 /// Splits a path after its last slash, and returns the directory, with the slash, and the name. Without a slash, the
 /// directory is empty.
-fn split(name: &str) -> (&str, &str) {
+fn split(name: &str) -> (&str, &str)
+    ensures { (result.0.now ≡ spec.folder_of name.now) × (result.1.now ≡ spec.name_of name.now) }
+{
     match name.rsplit_once('/') {
-        Some((folder, rest)) => (
-            name.get(..folder.len().saturating_add(1)).unwrap_or(""),
-            rest,
-        ),
+        Some((_, rest)) => name.split_at(name.len() - rest.len()),
         None => ("", name),
     }
 }
@@ -35,7 +37,9 @@ pub(crate) fn folder(place: &str) -> &str {
 
 /// Returns the path to which a link leads. `link` is the path of the link, and `target` the path that the link
 /// contains. A relative `target` starts from the directory of `link`.
-fn led_to(alloc: Global, link: &str, target: &str) -> Result<String, AllocError> {
+fn led_to(alloc: Global, link: &str, target: &str) -> Result<String, AllocError>
+    ensures { IfOk result (λ place. string_bytes place ≡ spec.led_to link.now target.now) }
+{
     if target.starts_with('/') {
         return String::from_str(alloc, target);
     }

@@ -8,5 +8,7 @@ pub returns : goal.returns
 returns c =
     let message = string_bytes c.in_ok-message.message in
     if_ok _ _
-    (λ text is. (message, is ∙ ap (λ (n : ℕ). codes "column " ++ (decimal n ++ (codes ": " ++ message))) c.column_of-column.ensures))
+    (λ text is.
+    let same = ap (λ (n : ℕ). codes "column " ++ (decimal n ++ (codes ": " ++ message))) c.column_of-column.ensures in
+    (message, is ∙ same))
     c.format-2.result c.format-2.ensures.ok
