@@ -96,12 +96,7 @@ fn are_texts(texts: &[String], items: &[Json<'_>]) -> bool
 }
 
 /// Returns whether the entry at position `at` has this name and the strings `items`.
-fn is_list_at(
-    entries: &[(String, Vec<String>)],
-    at: usize,
-    name: &str,
-    items: &[Json<'_>],
-) -> bool
+fn is_list_at(entries: &[(String, Vec<String>)], at: usize, name: &str, items: &[Json<'_>]) -> bool
     ensures { result ≡ spec.is_list (slice_get entries.now at) name.now (items_view items.now) }
 {
     match entries.get(at) {

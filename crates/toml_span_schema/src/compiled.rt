@@ -1,5 +1,5 @@
-//! Checks that a compiled schema has lost no keyword or value of its JSON. Drafts are numbered 4, 6, 7, 19 and 20. In the
-//! methods of a schema, `left` is the number of subschemas that may still be nested.
+//! Checks that a compiled schema has lost no keyword or value of its JSON. Drafts are numbered 4, 6, 7, 19 and 20. In
+//! the methods of a schema, `left` is the number of subschemas that may still be nested.
 ghost use Rattle.std.specs.Prelude.{◌≡◌, [], IfOk, IsSomeAnd, OnOk, Some, codes, map, option_map, slice_get, true};
 ghost use Rattle.std.specs.Option.{is_some};
 ghost use Rattle.json.specs.Find.{get};
@@ -439,7 +439,7 @@ impl Schema {
                 items.as_slice(),
             ),
             Some(Json::Object(members)) if part.1 => {
-                self.members_lead(draft, left, part.0, keywords, members.as_slice())
+                Ok(self.members_lead(draft, left, part.0, keywords, members.as_slice())?)
             }
             Some(value) => self.leads(
                 draft,
