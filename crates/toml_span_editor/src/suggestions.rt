@@ -376,6 +376,15 @@ pub(crate) fn value_suggestion(
     })
 }
 
+/// Returns what is said of a value: whether it is the default.
+fn default_mark(literal: &str, default: Option<&str>) -> &'static str {
+    if default == Some(literal) {
+        "default"
+    } else {
+        ""
+    }
+}
+
 /// Returns suggestions of these values, one of which may be the default.
 fn listed_suggestions<'l>(
     alloc: Global,
@@ -388,11 +397,7 @@ fn listed_suggestions<'l>(
     let (literals, is_incomplete) = narrowed(alloc, literals, site)?;
     let mut suggestions = Vec::new(alloc);
     for literal in literals {
-        let detail = if default == Some(literal) {
-            "default"
-        } else {
-            ""
-        };
+        let detail = default_mark(literal, default);
         let one = value_suggestion(alloc, site, literal, detail)?;
         suggestions.push(one)?;
     }
