@@ -1,16 +1,13 @@
 -- Keys that are missing, and insertions of them.
-use Rattle.std.specs.Prelude.{◌≡◌, ℕ, Bool, false, is_some, List, [], ◌∷◌, ◌++◌, map, option_and_then, string_bytes}
+use Rattle.std.specs.Prelude.{◌≡◌, ℕ, List, [], ◌∷◌, ◌++◌, map}
 use Rattle.toml_span_edit.specs.Edited.{EditsMade}
 use Rattle.toml_span_edit.specs.declared.edits.Change.{Change}
 use Rattle.toml_span_edit.specs.declared.edits.Change.TheVariants as changes
 use Rattle.toml_span_edit.specs.declared.edits.Edit.{Edit}
-use Rattle.toml_span_editor.specs.Edits.{ChangesInto, edit_content}
-use Rattle.toml_span_editor.specs.Keys.{value_at}
+use Rattle.toml_span_editor.specs.Edits.{ChangesInto}
 use Rattle.toml_span_editor.specs.Renaming.{segment_of}
-use Rattle.toml_span_editor.specs.declared.missing.Insertion.{Insertion}
 use Rattle.toml_span_lex.specs.declared.span.Span.{Span}
-use Rattle.toml_span_tree.specs.Node.{Node}
-use Rattle.toml_span_tree.specs.Path.{Path, child, key}
+use Rattle.toml_span_tree.specs.Path.{Path}
 
 -- The change sets a value to `value`, or adds it if it is missing.
 abbrev pub SetsOrAdds : List ℕ → Change → Type 0
@@ -30,13 +27,3 @@ AddsBy value path text edits = (new : List ℕ) × Adds value path text new × C
 -- the segments of the path of the key `name` in the table at `path`
 abbrev pub segments_to : Path → List ℕ → List (List ℕ)
 segments_to path name = map segment_of path ++ name ∷ []
-
--- whether the tree has a table with the key `name` at `path`
-abbrev pub has_key : Path → List ℕ → Node → Bool
-has_key path name root = is_some (option_and_then (child (key name)) (value_at path root))
-
--- The insertion adds a key that is missing in a table of `text`, whose tree is `root`.
-abbrev pub IsInsertion : List ℕ → Node → Insertion → Type 0
-IsInsertion text root insertion =
-    (path : Path) × (value : List ℕ) × (has_key path (string_bytes insertion.name) root ≡ false)
-    × AddsBy value (segments_to path (string_bytes insertion.name)) text (map edit_content insertion.edits.items)

