@@ -1,6 +1,5 @@
 //! Suggests what can be written at an offset.
 ghost use Rattle.std.specs.Prelude.{◌≡◌, ◌≤◌, IfOk, IfSome, false, length};
-ghost use Rattle.toml_span_editor.specs.Completions.{Replace};
 
 use crate::context::{Context, ExpectedText, NamedStep, context_at};
 use crate::document::{Document, read};
@@ -268,9 +267,7 @@ fn guided(
     guide: &Guide,
     outer: Outer<'_, '_, '_, '_>,
     site: Site<'_>,
-) -> Result<Option<Completion>, AllocError>
-    ensures { IfOk result (λ found. IfSome found (λ made. Replace site.entry.typed made.suggestions.items)) }
-{
+) -> Result<Option<Completion>, AllocError> {
     let found = subschemas_at(alloc, guide, &outer.document.root, outer.steps)?;
     if site.expected == ExpectedText::Value {
         return value_suggestions(alloc, guide, &found, site);
@@ -313,9 +310,7 @@ fn completed(
     guide: Option<&Guide>,
     outer: Outer<'_, '_, '_, '_>,
     site: Site<'_>,
-) -> Result<Completion, AllocError>
-    ensures { IfOk result (λ made. Replace site.entry.typed made.suggestions.items) }
-{
+) -> Result<Completion, AllocError> {
     if let Some(known) = guide {
         if let Some(made) = guided(alloc, known, outer, site)? {
             return Ok(made);
@@ -339,9 +334,7 @@ fn completion_in<'p>(
     document: &'p Document<'_>,
     context: &'p Context<'_>,
     site: Site<'_>,
-) -> Result<Completion, AllocError>
-    ensures { IfOk result (λ made. Replace site.entry.typed made.suggestions.items) }
-{
+) -> Result<Completion, AllocError> {
     let tables = tables_of(alloc, &*document, site.expected)?;
     let steps = steps_of(alloc, &*document, tables.as_slice(), site.at, &*context)?;
     let outer = outer_of(
@@ -363,9 +356,7 @@ fn open_siblings(
     alloc: Global,
     context: &Context<'_>,
     site: Site<'_>,
-) -> Result<Completion, AllocError>
-    ensures { IfOk result (λ made. Replace site.entry.typed made.suggestions.items) }
-{
+) -> Result<Completion, AllocError> {
     let mut made = nothing(alloc);
     let Some(document) = read(alloc, context.front.as_str())? else {
         return Ok(made);

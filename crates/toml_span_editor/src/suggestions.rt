@@ -314,9 +314,7 @@ pub(crate) fn key_suggestions(
     table: &Subschemas,
     outer: Outer<'_, '_, '_, '_>,
     site: Site<'_>,
-) -> Result<Completion, AllocError>
-    ensures { IfOk result (λ made. Replace site.entry.typed made.suggestions.items) }
-{
+) -> Result<Completion, AllocError> {
     let names = new_names(alloc, guide, table, outer, site)?;
     let (names, is_incomplete) = narrowed(alloc, names, site)?;
     let mut suggestions = Vec::new(alloc);
@@ -386,6 +384,7 @@ fn default_mark(literal: &str, default: Option<&str>) -> &'static str {
 }
 
 /// Returns suggestions of these values, one of which may be the default.
+#[tactic(auto, using(crate::proofs::SuggestionLemmas::replace_push))]
 fn listed_suggestions<'l>(
     alloc: Global,
     literals: Vec<&'l str>,
