@@ -1,5 +1,5 @@
 pub mod Headers
-pub mod Lists
+pub mod ListLemmas
 pub mod Params
 pub mod Phases
 pub mod Responses

@@ -204,7 +204,7 @@ fn deny(severity: Severity) -> Severity
 }
 
 /// Turns warnings into errors.
-#[tactic(auto, using(crate::proofs::Lists::set_one))]
+#[tactic(auto, using(crate::proofs::ListLemmas::set_one))]
 fn deny_warnings(diagnostics: &mut Vec<Diagnostic>)
     ensures { diagnostics.new.items ≡ map spec.denied diagnostics.old.items }
 {

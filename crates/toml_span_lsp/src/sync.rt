@@ -18,7 +18,7 @@ use toml_span_lookup::disk::Disk;
 
 /// A change of a text.
 #[derive(Clone, Copy)]
-struct Change<'v> {
+struct TextChange<'v> {
     /// The range to replace, or `None` to replace the whole text.
     range: Option<Range>,
     text: &'v str,
@@ -115,13 +115,13 @@ fn range_in(change: &Value<'_>) -> Result<Option<Range>, ()> {
 fn changes_in<'v>(
     alloc: Global,
     changes: &'v [Value<'_>],
-) -> Result<Option<Vec<Change<'v>>>, AllocError> {
+) -> Result<Option<Vec<TextChange<'v>>>, AllocError> {
     let mut read = Vec::new(alloc);
     for change in changes {
         let (Some(text), Ok(range)) = (text_in(change, &["text"]), range_in(change)) else {
             return Ok(None);
         };
-        read.push(Change { range, text })?;
+        read.push(TextChange { range, text })?;
     }
     Ok(Some(read))
 }
@@ -131,7 +131,7 @@ fn applied(
     alloc: Global,
     encoding: Encoding,
     text: &str,
-    changes: &[Change<'_>],
+    changes: &[TextChange<'_>],
 ) -> Result<String, AllocError>
     ensures { IfOk result (λ made. string_bytes made ≡ fold (spec.after encoding) text.now changes.now) }
 {
