@@ -19,7 +19,7 @@ use toml_span::{Error, ErrorKind, Stop, Value};
 use toml_span_mistakes::error_report;
 use toml_span_read::read_sections;
 use toml_span_report::Report;
-use toml_span_safety::drafts::{Reading, read};
+use crate::drafts::{Reading, read};
 
 /// The maximum number of errors to look for.
 const MOST: usize = 100;

@@ -8,7 +8,7 @@ use crate::statements::faulty;
 use crate::sums::sum_of;
 use std::alloc::{AllocError, Global};
 use toml_span_report::{Replacement, Report};
-use toml_span_safety::drafts::read;
+use crate::drafts::read;
 use toml_span_syntax::pieces::Piece;
 use toml_span_syntax::statements::Statement;
 

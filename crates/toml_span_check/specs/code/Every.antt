@@ -6,7 +6,7 @@ use Rattle.toml_span_tree.specs.declared.value.Value.{Value}
 use Rattle.toml_span_read.specs.Data.{depth_limit}
 use Rattle.toml_span.specs.Parsing.{IsTree, IsRefusal}
 use Rattle.toml_span_report.specs.Report.{report_content}
-use Rattle.toml_span_safety.specs.declared.drafts.Reading.{Reading}
+use Rattle.toml_span_check.specs.declared.drafts.Reading.{Reading}
 use Rattle.toml_span_check.specs.Every.{Progress, ReportsFixable, Source, extent}
 use Rattle.toml_span_check.specs.declared.every.ErrorAt.{ErrorAt}
 use Rattle.toml_span_check.specs.declared.every.Found.{Found}
