@@ -83,7 +83,7 @@ reads_fault source copy made p q found same j adds =
 
 -- nothing remains to be read
 pub through_none : (source : Source) (copy : List ℕ) (p : Progress) → Reads source p → copy ≡ rest source p.next → HasNoFault copy → Finds source p
-through_none source copy p found same no = faults p found (inl (subst HasNoFault same no))
+through_none source copy p found same read = faults p found (inl (subst HasNoFault same read))
 
 pub through_clash : (source : Source) (copy : List ℕ) (made : ErrorAt) (p : Progress) → Reads source p → copy ≡ rest source p.next → IsRefusedAt source copy p.next made → made.is_clash ≡ true → Finds source p
 through_clash source copy made p found same j is =

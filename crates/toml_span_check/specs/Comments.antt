@@ -1,5 +1,5 @@
 -- The comments of a text, with those of other languages as they are after a fix.
-use Rattle.std.specs.Prelude.{ℕ, ◌+◌, min, Bool, true, false, ◌&&◌, ◌||◌, ◌==◌, nat_eq, nat_lt, List, [], ◌∷◌, ◌++◌}
+use Rattle.std.specs.Prelude.{ℕ, ◌+◌, min, Bool, true, false, ◌&&◌, ◌||◌, nat_eq, nat_lt, List, [], ◌∷◌, ◌++◌}
 use Rattle.std.specs.Prelude.{codes, drop, length, slice_range, if◌then◌else◌}
 use Rattle.std.specs.List.{starts_with}
 use Rattle.toml_span_check.specs.declared.comments.Place.{Place}
