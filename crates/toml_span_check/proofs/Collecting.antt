@@ -1,11 +1,11 @@
 -- One more file with its report.
-use Rattle.toml_span_lex.proofs.Common.{◌≡◌, ◌<◌, ◌+◌, ◌⊎◌, ℕ, Bool, false, List, [], ◌∷◌, ◌++◌, map, take, drop, get_or, length, Option, Result, Ok, Err, IsErrAnd, refl, sym, ap, subst, inl, inr, ◌∙◌, append_assoc, take-append-drop, string_bytes, suc, arith, length-append, take_more, map-append, Appends-trans, nat_tests, common_steps}
+use Rattle.toml_span_lex.proofs.Common.{◌≡◌, ◌<◌, ◌+◌, ◌⊎◌, ℕ, Bool, Bor, Global, String, false, List, [], ◌∷◌, ◌++◌, map, take, drop, get_or, length, Option, Result, Ok, Err, IsErrAnd, refl, sym, ap, subst, inl, inr, ◌∙◌, append_assoc, take-append-drop, string_bytes, suc, arith, length-append, take_more, map-append, Appends-trans, nat_tests, common_steps}
 use Rattle.std.proofs.lemmas.List.{append-nil}
 use Rattle.toml_span_check.specs.Schemas.{Says}
 use Rattle.toml_span_check.specs.declared.answer.Task.{Task}
 use Rattle.toml_span_check.specs.declared.answer.Task.TheVariants.{Check, Show}
 use Rattle.toml_span_check.specs.declared.formats.Format.{Format}
-use Rattle.toml_span_check.specs.Run.{Asked, Reading, Gathered, LogsSearch, FindsAll, no_name, one_more, Logs, Shows, Collects, CollectsFirst, IsOutput, named_task, nothing, answered, unread, none_wrong, summary, together, whole}
+use Rattle.toml_span_check.specs.Run.{Asked, Reading, Gathered, LogsSearch, FindsAll, no_name, one_more, Logs, Shows, Collects, CollectsFirst, IsOutput, are_named, named_task, nothing, answered, unread, none_wrong, summary, together, whole}
 use Rattle.toml_span_check.specs.code.Collected.{AddsFile, BegunOne, Holds, CollectsAll, CollectsFiles, CollectsOne, TextsOf}
 use Rattle.toml_span_check.specs.declared.run.Tally.{Tally}
 use Rattle.toml_span_check.specs.declared.run.Collected.{Collected}
@@ -176,28 +176,32 @@ pub stops-finding : (says : Says) (format : Format) (task : Task) (pointer : Lis
 stops-finding says format task pointer excludes names watched old new a b failed r same good err = grind (arith, nat_tests, common_steps)
 
 -- the task with or without names
-pub shows-named : (task : Task) (count : ℕ) → Shows (named_task task count) → Shows task
-shows-named (Show printing) count shows = (printing, refl)
-shows-named (Check version chooser) count (printing, wrong) = cc
+pub named_as : (task asked : Task) (named : Bool) (ns names : List (Bor (List ℕ))) (fs files : List (String Global)) → asked ≡ named_task task named →
+    named ≡ are_named (map (λ name. name.now) ns) (map (λ file. string_bytes file) fs) → ns ≡ names → fs ≡ files → asked ≡ named_task task (are_named (map (λ name. name.now) names) (map (λ file. string_bytes file) files))
+named_as task asked named ns names fs files is named_is same same_files = rw (is, named_is, same, same_files) refl
 
-pub whole-named : (format : Format) (task : Task) (count : ℕ) (text : List ℕ) → whole format (named_task task count) text ≡ whole format task text
-whole-named format (Show printing) count text = refl
-whole-named format (Check version chooser) count text = refl
+pub shows-named : (task : Task) (named : Bool) → Shows (named_task task named) → Shows task
+shows-named (Show printing) named shows = (printing, refl)
+shows-named (Check version chooser) named (printing, wrong) = cc
 
-pub or-shows : (P : Type 0) (task : Task) (count : ℕ) → P ⊎ Shows (named_task task count) → P ⊎ Shows task
-or-shows P task count (inl p) = inl p
-or-shows P task count (inr shows) = inr (shows-named task count shows)
+pub whole-named : (format : Format) (task : Task) (named : Bool) (text : List ℕ) → whole format (named_task task named) text ≡ whole format task text
+whole-named format (Show printing) named text = refl
+whole-named format (Check version chooser) named text = refl
+
+pub or-shows : (P : Type 0) (task : Task) (named : Bool) → P ⊎ Shows (named_task task named) → P ⊎ Shows task
+or-shows P task named (inl p) = inl p
+or-shows P task named (inr shows) = inr (shows-named task named shows)
 
 stops-all : (says : Says) (format : Format) (task : Task) (pointer : List ℕ) (excludes names files : List (List ℕ)) (watched : Bool) (old mid new : Option Asked) (a b : Option (List ℕ)) (failed : Bool) (e : Unwritten) →
-    FindsAll excludes names old mid files → CollectsFiles says format (named_task task (length files)) pointer files (Err e) mid new a b failed → CollectsAll says format task pointer excludes names watched (Err e) old new a b failed
+    FindsAll excludes names old mid files → CollectsFiles says format (named_task task (are_named names files)) pointer files (Err e) mid new a b failed → CollectsAll says format task pointer excludes names watched (Err e) old new a b failed
 stops-all says format task pointer excludes names files watched old mid new a b failed Failed found (bad, shows, first) =
     (bad, record { aloud = refl; files = files; mid = mid; found = found; prints = first })
 stops-all says format task pointer excludes names files watched old mid new a b failed Memory found (good, inl same) = (good, inl same)
 stops-all says format task pointer excludes names files watched old mid new a b failed Memory found (good, inr (shows, (last, first))) =
-    (good, inr (shows-named task (length files) shows, (last, record { aloud = refl; files = files; mid = mid; found = found; prints = first })))
+    (good, inr (shows-named task (are_named names files) shows, (last, record { aloud = refl; files = files; mid = mid; found = found; prints = first })))
 
 pub stops-collecting : (says : Says) (format : Format) (task asked : Task) (pointer : List ℕ) (excludes names files read : List (List ℕ)) (watched : Bool) (old mid new : Option Asked) (a b : Option (List ℕ)) (failed : Bool) (e : Unwritten) (r : Result Collected Unwritten) →
-    asked ≡ named_task task (length files) → read ≡ files → FindsAll excludes names old mid files → CollectsFiles says format asked pointer read (Err e) mid new a b failed → IsErrAnd r (λ y. y ≡ e) → CollectsAll says format task pointer excludes names watched r old new a b failed
+    asked ≡ named_task task (are_named names files) → read ≡ files → FindsAll excludes names old mid files → CollectsFiles says format asked pointer read (Err e) mid new a b failed → IsErrAnd r (λ y. y ≡ e) → CollectsAll says format task pointer excludes names watched r old new a b failed
 stops-collecting says format task asked pointer excludes names files read watched old mid new a b failed e r is same found h err =
     let all = subst (λ (fs : List (List ℕ)). CollectsFiles says format asked pointer fs (Err e) mid new a b failed) same h in
     let named = subst (λ (t : Task). CollectsFiles says format t pointer files (Err e) mid new a b failed) is all in
@@ -205,20 +209,20 @@ stops-collecting says format task asked pointer excludes names files read watche
 
 -- memory runs out after the files
 pub stops-counting : (says : Says) (format : Format) (task asked : Task) (pointer : List ℕ) (excludes names files : List (List ℕ)) (watched : Bool) (old mid new : Option Asked) (a b : Option (List ℕ)) (failed : Bool) (t : Collected) (r : Result Collected Unwritten) →
-    asked ≡ named_task task (length files) → FindsAll excludes names old mid files → CollectsFiles says format asked pointer files (Ok t) mid new a b failed → IsErrAnd r (λ y. y ≡ Memory) → CollectsAll says format task pointer excludes names watched r old new a b failed
+    asked ≡ named_task task (are_named names files) → FindsAll excludes names old mid files → CollectsFiles says format asked pointer files (Ok t) mid new a b failed → IsErrAnd r (λ y. y ≡ Memory) → CollectsAll says format task pointer excludes names watched r old new a b failed
 stops-counting says format task asked pointer excludes names files watched old mid new a b failed t r is found h err =
     let stdout = subst (λ (k : Task). CollectsFiles says format k pointer files (Ok t) mid new a b failed) is h in
     let text : TextsOf = (t.held.items, string_bytes t.errors, t.status, t.wrong) in
-    let first = first-upto says format (named_task task (length files)) pointer files [] files mid new a b text (stdout.1, stdout.2) (sym (append-nil files)) in
+    let first = first-upto says format (named_task task (are_named names files)) pointer files [] files mid new a b text (stdout.1, stdout.2) (sym (append-nil files)) in
     grind (arith, nat_tests, common_steps, stops-all says format task pointer excludes names files watched old mid new a b failed Memory found (stdout.0, first))
 
 -- all files have been looked at
 pub collects-all : (says : Says) (format : Format) (task asked : Task) (pointer : List ℕ) (excludes names files : List (List ℕ)) (watched : Bool) (old mid new : Option Asked) (a b : Option (List ℕ)) (failed : Bool) (t : Collected) (errors kept : List ℕ) →
-    asked ≡ named_task task (length files) → FindsAll excludes names old mid files → CollectsFiles says format asked pointer files (Ok t) mid new a b failed →
+    asked ≡ named_task task (are_named names files) → FindsAll excludes names old mid files → CollectsFiles says format asked pointer files (Ok t) mid new a b failed →
     kept ≡ whole format task t.held.items → errors ≡ string_bytes t.errors ++ summary format task watched (length files) t.wrong →
     (failed ≡ false) × ((b ≡ a) ⊎ Shows task) × ((out : List ℕ) × IsOutput says format task pointer excludes names watched false old new out errors t.status × HoldsRest a b out kept)
 collects-all says format task asked pointer excludes names files watched old mid new a b failed t errors kept is found h held_is errors_are =
-    let k = length files in
+    let k = are_named names files in
     let stdout = subst (λ (u : Task). CollectsFiles says format u pointer files (Ok t) mid new a b failed) is h in
     let all = stdout.2.0 in
     let rest = whole-held format (named_task task k) a b all t.held.items kept stdout.2.2 (held_is ∙ sym (whole-named format task k t.held.items)) in (

@@ -8,7 +8,7 @@ use Rattle.toml_span_lines.specs.declared.held.Unwritten.TheVariants.{Failed, Me
 use Rattle.toml_span_check.specs.Schemas.{Says}
 use Rattle.toml_span_check.specs.declared.answer.Task.{Task}
 use Rattle.toml_span_check.specs.declared.formats.Format.{Format}
-use Rattle.toml_span_check.specs.Run.{Asked, Begins, Runs, IsOutput, named_task}
+use Rattle.toml_span_check.specs.Run.{Asked, Begins, Runs, IsOutput, are_named, named_task}
 use Rattle.toml_span_check.specs.code.Collected.{EndsQuiet, CollectsAll}
 use Rattle.toml_span_check.proofs.Statuses.{stdout-small, neither-failed}
 use Rattle.toml_span_check.proofs.Collecting.{prints-first, whole-named, written-after}
@@ -33,7 +33,7 @@ pub begins-all : (says : Says) (format : Format) (task : Task) (pointer : List �
 begins-all says format task pointer excludes names watched old new stdout mid stdout' out errors held status t h w =
     let named = whole-named format task (length t.files) t.all in
     let all = subst (λ (text : List ℕ). HasWritten stdout stdout' text) (h.2 ∙ t.shown ∙ sym named) (written-after stdout mid stdout' out held held h w) in
-    let first = prints-first says format (named_task task (length t.files)) pointer t.files [] t.files t.mid new stdout stdout' (t.all, t.complaints, status, t.wrong) (sym (append-nil t.files)) (inr refl) t.prints all in
+    let first = prints-first says format (named_task task (are_named names t.files)) pointer t.files [] t.files t.mid new stdout stdout' (t.all, t.complaints, status, t.wrong) (sym (append-nil t.files)) (inr refl) t.prints all in
     record { aloud = refl; files = t.files; mid = t.mid; found = t.found; prints = first }
 
 appends-all : (a b c : Option (List ℕ)) (out held : List ℕ) → HoldsRest a b out held → Appends b c held → Appends a c out

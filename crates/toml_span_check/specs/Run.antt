@@ -1,7 +1,8 @@
 -- The output and the exit status for the files that the program reads.
 use Rattle.std.specs.Prelude.{◌≡◌, ◌↔◌, ◌≤◌, ◌⊎◌, ⊤, ℕ, ◌+◌, ◌==◌, nat_lt, max, min, Bool, true, false, ◌||◌, IsTrue}
 use Rattle.std.specs.Prelude.{List, [], ◌∷◌, ◌++◌, map, length, codes, if◌then◌else◌, Option, Some, None, Result, Ok}
-use Rattle.std.specs.Prelude.{Err}
+use Rattle.std.specs.Prelude.{Err, not}
+use Rattle.std.specs.Str.{bytes_eq}
 use Rattle.std.specs.Prelude.{String, Vec, string_bytes}
 use Rattle.std.specs.Fmt.{decimal}
 use Rattle.std.specs.Global.{Global}
@@ -152,10 +153,15 @@ abbrev pub whole : Format → Task → List ℕ → List ℕ
 whole format (Show printing) stdout = stdout
 whole format (Check version chooser) stdout = together format stdout
 
--- the task for this number of files: if there are several, their names are printed before values
-abbrev pub named_task : Task → ℕ → Task
-named_task (Show printing) files = Show (record printing { is_named = nat_lt 1 files })
-named_task (Check version chooser) files = Check version chooser
+-- whether the names of files are printed before values: unless there is only one file, which is the one argument
+abbrev pub are_named : List (List ℕ) → List (List ℕ) → Bool
+are_named (name ∷ []) (file ∷ []) = not (bytes_eq name file)
+are_named names files = nat_lt 1 (length files)
+
+-- the task, with or without these names
+abbrev pub named_task : Task → Bool → Task
+named_task (Show printing) are_named = Show (record printing { is_named = are_named })
+named_task (Check version chooser) are_named = Check version chooser
 
 -- the output, or nothing in a quiet run
 abbrev pub said : Bool → List ℕ → List ℕ
@@ -171,7 +177,7 @@ pub record IsOutput (says : Says) (format : Format) (task : Task) (pointer : Lis
   pub all : List ℕ
   pub complaints : List ℕ
   pub wrong : Tally
-  pub prints : Collects says format (named_task task (length files)) pointer files mid new all complaints status wrong
+  pub prints : Collects says format (named_task task (are_named names files)) pointer files mid new all complaints status wrong
   pub shown : out ≡ said is_quiet (whole format task all)
   pub stderr : errors ≡ said is_quiet (complaints ++ summary format task is_watched (length files) wrong)
 
@@ -200,7 +206,7 @@ pub record Begins (says : Says) (format : Format) (task : Task) (pointer : List 
   pub files : List (List ℕ)
   pub mid : Option Asked
   pub found : FindsAll excludes names old mid files
-  pub prints : CollectsFirst says format (named_task task (length files)) pointer files mid new stdout stdout'
+  pub prints : CollectsFirst says format (named_task task (are_named names files)) pointer files mid new stdout stdout'
 
 -- A run with this exit status. `stdout` and `stdout'` are the texts on standard output before and after the run, and
 -- `out_failed` says whether a write to standard output failed. `stderr`, `stderr'` and `err_failed` are the same for

@@ -278,13 +278,24 @@ fn whole(alloc: Global, format: Format, task: Task, stdout: Vec<u8>) -> Result<V
     }
 }
 
-/// Returns the task for this number of files: if there are several, their names are printed before values.
-fn named_task(task: Task, files: usize) -> Task
-    ensures { result ≡ spec.named_task task files }
+/// Returns whether the names of files are printed before values: unless there is only one file, which is the one
+/// argument.
+fn are_named(names: &[&str], files: &[String]) -> bool
+    ensures { result ≡ spec.are_named (map (λ name. name.now) names.now) (map (λ file. string_bytes file) files.now) }
+{
+    match (names, files) {
+        ([name], [file]) => *name != file.as_str(),
+        _ => files.len() > 1,
+    }
+}
+
+/// Returns the task, with or without the names of files before values.
+fn named_task(task: Task, is_named: bool) -> Task
+    ensures { result ≡ spec.named_task task is_named }
 {
     match task {
         Task::Show(printing) => Task::Show(Printing {
-            is_named: files > 1,
+            is_named,
             ..printing
         }),
         Task::Check(version, chooser) => Task::Check(version, chooser),
@@ -312,7 +323,7 @@ fn collect_all<I: Inputs, S: Schemas, O: Sink>(
     let files = found.as_slice();
     let question = Question {
         format: request.format,
-        task: named_task(request.task, files.len()),
+        task: named_task(request.task, are_named(names, files)),
         pointer: request.pointer,
     };
     let mut collected = collect(alloc, question, files, inputs, schemas, out)?;

@@ -75,6 +75,25 @@ pub(crate) fn innermost(text: &str, at: usize) -> usize {
     scanned(text, at, open_before(text, at).depth).bracket
 }
 
+/// Returns whether the innermost bracket that is open at the offset `at` is closed after it, before a line that begins
+/// with `[`, as a header does.
+pub(crate) fn is_closed_after(text: &str, at: usize) -> bool {
+    let mut place = text.floor_char_boundary(at);
+    let mut depth = 1;
+    'pieces: while place < text.len() {
+        let piece = piece_at(text, place);
+        depth = depth_after(depth, piece.kind);
+        if depth == 0 {
+            return true;
+        }
+        if matches!(piece.kind, Kind::LineEnd) && begins(text, piece.end, b"[") {
+            return false;
+        }
+        place = piece.end;
+    }
+    false
+}
+
 /// Returns whether the outermost open bracket of `state` begins a table header: it is the first non-blank byte of its
 /// line. Returns `false` if no bracket is open.
 pub(crate) fn is_in_header(text: &str, state: Open) -> bool {

@@ -9,15 +9,15 @@ use crate::finding::{
     replaced, safe_if, six, span_of, without_replacement,
 };
 use crate::mistakes::dates::is_date;
-use crate::mistakes::lists::unfinished_key;
+use crate::mistakes::lists::{closing, unfinished_key};
 use crate::mistakes::numbers::after_sign;
 use crate::mistakes::values::{known_word, whole_end};
 use crate::scan::{bracketed_end, open_before};
 use crate::words::{
     BARE_KEY, BRACE_HEADER, BRACED_ARRAY, COLON, COLON_AND_EQUALS, COLON_EQUALS, CONFLICT, DASHES,
     DOCUMENT_MARKER, EXTRA_COMMA, EXTRA_DOT, INDEX, JSON, JSON_DOCUMENT, KEYWORD, LATE_HEADER,
-    Mistake, NO_EQUALS, NO_KEY, NO_NAME, NO_VALUE, OPERATOR, TEMPLATE, TEMPLATE_LINE, YAML_ITEM,
-    YAML_ITEMS, YAML_LIST, YAML_TABLE,
+    Mistake, NO_EQUALS, NO_KEY, NO_VALUE, OPERATOR, TEMPLATE, TEMPLATE_LINE, YAML_ITEM, YAML_ITEMS,
+    YAML_LIST, YAML_TABLE,
 };
 use toml_span_lex::span::Span;
 
@@ -516,7 +516,7 @@ pub(crate) fn at_key<'a>(text: &'a str, at: usize) -> Option<Finding<'a>> {
         b'.' => Some(extra(EXTRA_DOT, text, at)),
         b',' => Some(extra(EXTRA_COMMA, text, at)),
         b'=' => Some(missing_key(NO_KEY, text, at)),
-        b']' => Some(missing_key(NO_NAME, text, at)),
+        b']' | b'}' => closing(text, at),
         b'{' => brace(text, at),
         _ if is_end(text, at) => unfinished_key(text, at),
         _ => None,

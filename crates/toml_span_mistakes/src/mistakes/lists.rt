@@ -8,16 +8,16 @@ use crate::bytes::{
 use crate::finding::{Finding, marked, mended, pieces, removed, replaced, safe_if, span_of};
 use crate::mistakes::keys::{header_key, missing_key, other_sign};
 use crate::mistakes::values::{unquoted, unquoted_value};
-use crate::scan::{innermost, is_in_header, is_long, open_before};
+use crate::scan::{innermost, is_closed_after, is_in_header, is_long, open_before};
 use crate::words::{
-    ARRAY_ALONE, CLOSED_BY_BRACE, CLOSED_BY_BRACKET, EQUALS, EXTRA_COMMA, HASH_VALUE,
-    LEADING_POINT, Mistake, NO_COMMA, NO_COMMA_IN_TABLE, NO_NAME, NO_VALUE_AFTER_EQUALS,
-    OPEN_ARRAY, OPEN_HEADER, OPEN_TABLE, VALUE_BELOW,
+    ARRAY_ALONE, CLOSED_BY_BRACE, CLOSED_BY_BRACKET, EQUALS, EXTRA_CLOSING, EXTRA_COMMA,
+    HASH_VALUE, LEADING_POINT, Mistake, NO_COMMA, NO_COMMA_IN_TABLE, NO_NAME,
+    NO_VALUE_AFTER_EQUALS, OPEN_ARRAY, OPEN_HEADER, OPEN_TABLE, VALUE_BELOW,
 };
 
-/// Returns the finding for the outermost bracket or brace that is still open at the offset `at`.
+/// Returns the finding for the innermost bracket or brace that is still open at the offset `at`.
 pub(crate) fn unclosed<'a>(text: &'a str, at: usize) -> Finding<'a> {
-    let bracket = open_before(text, at).bracket;
+    let bracket = innermost(text, at);
     let mistake = if byte_at(text, bracket) == b'{' {
         OPEN_TABLE
     } else {
@@ -126,6 +126,30 @@ fn equals<'a>(text: &'a str, at: usize) -> Option<Finding<'a>> {
     }
 }
 
+/// Recognizes a brace at `at`, where a value is expected, that closes an array.
+fn closing_brace<'a>(text: &'a str, at: usize) -> Option<Finding<'a>> {
+    if open_before(text, at).depth > 0 && byte_at(text, innermost(text, at)) == b'[' {
+        Some(wrong_closing(CLOSED_BY_BRACE, text, at, "]"))
+    } else {
+        None
+    }
+}
+
+/// Recognizes the closing bracket or brace at `at`, where a key is expected: after a dot, in a header without a name, at
+/// the end of an inline table, or with nothing to close.
+pub(crate) fn closing<'a>(text: &'a str, at: usize) -> Option<Finding<'a>> {
+    let state = open_before(text, at);
+    if byte_before(text, at) == b'.' || is_in_header(text, state) {
+        Some(missing_key(NO_NAME, text, at))
+    } else if state.depth == 0 {
+        Some(removed(EXTRA_CLOSING, at, ahead(text, at, 1)))
+    } else if byte_at(text, at) == b']' {
+        Some(wrong_closing(CLOSED_BY_BRACKET, text, at, "}"))
+    } else {
+        None
+    }
+}
+
 /// Recognizes the mistake in the token at `at`, where a value is expected.
 pub(crate) fn at_value<'a>(text: &'a str, at: usize) -> Option<Finding<'a>> {
     match byte_at(text, at) {
@@ -133,6 +157,7 @@ pub(crate) fn at_value<'a>(text: &'a str, at: usize) -> Option<Finding<'a>> {
         b'=' => equals(text, at),
         b'.' => point(text, at),
         b'#' => hash(text, at),
+        b'}' => closing_brace(text, at),
         _ if is_end(text, at) => missing_value(text, at),
         _ => None,
     }
@@ -237,11 +262,17 @@ fn missing_comma<'a>(mistake: Mistake, text: &'a str, at: usize) -> Finding<'a> 
     safe_if(found, first_of_line(text, at) == at || is_pair(text, at))
 }
 
-/// Returns the finding for the token at `at`, where a comma or closing bracket is expected. If the token begins an
-/// assignment or a header, the finding is that a bracket is not closed. Otherwise the finding is `mistake`, a missing
-/// comma.
+/// Returns whether the token at `at`, in an array or inline table, is a statement of its own: it begins a header, or an
+/// assignment that is not in an array, and not in an inline table that is closed later.
+fn is_statement(text: &str, at: usize) -> bool {
+    let is_in_table = byte_at(text, innermost(text, at)) == b'{';
+    is_section(text, at) || is_assignment(text, at) && !(is_in_table && is_closed_after(text, at))
+}
+
+/// Returns the finding for the token at `at`, where a comma or closing bracket is expected: that a bracket is not closed
+/// if the token is one (`is_statement`), otherwise `mistake`, a missing comma.
 fn unseparated<'a>(mistake: Mistake, text: &'a str, at: usize) -> Finding<'a> {
-    if is_assignment(text, at) || is_section(text, at) {
+    if is_statement(text, at) {
         unclosed(text, at)
     } else {
         missing_comma(mistake, text, at)
