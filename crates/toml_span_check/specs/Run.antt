@@ -53,7 +53,7 @@ HasReadOrNot old new (Err reason) = (bytes : List ℕ) × HasRead old new bytes
 abbrev pub IsReason : ErrorKind → List ℕ → Type 0
 IsReason kind.NotFound message = message ≡ codes "no such file"
 IsReason kind.PermissionDenied message = message ≡ codes "permission denied"
-IsReason kind.IsADirectory message = message ≡ codes "no `*.toml` file in this directory"
+IsReason kind.IsADirectory message = message ≡ codes "no `*.toml` file in this directory, or only ignored ones"
 IsReason _ message = ⊤
 
 -- The second log is the first with one more search. Nothing is required if the first log is not known.

@@ -45,7 +45,9 @@ fn reason(alloc: Global, error: &io::Error) -> Result<String, AllocError>
     match error.kind() {
         ErrorKind::NotFound => String::from_str(alloc, "no such file"),
         ErrorKind::PermissionDenied => String::from_str(alloc, "permission denied"),
-        ErrorKind::IsADirectory => String::from_str(alloc, "no `*.toml` file in this directory"),
+        ErrorKind::IsADirectory => {
+            String::from_str(alloc, "no `*.toml` file in this directory, or only ignored ones")
+        }
         _ => error.to_string(alloc),
     }
 }

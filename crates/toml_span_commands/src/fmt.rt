@@ -396,7 +396,7 @@ fn put(
 /// Returns why a file can't be read: `reason` or, for a directory, that no file to format was found in it.
 fn unread<'r>(host: &Host, name: &str, reason: &'r str) -> &'r str {
     if name != "-" && is_folder(&host.rt, name) {
-        "no `*.toml` file in this directory"
+        "no `*.toml` file in this directory, or only ignored ones"
     } else {
         reason
     }
