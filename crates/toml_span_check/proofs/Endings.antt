@@ -31,7 +31,7 @@ ends-failed says format task pointer excludes names watched old new stdout stdou
 pub begins-all : (says : Says) (format : Format) (task : Task) (pointer : List ℕ) (excludes names : List (List ℕ)) (watched : Bool) (old new : Option Asked) (stdout mid stdout' : Option (List ℕ)) (out errors held : List ℕ) (status : ℕ) →
     IsOutput says format task pointer excludes names watched false old new out errors status → HoldsRest stdout mid out held → HasWritten mid stdout' held → Begins says format task pointer excludes names false old new stdout stdout'
 begins-all says format task pointer excludes names watched old new stdout mid stdout' out errors held status t h w =
-    let named = whole-named format task (length t.files) t.all in
+    let named = whole-named format task (are_named names t.files) t.all in
     let all = subst (λ (text : List ℕ). HasWritten stdout stdout' text) (h.2 ∙ t.shown ∙ sym named) (written-after stdout mid stdout' out held held h w) in
     let first = prints-first says format (named_task task (are_named names t.files)) pointer t.files [] t.files t.mid new stdout stdout' (t.all, t.complaints, status, t.wrong) (sym (append-nil t.files)) (inr refl) t.prints all in
     record { aloud = refl; files = t.files; mid = t.mid; found = t.found; prints = first }
