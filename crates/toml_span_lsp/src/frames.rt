@@ -15,7 +15,7 @@ pub const LIMIT: usize = 67_108_864;
 const HEADERS: usize = 8192;
 
 /// What is wrong with a frame.
-#[derive(Clone, Copy, Debug, PartialEq, Eq)]
+#[derive(Clone, Copy)]
 pub enum FrameFault {
     /// The headers are longer than 8 KiB, or are not valid UTF-8.
     Headers,
@@ -24,7 +24,7 @@ pub enum FrameFault {
 }
 
 /// The result of reading a frame at the start of the bytes.
-#[derive(Clone, Copy, Debug, PartialEq, Eq)]
+#[derive(Clone, Copy)]
 pub enum Framed {
     /// The whole frame is there. Its content is from `start` to `end`, the end exclusive.
     Whole { start: usize, end: usize },

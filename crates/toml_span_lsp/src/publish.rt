@@ -43,13 +43,6 @@ fn write_related(out: &mut Json, uri: &str, related: &[Related]) {
     out.end_array();
 }
 
-/// Writes the tag for deprecated code (LSP 3.17, DiagnosticTag).
-fn write_deprecated(out: &mut Json) {
-    out.array("tags");
-    out.count(2);
-    out.end_array();
-}
-
 /// Returns whether a schema caused the diagnostic with this range and code, and the range has several lines.
 fn is_about_lines(range: Range, code: &str) -> bool
     ensures { result ≡ spec.is_about_lines code.now range }
@@ -86,7 +79,10 @@ pub(crate) fn write_diagnostic(out: &mut Json, client: Client, uri: &str, diagno
     out.text("source", "toml-span");
     out.text("message", diagnostic.message.as_str());
     if diagnostic.code.as_str() == DEPRECATED {
-        write_deprecated(out);
+        // the tag for deprecated code (LSP 3.17, DiagnosticTag)
+        out.array("tags");
+        out.count(2);
+        out.end_array();
     }
     if client.has_related && !diagnostic.related.is_empty() {
         write_related(out, uri, diagnostic.related.as_slice());
@@ -293,16 +289,15 @@ pub(crate) fn check_once(alloc: Global, state: &mut State, uri: &str) -> Result<
     let Some(open) = state.documents.get_mut(uri) else {
         return Ok(());
     };
-    if open.found.is_some() && open.schemas_read == state.schemas_read {
+    if open.checked_with == Some(state.schemas_read) {
         return Ok(());
     }
     let folder = state
         .folders
         .folder_of_mut(open.name.as_str(), open.schemas.as_str());
     let (encoding, lookup) = (state.encoding, &mut folder.lookup);
-    let found = checked(alloc, encoding, open, lookup, &mut state.notices)?;
-    open.found = Some(found);
-    open.schemas_read = state.schemas_read;
+    open.found = checked(alloc, encoding, open, lookup, &mut state.notices)?;
+    open.checked_with = Some(state.schemas_read);
     Ok(())
 }
 
@@ -320,7 +315,13 @@ pub(crate) fn write_report(
     };
     out.begin_object();
     out.text("kind", "full");
-    write_list(out, "items", state.client, uri, open.diagnostics());
+    write_list(
+        out,
+        "items",
+        state.client,
+        uri,
+        open.found.diagnostics.as_slice(),
+    );
     out.end_object();
     Ok(true)
 }
@@ -342,7 +343,7 @@ pub(crate) fn published(
     }
     write_list(&mut out, "diagnostics", client, uri, diagnostics);
     out.end_object();
-    ServerCall::notification("textDocument/publishDiagnostics", out)
+    ServerCall::new(None, "textDocument/publishDiagnostics", out)
 }
 
 /// Appends the notification with the diagnostics of the open document `uri`, as `check_once` finds them. Does nothing if
@@ -358,8 +359,8 @@ pub(crate) fn publish(
     }
     check_once(alloc, state, uri)?;
     if let Some(open) = state.documents.get(uri) {
-        let client = state.client;
-        out.add(published(alloc, client, uri, open.version, open.diagnostics()));
+        let found = open.found.diagnostics.as_slice();
+        out.add(published(alloc, state.client, uri, open.version, found));
     }
     Ok(())
 }

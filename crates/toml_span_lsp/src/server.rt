@@ -12,10 +12,11 @@ ghost use Rattle.toml_span_lsp.specs.declared.state.Phase.TheVariants.{New};
 
 use crate::frames::{FrameFault, Framed, frame, push_frame};
 use crate::incoming::Id;
+use crate::outgoing::error_response;
 use crate::reading::{Around, Reading, TextName, kept_of, reading_of, text_of};
 use crate::refusal::INVALID_REQUEST;
 use crate::state::Server;
-use crate::steps::{refuse, step_around};
+use crate::steps::step_around;
 use crate::waiting::next_text;
 use std::alloc::{AllocError, Global};
 use toml_span_editor::document::read;
@@ -26,7 +27,7 @@ use toml_span_lines::source::Source;
 use toml_span_lookup::disk::Disk;
 
 /// How the server ended.
-#[derive(Clone, Copy, Debug, PartialEq, Eq)]
+#[derive(Clone, Copy)]
 pub struct Ended {
     /// The exit status: 0 after `shutdown` and `exit`, 1 if the client left without one of them, 2 if the input is not
     /// a sequence of whole frames, 3 if a read or a write failed, or 4 if an allocation failed or 2^64 - 1 steps were
@@ -92,7 +93,7 @@ fn refusal_frame(alloc: Global) -> Result<Vec<u8>, AllocError>
     ensures { IfOk result (λ out. Refuses out.items) }
 {
     let message = "the message is longer than 64 MiB";
-    let refusal = refuse(alloc, Id::Null, INVALID_REQUEST, message)?;
+    let refusal = error_response(alloc, Id::Null, INVALID_REQUEST, message)?;
     let mut out = Vec::new(alloc);
     push_frame(&mut out, refusal.as_slice())?;
     Ok(out)

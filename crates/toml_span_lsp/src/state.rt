@@ -14,7 +14,7 @@ use toml_span_lookup::options::Options;
 use toml_span_report::Report;
 
 /// The phases of a server, from start to end.
-#[derive(Clone, Copy, Debug, PartialEq, Eq)]
+#[derive(Clone, Copy, PartialEq, Eq)]
 pub(crate) enum Phase {
     /// Before `initialize`.
     New,
@@ -27,7 +27,7 @@ pub(crate) enum Phase {
 }
 
 /// The capabilities of the client.
-#[derive(Clone, Copy, Debug, PartialEq, Eq)]
+#[derive(Clone, Copy)]
 pub(crate) struct Client {
     /// Whether the client requests diagnostics itself. The server then sends none on its own.
     pub asks_diagnostics: bool,
@@ -114,29 +114,11 @@ pub(crate) struct Open {
     pub address: String,
     /// Whether the text has changed since the diagnostics were sent.
     pub is_pending: bool,
-    /// What the last check of the text found, or `None` if it has not been checked.
-    pub found: Option<Findings>,
-    /// The number `State::schemas_read` at that check.
-    pub schemas_read: u64,
+    /// What `check_once` found last, nothing at first.
+    pub found: Findings,
+    /// The number `State::schemas_read` at that check, or `None` if this text has not been checked.
+    pub checked_with: Option<u64>,
     pub tokens: Option<SentTokens>,
-}
-
-impl Open {
-    /// Returns the diagnostics that the last check of the text found, none if it has not been checked.
-    pub(crate) fn diagnostics(&self) -> &[Diagnostic] {
-        match &self.found {
-            Some(found) => found.diagnostics.as_slice(),
-            None => &[],
-        }
-    }
-
-    /// Returns the reports that the last check of the text found, none if it has not been checked.
-    pub(crate) fn reports(&self) -> &[Report] {
-        match &self.found {
-            Some(found) => found.reports.as_slice(),
-            None => &[],
-        }
-    }
 }
 
 /// What the server knows: the capabilities of the client, the settings, the schemas and the open documents.
@@ -186,15 +168,6 @@ impl State {
             schemas_read: 0,
             has_pending: false,
             documents: BTreeMap::new(alloc),
-        }
-    }
-
-    /// Returns the path of the folder that is open in the editor, or of the first of several folders, with a slash at
-    /// the end. Returns an empty text if no folder is open.
-    pub(crate) fn root(&self) -> &str {
-        match self.roots.first() {
-            Some(path) => path.as_str(),
-            None => "",
         }
     }
 

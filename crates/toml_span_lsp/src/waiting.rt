@@ -18,22 +18,17 @@ pub(crate) fn has_frame(bytes: &[u8]) -> bool {
     matches!(frame(bytes), Framed::Whole { .. })
 }
 
-/// Returns whether a value is this id.
-fn is_id(value: &Value<'_>, id: Id<'_>) -> bool {
-    match id {
-        Id::Null => false,
-        Id::Number(number) => value.as_i64() == Some(number),
-        Id::Text(text) => value.as_str() == Some(text),
-    }
-}
-
 /// Returns whether a message cancels the request `id`.
 fn cancels(message: Message<'_, '_>, id: Id<'_>) -> bool {
     let Message::Call(call) = message else {
         return false;
     };
-    let asked = call.params.get("id");
-    call.id.is_none() && call.method == CANCEL && asked.map_or(false, |value| is_id(value, id))
+    let is_asked = match (id, call.params.get("id")) {
+        (Id::Number(number), Some(value)) => value.as_i64() == Some(number),
+        (Id::Text(text), Some(value)) => value.as_str() == Some(text),
+        _ => false,
+    };
+    call.id.is_none() && call.method == CANCEL && is_asked
 }
 
 /// Returns whether the message in `content` cancels the request `id`.
