@@ -1,11 +1,9 @@
 //! The command `config`.
-ghost use Rattle.std.specs.Prelude.{◌≡◌, ◌≤◌, IfOk, false};
-
-use crate::answers::{Answer, give, helped, misused, printed, stopped};
+use crate::answers::{Answer, helped, misused, printed, stopped};
 use crate::commands::Command;
 use crate::options::search_of;
 use crate::say::unexpected;
-use crate::words::{Argument, after_name, arguments_in, has_help};
+use crate::words::{Argument, arguments_in, has_help};
 use std::alloc::{AllocError, Global};
 use toml_span::Stop;
 use toml_span_check::input::Host;
@@ -14,7 +12,6 @@ use toml_span_check::words::shown_word;
 use toml_span_config::layers::{Chosen, Crlf, ExpandArrays, Layer, Origin, Settings};
 use toml_span_config::sources::{Found, Sources};
 use toml_span_edit::string_text;
-use toml_span_lines::sink::Sink;
 use toml_span_report::visible::visible;
 use toml_span_report::{Style, line_column};
 
@@ -78,11 +75,7 @@ impl Table<'_> {
         let Origin::File(span) = origin else {
             return self.out.push_str("default");
         };
-        let source = match self.found.source {
-            Some(at) => self.sources.list.get(at),
-            None => None,
-        };
-        let Some(source) = source else {
+        let Some(source) = self.sources.source_at(self.found.source) else {
             return self.out.push_str("default");
         };
         let (line, column) = line_column(source.text.as_str(), span.start);
@@ -158,11 +151,7 @@ impl Table<'_> {
 
     /// Adds a comment that names the configuration file, and one that says if it excludes the file.
     fn add_head(&mut self) -> Result<(), AllocError> {
-        let source = match self.found.source {
-            Some(at) => self.sources.list.get(at),
-            None => None,
-        };
-        match source {
+        match self.sources.source_at(self.found.source) {
             Some(source) => {
                 let name = shown_word(self.alloc, source.name.as_str())?;
                 let name = visible(self.alloc, name.as_str())?;
@@ -199,8 +188,13 @@ fn shown(alloc: Global, asked: Asked<'_>, host: &mut Host) -> Result<String, Sto
     Ok(table.out)
 }
 
-/// Returns the answer for these arguments.
-fn answer_of(alloc: Global, arguments: &[String], host: &mut Host) -> Result<Answer, AllocError> {
+/// Carries out `config`: returns the answer with the settings for a file, the help, or that the arguments or a
+/// configuration file are wrong.
+pub(crate) fn config(
+    alloc: Global,
+    arguments: &[String],
+    host: &mut Host,
+) -> Result<Answer, AllocError> {
     if has_help(arguments) {
         return helped(alloc, Command::Config);
     }
@@ -212,21 +206,4 @@ fn answer_of(alloc: Global, arguments: &[String], host: &mut Host) -> Result<Ans
         Ok(text) => Ok(printed(alloc, text)),
         Err(stop) => stopped(alloc, stop),
     }
-}
-
-/// Carries out `config`: prints the settings for a file, the help, or that the arguments or a configuration file are
-/// wrong. `words` are the name of the command and its arguments. Returns the exit status.
-pub fn config<O: Sink, E: Sink>(
-    alloc: Global,
-    words: &[String],
-    host: &mut Host,
-    out: &mut O,
-    errors: &mut E,
-) -> Result<u8, AllocError>
-    requires out { O.failed out.old ≡ false }
-    requires errors { E.failed errors.old ≡ false }
-    ensures { IfOk result (λ status. status ≤ 4) }
-{
-    let answer = answer_of(alloc, after_name(words), host)?;
-    Ok(give(&answer, out, errors))
 }

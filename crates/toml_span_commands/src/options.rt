@@ -25,7 +25,7 @@ use toml_span_report::Style;
 pub(crate) const WRONG_MAP: &str = "the value of '--schema-map' must be URL=FILE";
 
 /// A command whose arguments this module parses.
-#[derive(Clone, Copy, PartialEq, Eq)]
+#[derive(Clone, Copy)]
 pub enum Query {
     /// `check`
     Check,
@@ -34,7 +34,7 @@ pub enum Query {
 }
 
 /// What `check` does with the fixes of errors.
-#[derive(Clone, Copy, PartialEq, Eq)]
+#[derive(Clone, Copy)]
 pub(crate) enum Fixing {
     /// Nothing.
     No,
@@ -56,20 +56,13 @@ pub(crate) struct Options<'w> {
     pub(crate) writing: toml_span_files::Options,
     pub(crate) schemas: SchemaOptions<'w>,
     /// The path of the configuration file, or an empty text.
-    config: &'w str,
+    pub(crate) config: &'w str,
     /// Whether to use no configuration file.
-    has_no_config: bool,
+    pub(crate) has_no_config: bool,
     /// Whether configuration files also exclude files that are named.
     pub(crate) forces_exclude: bool,
     /// Whether warnings are errors.
     pub(crate) denies_warnings: bool,
-}
-
-impl<'w> Options<'w> {
-    /// Returns which configuration file to use.
-    pub(crate) fn search(&self) -> Search<'w> {
-        search_of(self.config, self.has_no_config)
-    }
 }
 
 /// Returns which configuration file to use. `config` is the value of `--config`, or an empty text, and `has_none` says
@@ -87,7 +80,7 @@ pub(crate) fn search_of<'w>(config: &'w str, has_none: bool) -> Search<'w>
 }
 
 /// A mistake that clap does not find in the arguments.
-#[derive(Clone, Copy, PartialEq, Eq)]
+#[derive(Clone, Copy)]
 enum Mistake {
     /// The value of `--format` is unknown.
     Format,

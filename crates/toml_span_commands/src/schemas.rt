@@ -214,11 +214,7 @@ impl FileSchemas {
         named: &Named,
         copies: &mut Vec<LocalCopy>,
     ) -> Result<(), AllocError> {
-        let source = match named.source {
-            Some(at) => self.sources.list.get(at),
-            None => None,
-        };
-        let Some(source) = source else {
+        let Some(source) = self.sources.source_at(named.source) else {
             return Ok(());
         };
         for copy in &source.config.copies {
