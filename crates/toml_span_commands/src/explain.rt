@@ -76,15 +76,6 @@ fn push_titles(out: &mut String, list: &[&str]) -> Result<(), AllocError> {
     Ok(())
 }
 
-/// Returns the answer that lists all codes with the first lines of their explanations.
-fn list(alloc: Global) -> Result<Answer, AllocError> {
-    let mut text = String::new(alloc);
-    push_titles(&mut text, &CODES)?;
-    push_titles(&mut text, &OWN_CODES)?;
-    push_titles(&mut text, &SCHEMA_CODES)?;
-    Ok(printed(alloc, text))
-}
-
 /// Returns the answer that a code is not known, with the most similar code, if one is similar.
 fn unknown(alloc: Global, code: &str) -> Result<Answer, AllocError> {
     let shown = quoted_word(alloc, code)?;
@@ -98,11 +89,17 @@ fn unknown(alloc: Global, code: &str) -> Result<Answer, AllocError> {
     Ok(warned(alloc, text, 2))
 }
 
-/// Carries out `explain`: returns the answer with the explanation of a code, the list of codes, the help, or that the
-/// arguments are wrong.
+/// Carries out `explain`: returns the answer with the explanation of a code, with all codes and the first lines of their
+/// explanations, with the help, or that the arguments are wrong.
 pub(crate) fn explain(alloc: Global, arguments: &[String]) -> Result<Answer, AllocError> {
     match arguments {
-        [] => list(alloc),
+        [] => {
+            let mut text = String::new(alloc);
+            push_titles(&mut text, &CODES)?;
+            push_titles(&mut text, &OWN_CODES)?;
+            push_titles(&mut text, &SCHEMA_CODES)?;
+            Ok(printed(alloc, text))
+        }
         [word] if is_help(word.as_str()) => helped(alloc, Command::Explain),
         [code] => match page_of(code.as_str()) {
             Some(page) => Ok(printed(alloc, format!(in alloc; "{code}: {page}\n")?)),
