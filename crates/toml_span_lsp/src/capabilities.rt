@@ -116,19 +116,6 @@ fn client_of(params: &Value<'_>) -> Client {
     }
 }
 
-/// Returns the paths of the folders that are open in the editor, from the parameters of `initialize`.
-fn roots_of(alloc: Global, params: &Value<'_>) -> Result<Vec<String>, AllocError> {
-    let mut roots = Vec::new(alloc);
-    push_paths(alloc, params.get("workspaceFolders"), &mut roots)?;
-    if roots.is_empty() {
-        let uri = text_in(params, &["rootUri"]).unwrap_or("");
-        if let Some(path) = folder_path(alloc, uri)? {
-            roots.push(path)?;
-        }
-    }
-    Ok(roots)
-}
-
 /// Returns the code units in which positions are counted: those of UTF-8 if the client offers them, those of UTF-32 if
 /// it offers them and not those of UTF-16, otherwise those of UTF-16. `params` are the parameters of `initialize`.
 fn encoding_of(params: &Value<'_>) -> Encoding {
@@ -150,7 +137,15 @@ pub(crate) fn store_client(
 ) -> Result<(), AllocError> {
     state.encoding = encoding_of(params);
     state.client = client_of(params);
-    state.roots = roots_of(alloc, params)?;
+    let mut roots = Vec::new(alloc);
+    push_paths(alloc, params.get("workspaceFolders"), &mut roots)?;
+    if roots.is_empty() {
+        let uri = text_in(params, &["rootUri"]).unwrap_or("");
+        if let Some(path) = folder_path(alloc, uri)? {
+            roots.push(path)?;
+        }
+    }
+    state.roots = roots;
     let settings = match params.get("initializationOptions") {
         Some(options) => settings_in(alloc, state, options)?,
         None => AllSettings::usual(alloc),

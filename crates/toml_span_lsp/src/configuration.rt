@@ -33,23 +33,6 @@ fn settings_request(alloc: Global) -> ServerCall {
     ServerCall::new(Some(SETTINGS), "workspace/configuration", out)
 }
 
-/// Returns the request that asks the client to report changes of the settings, of files that may be schemas, and of
-/// configuration files, as far as the client supports that.
-fn registration(alloc: Global, client: Client) -> ServerCall {
-    let mut out = Json::new(alloc);
-    out.begin_object();
-    out.array("registrations");
-    if client.registers_settings {
-        out.json(alloc, SETTINGS_CHANGES);
-    }
-    if client.registers_files {
-        out.json(alloc, FILE_CHANGES);
-    }
-    out.end_array();
-    out.end_object();
-    ServerCall::new(Some("registration"), "client/registerCapability", out)
-}
-
 /// Returns the settings in `value`. Adds a line to `state.notices` if settings are wrong.
 pub(crate) fn settings_in(
     alloc: Global,
@@ -157,14 +140,25 @@ pub(crate) fn check_all<D: Disk>(
     Ok(())
 }
 
-/// Appends the request to report changes of the settings and files, and the request for the settings. Leaves out a
-/// request that the client does not support.
-pub(crate) fn initialized(alloc: Global, state: &State, out: &mut Outbox) {
-    let client = state.client;
+/// Appends the request to report changes of the settings, of files that may be schemas, and of configuration files, and
+/// the request for the settings. Leaves out what the client does not support.
+pub(crate) fn initialized(alloc: Global, client: Client, out: &mut Outbox) {
     if client.registers_settings || client.registers_files {
-        out.add(registration(alloc, client));
+        let mut params = Json::new(alloc);
+        params.begin_object();
+        params.array("registrations");
+        if client.registers_settings {
+            params.json(alloc, SETTINGS_CHANGES);
+        }
+        if client.registers_files {
+            params.json(alloc, FILE_CHANGES);
+        }
+        params.end_array();
+        params.end_object();
+        let (id, method) = (Some("registration"), "client/registerCapability");
+        out.add(ServerCall::new(id, method, params));
     }
-    if state.client.has_settings {
+    if client.has_settings {
         out.add(settings_request(alloc));
     }
 }

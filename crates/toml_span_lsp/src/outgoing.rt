@@ -381,18 +381,8 @@ pub(crate) fn write_workspace_edit(request: &Request<'_, '_, '_>, edits: &[Edit]
     out.end_object();
 }
 
-/// Returns a Markdown text as plain text: without backticks and the marks of bold text.
-fn plain_text(alloc: Global, markdown: &str) -> Result<String, AllocError> {
-    let mut out = String::new(alloc);
-    for part in markdown.split("**") {
-        for piece in part.split('`') {
-            out.push_str(piece)?;
-        }
-    }
-    Ok(out)
-}
-
-/// Writes a text in Markdown as it is or, if `is_markdown` is not set, as plain text.
+/// Writes a text in Markdown as it is or, if `is_markdown` is not set, as plain text: without backticks and the marks of
+/// bold text.
 pub(crate) fn write_markup(
     alloc: Global,
     markdown: &str,
@@ -404,7 +394,12 @@ pub(crate) fn write_markup(
         out.text("kind", "markdown");
         out.text("value", markdown);
     } else {
-        let text = plain_text(alloc, markdown)?;
+        let mut text = String::new(alloc);
+        for part in markdown.split("**") {
+            for piece in part.split('`') {
+                text.push_str(piece)?;
+            }
+        }
         out.text("kind", "plaintext");
         out.text("value", text.as_str());
     }

@@ -153,17 +153,6 @@ fn plain_diagnostic(
     })
 }
 
-/// Returns a list of the diagnostic that a document is too long to be read.
-fn too_long(alloc: Global) -> Result<Vec<Diagnostic>, AllocError> {
-    let range = Range {
-        start: FIRST,
-        end: FIRST,
-    };
-    let message = "the file is larger than 16 MiB";
-    let made = plain_diagnostic(alloc, range, Severity::Error, "too-long", message)?;
-    Ok(vec![in alloc; made]?)
-}
-
 /// Appends a diagnostic at the schema that a document names, if the schema can't be used.
 fn push_schema_fault(
     alloc: Global,
@@ -267,8 +256,14 @@ fn checked(
         → IfOk result (AreShown lookup.old document.old encoding) }
 {
     if is_too_long(document) {
+        let range = Range {
+            start: FIRST,
+            end: FIRST,
+        };
+        let message = "the file is larger than 16 MiB";
+        let made = plain_diagnostic(alloc, range, Severity::Error, "too-long", message)?;
         return Ok(Findings {
-            diagnostics: too_long(alloc)?,
+            diagnostics: vec![in alloc; made]?,
             reports: Vec::new(alloc),
         });
     }

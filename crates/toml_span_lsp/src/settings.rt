@@ -132,16 +132,6 @@ const SETTINGS: [(&str, &str); 6] = [
     ),
 ];
 
-/// Returns the version of TOML that `name` denotes in the setting `toml`, or `None` if `name` is unknown.
-fn version_named(name: &str) -> Option<Version> {
-    match name {
-        "auto" => Some(Version::Auto),
-        "1.0" => Some(Version::Toml10),
-        "1.1" => Some(Version::Toml11),
-        _ => None,
-    }
-}
-
 /// Returns `address` unchanged if it is empty or a URL. Otherwise, it is a path, and the result is that of `rooted`.
 pub(crate) fn rooted_address(
     alloc: Global,
@@ -185,10 +175,9 @@ impl AllSettings {
                 Some(width) if width <= 65_535 => self.settings.width = Some(width as usize),
                 _ => return Ok(false),
             },
-            ("toml", Value::String(name)) => match version_named(*name) {
-                Some(version) => self.settings.version = version,
-                None => return Ok(false),
-            },
+            ("toml", Value::String("auto")) => self.settings.version = Version::Auto,
+            ("toml", Value::String("1.0")) => self.settings.version = Version::Toml10,
+            ("toml", Value::String("1.1")) => self.settings.version = Version::Toml11,
             ("formats", Value::Bool(has_formats)) => self.options.has_formats = *has_formats,
             ("schema", Value::String(schema)) => {
                 self.options.schema = String::from_str(alloc, *schema)?;

@@ -9,6 +9,7 @@ use crate::capabilities::{store_client, write_capabilities};
 use crate::configuration::{
     check_all, folders_changed, initialized, settings_came, settings_changed,
 };
+use crate::frames::{Framed, frame};
 use crate::incoming::{Call, Id, Message, message_of};
 use crate::methods::method_named;
 use crate::outgoing::{Json, Outbox, error_response, response, warning};
@@ -22,7 +23,7 @@ use crate::schemas::{follow, settle};
 use crate::state::{Phase, Server, State};
 use crate::surrogates::without_lone;
 use crate::sync::{change, close, open, save};
-use crate::waiting::{has_frame, is_cancelled};
+use crate::waiting::is_cancelled;
 use json::{Error, Scratch, Value};
 use std::alloc::{AllocError, Global};
 use std::mem;
@@ -79,7 +80,7 @@ fn note_running<D: Disk>(
 ) -> Result<(), AllocError> {
     match call.method {
         "initialized" => {
-            initialized(alloc, state, out);
+            initialized(alloc, state.client, out);
             Ok(())
         }
         "workspace/didChangeConfiguration" => {
@@ -273,7 +274,7 @@ pub(crate) fn step_around<D: Disk>(
 {
     let mut out = Outbox::new(alloc);
     let response = respond(alloc, server, disk, content, around, &mut out)?;
-    if !has_frame(around.waiting) {
+    if !matches!(frame(around.waiting), Framed::Whole { .. }) {
         settle(alloc, &mut server.state, disk, &mut out)?;
     }
     push_notices(alloc, &mut server.state, &mut out);

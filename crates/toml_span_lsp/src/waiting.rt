@@ -13,24 +13,6 @@ const CANCEL: &str = "$/cancelRequest";
 /// The length in bytes of the content of a message up to which `next_text` looks at it.
 const LONGEST_REQUEST: usize = 65_536;
 
-/// Returns whether `bytes` begin with a whole frame.
-pub(crate) fn has_frame(bytes: &[u8]) -> bool {
-    matches!(frame(bytes), Framed::Whole { .. })
-}
-
-/// Returns whether a message cancels the request `id`.
-fn cancels(message: Message<'_, '_>, id: Id<'_>) -> bool {
-    let Message::Call(call) = message else {
-        return false;
-    };
-    let is_asked = match (id, call.params.get("id")) {
-        (Id::Number(number), Some(value)) => value.as_i64() == Some(number),
-        (Id::Text(text), Some(value)) => value.as_str() == Some(text),
-        _ => false,
-    };
-    call.id.is_none() && call.method == CANCEL && is_asked
-}
-
 /// Returns whether the message in `content` cancels the request `id`.
 fn is_cancellation(alloc: Global, content: &[u8], id: Id<'_>) -> Result<bool, AllocError> {
     let text = str::from_utf8(content).unwrap_or("");
@@ -38,11 +20,20 @@ fn is_cancellation(alloc: Global, content: &[u8], id: Id<'_>) -> Result<bool, Al
         return Ok(false);
     }
     let mut scratch = Scratch::new(alloc);
-    match Value::from_slice(alloc, content, &mut scratch) {
-        Ok(value) => Ok(cancels(message_of(&value), id)),
-        Err(Error::OutOfMemory) => Err(AllocError),
-        Err(_) => Ok(false),
-    }
+    let value = match Value::from_slice(alloc, content, &mut scratch) {
+        Ok(value) => value,
+        Err(Error::OutOfMemory) => return Err(AllocError),
+        Err(_) => return Ok(false),
+    };
+    let Message::Call(call) = message_of(&value) else {
+        return Ok(false);
+    };
+    let is_asked = match (id, call.params.get("id")) {
+        (Id::Number(number), Some(value)) => value.as_i64() == Some(number),
+        (Id::Text(text), Some(value)) => value.as_str() == Some(text),
+        _ => false,
+    };
+    Ok(call.id.is_none() && call.method == CANCEL && is_asked)
 }
 
 /// Returns whether a message in `waiting`, which are frames and maybe a part of one, cancels the request `id`.
