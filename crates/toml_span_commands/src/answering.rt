@@ -9,7 +9,6 @@ use crate::explain::explain;
 use crate::fmt::fmt;
 use crate::helping::help;
 use crate::schema::schema;
-use crate::words::after_name;
 use std::alloc::{AllocError, Global};
 use toml_span_check::input::Host;
 use toml_span_lines::sink::Sink;
@@ -28,7 +27,7 @@ pub fn answer<O: Sink, E: Sink>(
     requires errors { E.failed errors.old ≡ false }
     ensures { IfOk result (λ status. status ≤ 4) }
 {
-    let words = after_name(words);
+    let words = words.get(1..).unwrap_or(&[]);
     let answer = match command {
         Command::Fmt => fmt(alloc, words, host)?,
         Command::Config => config(alloc, words, host)?,

@@ -33,16 +33,6 @@ pub(crate) enum Action<'w> {
     Move(&'w str),
 }
 
-/// Returns how many arguments an editing command takes after the name of the file.
-pub(crate) fn count_of(command: Command) -> usize {
-    match command {
-        Command::Edit => 0,
-        Command::Remove => 1,
-        Command::Add => 3,
-        _ => 2,
-    }
-}
-
 /// Returns the edit that a command makes. `words` are the arguments after the name of the file. Returns `None` if their
 /// number is wrong, or if `command` is not a command that makes exactly one edit.
 pub(crate) fn change_of<'w>(command: Command, words: &[&'w str]) -> Option<PathEdit<'w>>

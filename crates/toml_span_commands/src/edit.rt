@@ -5,7 +5,7 @@ ghost use Rattle.toml_span_commands.specs.Escaped as spec;
 
 use crate::answers::{Answer, failed, helped, misuse, misused, printed, stopped};
 use crate::arguments::{Arguments, Show, arguments_asked};
-use crate::changes::{PathEdit, change_of, count_of, option_changes, script_changes};
+use crate::changes::{PathEdit, change_of, option_changes, script_changes};
 use crate::commands::Command;
 use crate::files::unedited;
 use crate::making::{Refusal, Way, new_text};
@@ -200,7 +200,12 @@ fn perform_script(
 
 /// Returns the answer for a wrong number of arguments. `given` is this number.
 fn miscounted(alloc: Global, command: Command, given: usize) -> Result<Answer, AllocError> {
-    let wanted = count_of(command).saturating_add(1);
+    let wanted = match command {
+        Command::Edit => 1,
+        Command::Remove => 2,
+        Command::Add => 4,
+        _ => 3,
+    };
     let arguments = if wanted == 1 { "argument" } else { "arguments" };
     let message = format!(in alloc; "expected {wanted} {arguments}, found {given}")?;
     misuse(alloc, command, message.as_str())

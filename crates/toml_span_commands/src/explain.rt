@@ -5,12 +5,12 @@ ghost use Rattle.toml_span_commands.specs.Explain as spec;
 use crate::answers::{Answer, helped, misuse, printed, warned};
 use crate::commands::Command;
 use crate::say::{quoted_word, similar_line};
-use crate::schema_pages::{SCHEMA_CODES, schema_page};
+use crate::schema_pages::{SCHEMA_PAGES, schema_page};
 use crate::words::is_help;
 use std::alloc::{AllocError, Global};
 use toml_span_report::{CODES, explain as page_of_error};
 
-/// The codes of `check` and `get` that are neither in `CODES` nor in `SCHEMA_CODES`.
+/// The codes of `check` and `get` that are neither in `CODES` nor in `SCHEMA_PAGES`.
 const OWN_CODES: [&str; 4] = ["too-many-errors", "not-utf-8", "too-long", "nothing-there"];
 
 /// The explanation of `too-many-errors`.
@@ -62,9 +62,20 @@ fn page_of(code: &str) -> Option<&'static str>
     }
 }
 
-/// Appends a line for each code in `list`: the code, and the first line of its explanation.
-fn push_titles(out: &mut String, list: &[&str]) -> Result<(), AllocError> {
-    for code in list {
+/// Returns all codes.
+fn all_codes(alloc: Global) -> Result<Vec<&'static str>, AllocError> {
+    let mut codes = Vec::from_slice(alloc, &CODES)?;
+    codes.extend_from_slice(&OWN_CODES)?;
+    for page in &SCHEMA_PAGES {
+        codes.push(page.0)?;
+    }
+    Ok(codes)
+}
+
+/// Returns a line for each code: the code, and the first line of its explanation.
+fn titles(alloc: Global) -> Result<String, AllocError> {
+    let mut out = String::new(alloc);
+    for code in &all_codes(alloc)? {
         out.push_str(*code)?;
         for _ in code.len()..31 {
             out.push(' ')?;
@@ -73,16 +84,13 @@ fn push_titles(out: &mut String, list: &[&str]) -> Result<(), AllocError> {
         out.push_str(page.split_once('\n').map_or(page, |parts| parts.0))?;
         out.push('\n')?;
     }
-    Ok(())
+    Ok(out)
 }
 
 /// Returns the answer that a code is not known, with the most similar code, if one is similar.
 fn unknown(alloc: Global, code: &str) -> Result<Answer, AllocError> {
     let shown = quoted_word(alloc, code)?;
-    let mut all = Vec::from_slice(alloc, &CODES)?;
-    all.extend_from_slice(&OWN_CODES)?;
-    all.extend_from_slice(&SCHEMA_CODES)?;
-    let similar = similar_line(alloc, "code", code, all.as_slice())?;
+    let similar = similar_line(alloc, "code", code, all_codes(alloc)?.as_slice())?;
     let text = format!(in alloc;
         "error: no such code: {shown}\n{similar}help: `toml-span explain` lists the codes\n"
     )?;
@@ -93,13 +101,7 @@ fn unknown(alloc: Global, code: &str) -> Result<Answer, AllocError> {
 /// explanations, with the help, or that the arguments are wrong.
 pub(crate) fn explain(alloc: Global, arguments: &[String]) -> Result<Answer, AllocError> {
     match arguments {
-        [] => {
-            let mut text = String::new(alloc);
-            push_titles(&mut text, &CODES)?;
-            push_titles(&mut text, &OWN_CODES)?;
-            push_titles(&mut text, &SCHEMA_CODES)?;
-            Ok(printed(alloc, text))
-        }
+        [] => Ok(printed(alloc, titles(alloc)?)),
         [word] if is_help(word.as_str()) => helped(alloc, Command::Explain),
         [code] => match page_of(code.as_str()) {
             Some(page) => Ok(printed(alloc, format!(in alloc; "{code}: {page}\n")?)),

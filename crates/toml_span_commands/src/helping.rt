@@ -9,27 +9,21 @@ use crate::words::is_help;
 use std::alloc::{AllocError, Global};
 use toml_span_lines::sink::Sink;
 
-/// Returns the command that a word means which names a command of other programs, such as `format`.
-fn other_name(word: &str) -> Option<&'static str> {
-    match word {
-        "format" | "reformat" => Some("fmt"),
-        "lint" | "validate" | "verify" => Some("check"),
-        "query" | "read" | "print" => Some("get"),
-        "update" | "replace" => Some("set"),
-        "delete" | "rm" | "unset" => Some("remove"),
-        "mv" => Some("move"),
-        "settings" => Some("config"),
-        "server" => Some("lsp"),
-        _ => None,
-    }
-}
-
-/// Returns the line that names the command that a word probably means, or an empty text if there is none.
+/// Returns the line that names the command that a word probably means, such as a command of other programs, or an empty
+/// text if there is none.
 fn suggestion(alloc: Global, word: &str) -> Result<String, AllocError> {
-    match other_name(word) {
-        Some(name) => format!(in alloc; "help: the command is `{name}`\n"),
-        None => similar_line(alloc, "command", word, &NAMES),
-    }
+    let name = match word {
+        "format" | "reformat" => "fmt",
+        "lint" | "validate" | "verify" => "check",
+        "query" | "read" | "print" => "get",
+        "update" | "replace" => "set",
+        "delete" | "rm" | "unset" => "remove",
+        "mv" => "move",
+        "settings" => "config",
+        "server" => "lsp",
+        _ => return similar_line(alloc, "command", word, &NAMES),
+    };
+    format!(in alloc; "help: the command is `{name}`\n")
 }
 
 /// Returns the text that an argument is neither a command nor a file, with the command that it probably means, if there

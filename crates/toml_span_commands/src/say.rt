@@ -93,16 +93,6 @@ pub(crate) fn unexpected(
     format!(in alloc; "unexpected argument '{name}' found")
 }
 
-/// Returns the message that an option has no value, in the words of clap.
-pub(crate) fn missing_value(alloc: Global, option: &str) -> Result<String, AllocError> {
-    let name = if option == "-e" {
-        "edit"
-    } else {
-        option.trim_start_matches('-')
-    };
-    format!(in alloc; "a value is required for '{option} <{name}>' but none was supplied")
-}
-
 /// Returns a text about wrong arguments: `message`, which says what is wrong, and the usage of the command.
 pub(crate) fn usage_text(
     alloc: Global,
