@@ -76,15 +76,41 @@ fn write_selections(
     Ok(())
 }
 
-/// Writes the answer to a request about a document or, if it has errors, about what can be read of it. Fails with a
-/// `Refusal` if the request is refused.
-fn write_readable(
+/// Returns the range in a request. Fails with `INVALID_PARAMS` if the request has no valid range.
+fn asked_span(request: &Request<'_, '_, '_>) -> Result<Span, Stop<Refusal>> {
+    match span_of(request) {
+        Some(span) => Ok(span),
+        None => Err(refused(
+            request.alloc,
+            INVALID_PARAMS,
+            "`range` must have a `start` and an `end`",
+        )),
+    }
+}
+
+/// Writes the answer to a request about a document or, for some requests if it has errors, about what can be read of it.
+/// Fails with a `Refusal` if the request is refused.
+fn write_answer(
     request: &Request<'_, '_, '_>,
     reading: &Reading<'_>,
     guide: Option<&Guide>,
     out: &mut Json,
 ) -> Result<(), Stop<Refusal>> {
-    let Some(document) = reading.document.as_ref().or(reading.partial.as_ref()) else {
+    let whole = reading.document.as_ref();
+    match request.method {
+        Method::Format | Method::FormatRange => return Ok(write_formatting(request, out)?),
+        Method::Folds => return Ok(write_folds(request, out)?),
+        Method::TokensInRange => return Ok(write_tokens_in(request, asked_span(request)?, out)?),
+        Method::Rename => return write_rename(request, whole, offset_of(request)?, out),
+        Method::PrepareRename => return Ok(write_renamable(
+            request,
+            whole,
+            offset_of(request)?,
+            out,
+        )?),
+        _ => {}
+    }
+    let Some(document) = whole.or(reading.partial.as_ref()) else {
         out.null();
         return Ok(());
     };
@@ -102,41 +128,6 @@ fn write_readable(
         _ => write_completion(request, document, guide, at, out)?,
     }
     Ok(())
-}
-
-/// Returns the range in a request. Fails with `INVALID_PARAMS` if the request has no valid range.
-fn asked_span(request: &Request<'_, '_, '_>) -> Result<Span, Stop<Refusal>> {
-    match span_of(request) {
-        Some(span) => Ok(span),
-        None => Err(refused(
-            request.alloc,
-            INVALID_PARAMS,
-            "`range` must have a `start` and an `end`",
-        )),
-    }
-}
-
-/// Writes the answer to a request about a document. Fails with a `Refusal` if the request is refused.
-fn write_answer(
-    request: &Request<'_, '_, '_>,
-    reading: &Reading<'_>,
-    guide: Option<&Guide>,
-    out: &mut Json,
-) -> Result<(), Stop<Refusal>> {
-    match request.method {
-        Method::Format | Method::FormatRange => Ok(write_formatting(request, out)?),
-        Method::Folds => Ok(write_folds(request, out)?),
-        Method::TokensInRange => Ok(write_tokens_in(request, asked_span(request)?, out)?),
-        Method::Rename => {
-            let at = offset_of(request)?;
-            write_rename(request, reading.document.as_ref(), at, out)
-        }
-        Method::PrepareRename => {
-            let at = offset_of(request)?;
-            Ok(write_renamable(request, reading.document.as_ref(), at, out)?)
-        }
-        _ => write_readable(request, reading, guide, out),
-    }
 }
 
 /// Writes the answer to a request about the open document `uri` that depends on its name or its schema. Reads no files.
