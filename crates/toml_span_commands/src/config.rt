@@ -9,7 +9,7 @@ use toml_span::Stop;
 use toml_span_check::input::Host;
 use toml_span_check::newer::Version;
 use toml_span_check::words::shown_word;
-use toml_span_config::layers::{Chosen, Crlf, ExpandArrays, Layer, Origin, Settings};
+use toml_span_config::layers::{Chosen, Crlf, ExpandArrays, Layer, Origin};
 use toml_span_config::sources::{Found, Sources};
 use toml_span_edit::string_text;
 use toml_span_report::visible::visible;
@@ -66,23 +66,17 @@ impl Table<'_> {
         self.out.push_str(" = ")?;
         self.out.push_str(value)?;
         self.out.push_str(" # ")?;
-        self.add_origin(origin)?;
+        match (origin, self.sources.source_at(self.found.source)) {
+            (Origin::File(span), Some(source)) => {
+                let (line, column) = line_column(source.text.as_str(), span.start);
+                let name = shown_word(self.alloc, source.name.as_str())?;
+                let name = visible(self.alloc, name.as_str())?;
+                let place = format!(in self.alloc; "{}:{line}:{column}", name.as_str())?;
+                self.out.push_str(place.as_str())?;
+            }
+            _ => self.out.push_str("default")?,
+        }
         self.out.push('\n')
-    }
-
-    /// Adds where a setting comes from.
-    fn add_origin(&mut self, origin: Origin) -> Result<(), AllocError> {
-        let Origin::File(span) = origin else {
-            return self.out.push_str("default");
-        };
-        let Some(source) = self.sources.source_at(self.found.source) else {
-            return self.out.push_str("default");
-        };
-        let (line, column) = line_column(source.text.as_str(), span.start);
-        let name = shown_word(self.alloc, source.name.as_str())?;
-        let name = visible(self.alloc, name.as_str())?;
-        let place = format!(in self.alloc; "{}:{line}:{column}", name.as_str())?;
-        self.out.push_str(place.as_str())
     }
 
     /// Adds a line with a number.
@@ -111,21 +105,13 @@ impl Table<'_> {
         let indent = u16::from(settings.indent.value);
         self.add_number("fmt.indent", indent, settings.indent.origin)?;
         self.add_flag("fmt.sort-keys", settings.sort_keys)?;
-        self.add_layout(&settings)
-    }
-
-    /// Adds a line for each setting that says how the formatter writes commas, lines and comments.
-    fn add_layout(&mut self, settings: &Settings) -> Result<(), AllocError> {
         self.add_flag("fmt.trailing-comma", settings.trailing_comma)?;
         let expansion = match settings.expand_arrays.value {
             ExpandArrays::Auto => "\"auto\"",
             ExpandArrays::Keep => "\"keep\"",
         };
-        self.add(
-            "fmt.expand-arrays",
-            expansion,
-            settings.expand_arrays.origin,
-        )?;
+        let origin = settings.expand_arrays.origin;
+        self.add("fmt.expand-arrays", expansion, origin)?;
         self.add_flag("fmt.align-comments", settings.align_comments)?;
         let blank_lines = u16::from(settings.blank_lines.value);
         self.add_number("fmt.blank-lines", blank_lines, settings.blank_lines.origin)?;

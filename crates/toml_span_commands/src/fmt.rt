@@ -16,6 +16,7 @@ use crate::words::{Argument, arguments_in, has_help};
 use std::alloc::{AllocError, Global};
 use std::fmt::Write;
 use std::io::IsTerminal;
+use std::mem;
 use toml_span::{Error, Stop, parse};
 use toml_span_check::encoding::not_utf8;
 use toml_span_check::folder::is_folder;
@@ -522,21 +523,12 @@ fn format_all(alloc: Global, asked: &Asked<'_>, host: &mut Host) -> Result<Answe
         Ok(files) => files,
         Err(stop) => return stopped(alloc, stop),
     };
-    let answer = format_each(alloc, asked, host, files.as_slice())?;
-    if !asked.is_diff {
-        return Ok(answer);
+    let mut answer = format_each(alloc, asked, host, files.as_slice())?;
+    if asked.is_diff {
+        let out = mem::replace(&mut answer.out, String::new(alloc));
+        answer.out = escaped(alloc, out, host.rt.stdout().is_terminal())?;
     }
-    let Answer {
-        out,
-        errors,
-        status,
-    } = answer;
-    let out = escaped(alloc, out, host.rt.stdout().is_terminal())?;
-    Ok(Answer {
-        out,
-        errors,
-        status,
-    })
+    Ok(answer)
 }
 
 /// Formats files. Returns the answer. Its status is 0 for success; 1 if a file can't be formatted, or would change with
