@@ -78,8 +78,8 @@ fn offers(params: &Value<'_>, path: &str, wanted: &str) -> bool {
     }
 }
 
-/// Returns the capabilities of the client, from the parameters of `initialize`.
-fn client_of(params: &Value<'_>) -> Client {
+/// Returns the capabilities of the client, from the parameters of `initialize`. There are none in `Value::Null`.
+pub(crate) fn client_of(params: &Value<'_>) -> Client {
     Client {
         asks_diagnostics: capability(params, "textDocument/diagnostic").is_some(),
         refreshes_diagnostics: can(params, "workspace/diagnostics/refreshSupport"),

@@ -3,9 +3,11 @@ ghost use Rattle.std.specs.Prelude.{◌≡◌, ◌+◌, ◌%◌, ◌^◌};
 ghost use Rattle.toml_span_lsp.specs.Phases as spec;
 ghost use Rattle.toml_span_lsp.specs.declared.state.Phase.TheVariants.{New};
 
+use crate::capabilities::client_of;
 use crate::folders::Folders;
 use crate::projects::Projects;
 use crate::settings::{AllSettings, Settings};
+use json::Value;
 use std::alloc::Global;
 use std::collections::BTreeMap;
 use toml_span_editor::diagnostics::Diagnostic;
@@ -53,24 +55,6 @@ pub(crate) struct Client {
     pub has_versioned_edits: bool,
     /// Whether the client reports changes of files when the server asks it to.
     pub registers_files: bool,
-}
-
-impl Client {
-    /// A client with none of these capabilities.
-    pub(crate) const PLAIN: Client = Client {
-        asks_diagnostics: false,
-        refreshes_diagnostics: false,
-        has_settings: false,
-        registers_settings: false,
-        has_snippets: false,
-        has_literals: false,
-        has_markdown_hovers: false,
-        has_markdown_items: false,
-        has_nested_symbols: false,
-        has_related: false,
-        has_versioned_edits: false,
-        registers_files: false,
-    };
 }
 
 /// The semantic tokens that were sent last for a document.
@@ -155,7 +139,7 @@ impl State {
     fn new(alloc: Global) -> Self {
         State {
             encoding: Encoding::Utf16,
-            client: Client::PLAIN,
+            client: client_of(&Value::Null),
             roots: Vec::new(alloc),
             settings: Settings::USUAL,
             options: AllSettings::usual(alloc).options,
