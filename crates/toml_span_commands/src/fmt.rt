@@ -141,31 +141,6 @@ fn number_of(
     }
 }
 
-/// Returns the setting that the value `word` of `--expand-arrays` names. Fails with a message for any other `word`.
-fn expansion_of(alloc: Global, word: &str) -> Result<ExpandArrays, Stop<String>> {
-    match word {
-        "auto" => Ok(ExpandArrays::Auto),
-        "keep" => Ok(ExpandArrays::Keep),
-        _ => {
-            let message = "the value of '--expand-arrays' must be 'auto' or 'keep'";
-            Err(Stop::Fault(String::from_str(alloc, message)?))
-        }
-    }
-}
-
-/// Returns the setting that the value `word` of `--crlf` names. Fails with a message for any other `word`.
-fn crlf_of(alloc: Global, word: &str) -> Result<Crlf, Stop<String>> {
-    match word {
-        "auto" => Ok(Crlf::Auto),
-        "always" => Ok(Crlf::Always),
-        "never" => Ok(Crlf::Never),
-        _ => {
-            let message = "the value of '--crlf' must be 'auto', 'always' or 'never'";
-            Err(Stop::Fault(String::from_str(alloc, message)?))
-        }
-    }
-}
-
 impl Asked<'_> {
     /// Returns whether formatted files are written: not with `--check` and `--diff`.
     fn writes(&self) -> bool
@@ -188,8 +163,27 @@ impl<'w> Asked<'w> {
                 let count = number_of(alloc, name, word, 1, MOST_BLANK_LINES)?;
                 self.layer.blank_lines = given(u8::try_from(count).unwrap_or(u8::MAX));
             }
-            "--expand-arrays" => self.layer.expand_arrays = given(expansion_of(alloc, word)?),
-            "--crlf" => self.layer.crlf = given(crlf_of(alloc, word)?),
+            "--expand-arrays" => {
+                self.layer.expand_arrays = match word {
+                    "auto" => given(ExpandArrays::Auto),
+                    "keep" => given(ExpandArrays::Keep),
+                    _ => {
+                        let message = "the value of '--expand-arrays' must be 'auto' or 'keep'";
+                        return Err(Stop::Fault(String::from_str(alloc, message)?));
+                    }
+                };
+            }
+            "--crlf" => {
+                self.layer.crlf = match word {
+                    "auto" => given(Crlf::Auto),
+                    "always" => given(Crlf::Always),
+                    "never" => given(Crlf::Never),
+                    _ => {
+                        let message = "the value of '--crlf' must be 'auto', 'always' or 'never'";
+                        return Err(Stop::Fault(String::from_str(alloc, message)?));
+                    }
+                };
+            }
             "--config" => self.config = word,
             "--stdin-name" => self.stdin_name = word,
             "--wait" => self.writing.wait = seconds(alloc, word)?,
