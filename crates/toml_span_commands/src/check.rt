@@ -1,6 +1,7 @@
 //! The command `check`.
 ghost use Rattle.std.specs.Prelude.{◌≡◌, ◌≤◌, IfOk, None, [], false, map, string_bytes};
-ghost use Rattle.toml_span_commands.specs.Check.{ChecksConfigured, ChecksFixed, ChecksWith, PerformsCheck, ShowsChanges};
+ghost use Rattle.toml_span_commands.specs.Check.{ChecksConfigured, ChecksFixed, ChecksWith, PerformsCheck};
+ghost use Rattle.toml_span_commands.specs.Check.{ShowsChanges};
 ghost use Rattle.toml_span_commands.specs.Configured as spec;
 ghost use Rattle.toml_span_commands.specs.Configured.{IsConfigured, configured_says};
 ghost use Rattle.toml_span_commands.specs.Start.{RunsWith};
@@ -124,8 +125,8 @@ impl Fixes {
         with_all_fixes(alloc, text, version, file.shown.as_str(), self.level)
     }
 
-    /// Fixes errors of a file whose content is `bytes`, and calls `put` if there were fixes. Returns whether there were.
-    /// A file that is larger than 16 MiB or not valid UTF-8 has no fixes.
+    /// Fixes errors of a file whose content is `bytes`, and calls `put` if there were fixes. Returns whether there
+    /// were. A file that is larger than 16 MiB or not valid UTF-8 has no fixes.
     fn add_bytes(
         &mut self,
         alloc: Global,
@@ -396,7 +397,8 @@ fn check_files<O: Sink, E: Sink>(
 ) -> u8
     requires out { O.failed out.old ≡ false }
     requires errors { E.failed errors.old ≡ false }
-    ensures { RunsWith configured_says request.now None None (O.contents out.old) (O.contents out.new) (O.failed out.new)
+    ensures { RunsWith configured_says request.now None None
+        (O.contents out.old) (O.contents out.new) (O.failed out.new)
         (E.contents errors.old) (E.contents errors.new) (E.failed errors.new) result }
 {
     run_with(

@@ -97,8 +97,8 @@ fn unknown(alloc: Global, code: &str) -> Result<Answer, AllocError> {
     Ok(warned(alloc, text, 2))
 }
 
-/// Carries out `explain`: returns the answer with the explanation of a code, with all codes and the first lines of their
-/// explanations, with the help, or that the arguments are wrong.
+/// Carries out `explain`: returns the answer with the explanation of a code, with all codes and the first lines of
+/// their explanations, with the help, or that the arguments are wrong.
 pub(crate) fn explain(alloc: Global, arguments: &[String]) -> Result<Answer, AllocError> {
     match arguments {
         [] => Ok(printed(alloc, titles(alloc)?)),

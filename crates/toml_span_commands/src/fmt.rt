@@ -510,8 +510,8 @@ fn files_of(
     configured_files(alloc, host, &mut sources, wanted)
 }
 
-/// Finds the files, and formats them as `format_each` does. With `--diff`, the output is escaped if standard output is a
-/// terminal. If a configuration file can't be read or is wrong, formats nothing, and the answer says why.
+/// Finds the files, and formats them as `format_each` does. With `--diff`, the output is escaped if standard output is
+/// a terminal. If a configuration file can't be read or is wrong, formats nothing, and the answer says why.
 fn format_all(alloc: Global, asked: &Asked<'_>, host: &mut Host) -> Result<Answer, AllocError> {
     let files = match files_of(alloc, asked, host) {
         Ok(files) => files,

@@ -46,7 +46,8 @@ pub fn say_unknown<E: Sink>(alloc: Global, word: &str, errors: &mut E) -> Result
     Ok(say(errors, text.as_str(), 2))
 }
 
-/// Carries out `help`: returns the answer with the help of the program or of a command, or that the arguments are wrong.
+/// Carries out `help`: returns the answer with the help of the program or of a command, or that the arguments are
+/// wrong.
 pub(crate) fn help(alloc: Global, arguments: &[String]) -> Result<Answer, AllocError> {
     match arguments {
         [name] if !is_help(name.as_str()) => match command_named(name.as_str()) {

@@ -21,7 +21,8 @@ const PROBE: &str = "v = ";
 #[derive(Drop)]
 pub(crate) struct Refusal {
     pub(crate) message: String,
-    /// Whether the edit would be made if it were allowed to replace a table or array that headers or dotted keys define.
+    /// Whether the edit would be made if it were allowed to replace a table or array that headers or dotted keys
+    /// define.
     pub(crate) is_table: bool,
 }
 

@@ -60,8 +60,8 @@ pub(crate) fn is_among(name: &str, names: &[&str]) -> bool
     false
 }
 
-/// Returns the message that an argument is unexpected, in the words of clap. An option is named without its value. If one
-/// of the options `names` is similar, a second line names it. Otherwise, if the command has the option `--`
+/// Returns the message that an argument is unexpected, in the words of clap. An option is named without its value. If
+/// one of the options `names` is similar, a second line names it. Otherwise, if the command has the option `--`
 /// (`has_dashes`), a second line says how to pass an argument with two dashes as a value.
 pub(crate) fn unexpected(
     alloc: Global,

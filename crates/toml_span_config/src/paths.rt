@@ -33,8 +33,8 @@ pub(crate) fn above(path: &str) -> Option<&str> {
     Some(folder)
 }
 
-/// Returns the part of `path` below the directory `folder`, or `None` if it is not below. Both are as `absolute` returns
-/// them.
+/// Returns the part of `path` below the directory `folder`, or `None` if it is not below. Both are as `absolute`
+/// returns them.
 pub(crate) fn below<'t>(folder: &str, path: &'t str) -> Option<&'t str>
     ensures { option_map (λ rest. rest.now) result ≡ spec.below folder.now path.now }
 {
@@ -44,8 +44,8 @@ pub(crate) fn below<'t>(folder: &str, path: &'t str) -> Option<&'t str>
     }
 }
 
-/// Returns the part of `path` below the directory `folder`, or the whole path if it is not below. Both are as `absolute`
-/// returns them.
+/// Returns the part of `path` below the directory `folder`, or the whole path if it is not below. Both are as
+/// `absolute` returns them.
 pub(crate) fn inside<'t>(folder: &str, path: &'t str) -> &'t str
     ensures { result.now ≡ spec.inside folder.now path.now }
 {

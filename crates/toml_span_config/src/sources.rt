@@ -247,8 +247,8 @@ impl Sources {
         }
     }
 
-    /// Returns the settings for the file at `path`, an absolute path, by the configuration file at the position `at`, if
-    /// there is one.
+    /// Returns the settings for the file at `path`, an absolute path, by the configuration file at the position `at`,
+    /// if there is one.
     fn found(&self, alloc: Global, at: Option<usize>, path: &str) -> Result<Found, AllocError>
         ensures { IfOk result (λ found. found
             ≡ spec.found (map spec.source self.now.list.items) self.now.arguments at path.now) }
@@ -306,7 +306,8 @@ impl Sources {
 }
 
 impl Source {
-    /// Returns a path of the configuration, relative to the current directory. A URL or an absolute path stays as it is.
+    /// Returns a path of the configuration, relative to the current directory. A URL or an absolute path stays as it
+    /// is.
     pub fn shown_path(&self, alloc: Global, path: &str) -> Result<String, AllocError> {
         if path.starts_with('/') || path.contains("://") {
             return String::from_str(alloc, path);
@@ -316,8 +317,8 @@ impl Source {
     }
 }
 
-/// Returns the text of the configuration file at an absolute path. Fails with a message, which calls the file `name`, if
-/// it can't be read, is not valid UTF-8, or is too long.
+/// Returns the text of the configuration file at an absolute path. Fails with a message, which calls the file `name`,
+/// if it can't be read, is not valid UTF-8, or is too long.
 fn text_of(alloc: Global, host: &mut Host, name: &str, path: &str) -> Result<String, Stop<String>> {
     let bytes = match host.read(alloc, path)? {
         Ok(bytes) => bytes,

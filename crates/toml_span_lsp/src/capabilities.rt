@@ -9,9 +9,9 @@ use json::Value;
 use std::alloc::{AllocError, Global};
 use toml_span_editor::positions::Encoding;
 
-/// The capabilities of the server, each with its value as JSON, except for the code units in which positions are counted.
-/// Each document that is opened, changed, saved or closed is to be reported, and changes as ranges with new text. The
-/// types of semantic tokens are in the order of their numbers.
+/// The capabilities of the server, each with its value as JSON, except for the code units in which positions are
+/// counted. Each document that is opened, changed, saved or closed is to be reported, and changes as ranges with new
+/// text. The types of semantic tokens are in the order of their numbers.
 const CAPABILITIES: [(&str, &str); 17] = [
     (
         "textDocumentSync",
@@ -54,8 +54,8 @@ const CAPABILITIES: [(&str, &str); 17] = [
 /// The version of the server.
 const VERSION: &str = "0.7.2";
 
-/// Returns the capability of the client at `path`, as `textDocument/hover`, or `None` if the client does not announce it.
-/// `params` are the parameters of `initialize`.
+/// Returns the capability of the client at `path`, as `textDocument/hover`, or `None` if the client does not announce
+/// it. `params` are the parameters of `initialize`.
 fn capability<'v, 'j>(params: &'v Value<'j>, path: &str) -> Option<&'v Value<'j>> {
     let mut found = params.get("capabilities")?;
     for name in path.split('/') {

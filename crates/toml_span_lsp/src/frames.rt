@@ -1,5 +1,6 @@
 //! Frames: headers, an empty line, and the content (LSP 3.17, Base Protocol).
-ghost use Rattle.std.specs.Prelude.{◌≡◌, ◌≢◌, ◌+◌, ◌<◌, ◌^◌, ◌++◌, ◌≤◌, IfSome, List, OnOk, Some, codes, length, take, ℕ};
+ghost use Rattle.std.specs.Prelude.{◌≡◌, ◌≢◌, ◌+◌, ◌<◌, ◌^◌, ◌++◌, ◌≤◌, IfSome, List, OnOk, Some, codes, length, take};
+ghost use Rattle.std.specs.Prelude.{ℕ};
 ghost use Rattle.std.specs.List.{All};
 ghost use Rattle.toml_span_lsp.specs.Frames as spec;
 ghost use Rattle.toml_span_lsp.specs.Frames.{IsShort};

@@ -7,8 +7,8 @@ use toml_span_lookup::directive::directive_of;
 use toml_span_lookup::lookup::Lookup;
 
 /// Writes a list with a link from the `#:schema` directive of the document, the file `name`, to the schema: to its file
-/// or, if it is on a server and has no local copy, to its address. The list is empty if there is no directive, or if the
-/// schema's path is not absolute.
+/// or, if it is on a server and has no local copy, to its address. The list is empty if there is no directive, or if
+/// the schema's path is not absolute.
 pub(crate) fn write_links(
     request: &Request<'_, '_, '_>,
     name: &str,

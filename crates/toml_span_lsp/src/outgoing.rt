@@ -381,8 +381,8 @@ pub(crate) fn write_workspace_edit(request: &Request<'_, '_, '_>, edits: &[Edit]
     out.end_object();
 }
 
-/// Writes a text in Markdown as it is or, if `is_markdown` is not set, as plain text: without backticks and the marks of
-/// bold text.
+/// Writes a text in Markdown as it is or, if `is_markdown` is not set, as plain text: without backticks and the marks
+/// of bold text.
 pub(crate) fn write_markup(
     alloc: Global,
     markdown: &str,

@@ -112,8 +112,8 @@ impl Project {
         Ok((settings, self.config.excludes(alloc, inside)?))
     }
 
-    /// Returns the path or URL of the schema for a file with these settings, as it is written, or an empty text. Returns
-    /// an empty text if another schema is named already.
+    /// Returns the path or URL of the schema for a file with these settings, as it is written, or an empty text.
+    /// Returns an empty text if another schema is named already.
     pub(crate) fn schema_of(&self, settings: &Settings, is_named: bool) -> &str {
         if is_named {
             return "";

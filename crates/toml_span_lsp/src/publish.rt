@@ -243,8 +243,8 @@ fn shown(
 }
 
 /// Checks an open document against the schemas in `lookup`. If it can't be checked against its schema, adds error lines
-/// to `notices`, as `show_complaint` does. Finds nothing if the configuration file of the document excludes it. Reads no
-/// files.
+/// to `notices`, as `show_complaint` does. Finds nothing if the configuration file of the document excludes it. Reads
+/// no files.
 fn checked(
     alloc: Global,
     encoding: Encoding,
@@ -341,8 +341,8 @@ pub(crate) fn published(
     ServerCall::new(None, "textDocument/publishDiagnostics", out)
 }
 
-/// Appends the notification with the diagnostics of the open document `uri`, as `check_once` finds them. Does nothing if
-/// the document is not open, or if the client requests diagnostics itself.
+/// Appends the notification with the diagnostics of the open document `uri`, as `check_once` finds them. Does nothing
+/// if the document is not open, or if the client requests diagnostics itself.
 pub(crate) fn publish(
     alloc: Global,
     state: &mut State,

@@ -88,8 +88,8 @@ fn asked_span(request: &Request<'_, '_, '_>) -> Result<Span, Stop<Refusal>> {
     }
 }
 
-/// Writes the answer to a request about a document or, for some requests if it has errors, about what can be read of it.
-/// Fails with a `Refusal` if the request is refused.
+/// Writes the answer to a request about a document or, for some requests if it has errors, about what can be read of
+/// it. Fails with a `Refusal` if the request is refused.
 fn write_answer(
     request: &Request<'_, '_, '_>,
     reading: &Reading<'_>,

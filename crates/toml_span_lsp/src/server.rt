@@ -1,5 +1,6 @@
 //! The loop of the server, which reads frames and writes the answers.
-ghost use Rattle.std.specs.Prelude.{◌≡◌, ◌-◌, ◌≤◌, Bool, IfNone, IfOk, List, None, Option, Some, [], drop, false, length, take, ℕ};
+ghost use Rattle.std.specs.Prelude.{◌≡◌, ◌-◌, ◌≤◌, Bool, IfNone, IfOk, List, None, Option, Some, [], drop, false};
+ghost use Rattle.std.specs.Prelude.{length, take, ℕ};
 ghost use Rattle.std.specs.List.{flat_map};
 ghost use Rattle.toml_span_lsp.specs.Frames as spec;
 ghost use Rattle.toml_span_lsp.specs.Frames.{WritesFront};
@@ -289,8 +290,8 @@ fn answer_all<D: Disk, R: Source, W: Sink>(
 }
 
 /// Answers the frame at the start of `bytes` or, if the frame is not complete, reads more bytes. If the frame asks
-/// about a document, reads the document, and answers that frame and those after it, as `answer_all` does. Returns how the
-/// server ends, or `None` if the server continues.
+/// about a document, reads the document, and answers that frame and those after it, as `answer_all` does. Returns how
+/// the server ends, or `None` if the server continues.
 fn next_reading<D: Disk, R: Source, W: Sink>(
     alloc: Global,
     server: &mut Server,

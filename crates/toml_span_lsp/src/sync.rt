@@ -171,8 +171,8 @@ pub(crate) fn change(
 }
 
 /// Carries out the notification that a document was saved: reads its schema again if the schema has changed, and
-/// appends the notification with the document's diagnostics, as `publish` does. If the document is a configuration file,
-/// does so for all documents.
+/// appends the notification with the document's diagnostics, as `publish` does. If the document is a configuration
+/// file, does so for all documents.
 pub(crate) fn save<D: Disk>(
     alloc: Global,
     state: &mut State,
