@@ -120,11 +120,8 @@ impl Folders {
         if let Some(folder) = self.configured.get(key) {
             return folder;
         }
-        let Some(at) = self.position_of(name) else {
-            return &self.first;
-        };
-        match self.others.get(at) {
-            Some(folder) => folder,
+        match self.position_of(name) {
+            Some(at) => self.others.get(at).unwrap_or(&self.first),
             None => &self.first,
         }
     }
