@@ -59,9 +59,8 @@ pub(crate) fn use_options(
 }
 
 /// Uses the settings in `value`, or those of `initializationOptions` if `value` has none: if it is missing, null or an
-/// empty object. Then checks the open
-/// documents, as `check_all` does. Does nothing if `value` has no settings and those of `initializationOptions` are in
-/// use.
+/// empty object. Then checks the open documents, as `check_all` does. Does nothing if `value` has no settings and those
+/// of `initializationOptions` are in use.
 fn change_settings<D: Disk>(
     alloc: Global,
     state: &mut State,
