@@ -7,24 +7,20 @@ use crate::lsp::lsp;
 use std::alloc::{AllocError, Global};
 use std::fs;
 use toml_span_check::input::Host;
+use toml_span_commands::answering::answer;
 use toml_span_commands::check::check;
 use toml_span_commands::colours::Screen;
 use toml_span_commands::commands::{Command, command_named};
-use toml_span_commands::config::config;
-use toml_span_commands::edit::edit;
-use toml_span_commands::explain::explain;
-use toml_span_commands::fmt::fmt;
 use toml_span_commands::help::{HELP, VERSION};
-use toml_span_commands::helping::{help, say_unknown};
+use toml_span_commands::helping::say_unknown;
 use toml_span_commands::say::say;
-use toml_span_commands::schema::schema;
 use toml_span_commands::show::show;
 use toml_span_commands::start::get;
 use toml_span_commands::words::{is_file, is_help, is_version};
 use toml_span_lines::sink::Sink;
 
 /// The request that the first argument makes.
-#[derive(Clone, Copy, PartialEq, Eq)]
+#[derive(Clone, Copy)]
 enum Request {
     /// A command.
     Command(Command),
@@ -77,21 +73,21 @@ fn perform<O: Sink, E: Sink>(
     match command {
         Command::Check => check(alloc, words, screen, host, out, errors),
         Command::Get => Ok(get(alloc, words, screen, host, out, errors)),
-        Command::Fmt => fmt(alloc, words, host, out, errors),
         Command::Show => show(alloc, words, host, out, errors),
         Command::Lsp => lsp(alloc, words, host, out, errors),
-        Command::Config => config(alloc, words, host, out, errors),
-        Command::Explain => explain(alloc, words, out, errors),
-        Command::Schema => schema(alloc, words, host, out, errors),
-        Command::Help => help(alloc, words, out, errors),
-        Command::Set
+        Command::Fmt
+        | Command::Set
         | Command::Rename
         | Command::Remove
         | Command::Add
         | Command::Append
         | Command::Insert
         | Command::Move
-        | Command::Edit => { edit(alloc, command, words, host, out, errors) }
+        | Command::Edit
+        | Command::Config
+        | Command::Explain
+        | Command::Schema
+        | Command::Help => { answer(alloc, command, words, host, out, errors) }
     }
 }
 

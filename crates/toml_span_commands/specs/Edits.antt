@@ -1,13 +1,11 @@
 -- The edits that arguments describe.
 use Rattle.std.specs.Borrow.{Bor}
-use Rattle.std.specs.Prelude.{◌≡◌, ℕ, List, [], ◌∷◌, Option, Some, None, option_map, string_bytes, ⊤}
+use Rattle.std.specs.Prelude.{◌≡◌, ℕ, Bool, true, false, List, [], ◌∷◌, Option, Some, None, option_map, string_bytes, ⊤}
 use Rattle.toml_span_commands.specs.declared.changes.Action.{Action}
 use Rattle.toml_span_commands.specs.declared.changes.Action.TheVariants as actions
 use Rattle.toml_span_commands.specs.declared.changes.PathEdit.{PathEdit}
 use Rattle.toml_span_commands.specs.declared.commands.Command.{Command}
 use Rattle.toml_span_commands.specs.declared.commands.Command.TheVariants as commands
-use Rattle.toml_span_commands.specs.declared.making.Kind.{Kind}
-use Rattle.toml_span_commands.specs.declared.making.Kind.TheVariants as kinds
 use Rattle.toml_span_commands.specs.declared.making.Prepared.{Prepared}
 use Rattle.toml_span_edit.specs.declared.edits.Change.{Change}
 use Rattle.toml_span_edit.specs.declared.edits.Change.TheVariants as changes
@@ -30,27 +28,19 @@ change_of command [] = None
 change_of command (path ∷ rest) =
     option_map (λ action. record { path = path; action = action }) (action_of command rest)
 
-abbrev pub kind_of : Action → Kind
-kind_of (actions.Set value) = kinds.Set
-kind_of (actions.Rename name) = kinds.Rename
-kind_of actions.Remove = kinds.Remove
-kind_of (actions.Add key value) = kinds.Add
-kind_of (actions.Append value) = kinds.Append
-kind_of (actions.Insert value) = kinds.Insert
-kind_of (actions.Move to) = kinds.Move
-
--- The change is of this kind, and has this value or name or, for a move, this target.
-abbrev pub IsChange : Kind → List ℕ → List (Bor (List ℕ)) → Change → Type 0
-IsChange kinds.Set value target (changes.SetOrAdd v) = v.now ≡ value
-IsChange kinds.SetForced value target (changes.Replace v) = v.now ≡ value
-IsChange kinds.Rename value target (changes.Rename v) = v.now ≡ value
-IsChange kinds.Remove value target changes.Remove = ⊤
-IsChange kinds.Add value target (changes.Add v) = v.now ≡ value
-IsChange kinds.Append value target (changes.Append v) = v.now ≡ value
-IsChange kinds.Insert value target (changes.Insert v) = v.now ≡ value
-IsChange kinds.Move value target (changes.MoveTo to) = to.now ≡ target
-IsChange kind value target change = ⊥
+-- The change is the one of this action, forced or not, and has this value or name or, for a move, this target.
+abbrev pub IsChange : Action → Bool → List ℕ → List (Bor (List ℕ)) → Change → Type 0
+IsChange (actions.Set x) false value target (changes.SetOrAdd v) = v.now ≡ value
+IsChange (actions.Set x) true value target (changes.Replace v) = v.now ≡ value
+IsChange (actions.Rename x) forced value target (changes.Rename v) = v.now ≡ value
+IsChange actions.Remove forced value target changes.Remove = ⊤
+IsChange (actions.Add key x) forced value target (changes.Add v) = v.now ≡ value
+IsChange (actions.Append x) forced value target (changes.Append v) = v.now ≡ value
+IsChange (actions.Insert x) forced value target (changes.Insert v) = v.now ≡ value
+IsChange (actions.Move x) forced value target (changes.MoveTo to) = to.now ≡ target
+IsChange action forced value target change = ⊥
 
 -- the edit that is prepared
 abbrev pub IsEditOf : Prepared → Edit → Type 0
-IsEditOf p e = (e.path.now ≡ p.path.items) × IsChange p.kind (string_bytes p.value) p.target.items e.change
+IsEditOf p e =
+    (e.path.now ≡ p.path.items) × IsChange p.action p.is_forced (string_bytes p.value) p.target.items e.change

@@ -31,6 +31,8 @@ use Rattle.toml_span_files.specs.declared.disk.TheConstants.Options.{USUAL}
 use Rattle.toml_span_commands.specs.declared.colours.Screen.{Screen}
 use Rattle.toml_span_commands.specs.declared.options.Fixing.{Fixing}
 use Rattle.toml_span_commands.specs.declared.options.Fixing.TheVariants as fixings
+use Rattle.toml_span_commands.specs.declared.options.Kind.{Kind}
+use Rattle.toml_span_commands.specs.declared.options.Kind.TheVariants as kinds
 use Rattle.toml_span_commands.specs.declared.options.Options.{Options}
 use Rattle.toml_span_commands.specs.declared.options.Mistake.{Mistake}
 use Rattle.toml_span_commands.specs.declared.options.Mistake.TheVariants as mistake
@@ -59,9 +61,9 @@ several name = record (new_rule name) { long = Some name; action = Some Append }
 abbrev pub optional : List ℕ → Rule
 optional name = record (new_rule name) { long = Some name }
 
--- any number of names; without a name, `.`
-abbrev pub files : Rule
-files = record (new_rule (codes "FILE")) {
+-- any number of values; without one, `.`
+abbrev pub files : List ℕ → Rule
+files name = record (new_rule name) {
   range = Some (record { start_inclusive = 0; end_inclusive = usize_max });
   defaults = codes "." ∷ [];
 }
@@ -70,59 +72,51 @@ files = record (new_rule (codes "FILE")) {
 abbrev pub required : List ℕ → Rule
 required name = record (new_rule name) { required = true }
 
--- the path, which may follow further names
-abbrev pub path : Rule
-path = record (required (codes "PATH")) {
+-- a required argument, which may follow further ones
+abbrev pub after_others : List ℕ → Rule
+after_others name = record (required name) {
   range = Some (record { start_inclusive = 1; end_inclusive = usize_max });
 }
 
--- the program `app` with a version, and so with the option `--version`
-abbrev pub with_version : App → App
-with_version app = record app { top = record app.top { has_version = true } }
+abbrev pub rule : List ℕ → Kind → Rule
+rule name kinds.Flag = flag name
+rule name kinds.Optional = optional name
+rule name kinds.Several = several name
+rule name (kinds.Default value) = with_default name value.now
+rule name kinds.Files = files name
+rule name kinds.Required = required name
+rule name kinds.Last = after_others name
 
--- `[--format FORMAT] [--color WHEN]`
-unfoldable pub common : App
-common =
-    with_rule (with_rule (with_version (new_app (codes "toml-span"))) (with_default (codes "format") (codes "text")))
-    (with_default (codes "color") (codes "auto"))
+-- the program with these rules for options and arguments
+abbrev pub with_rules : App → List Rule → App
+with_rules app [] = app
+with_rules app (r ∷ rs) = with_rules (with_rule app r) rs
 
--- `[--format FORMAT] [--color WHEN] [--schema FILE] [--catalog FILE] [--schema-map URL=FILE].. [--no-formats]`
-unfoldable pub schemas : App
-schemas =
-    with_rule (with_rule (with_rule (with_rule common (optional (codes "schema"))) (optional (codes "catalog")))
-    (several (codes "schema-map"))) (flag (codes "no-formats"))
+-- the program with these options and arguments
+abbrev pub with_options : App → List (Bor (List ℕ) × Kind) → App
+with_options app options = with_rules app (map (λ o. rule o.0.now o.1) options)
 
--- `[..] [--fix] [--unsafe-fixes] [--diff] [--force] [--change-owner] [--in-place]`, with the options for schemas
-unfoldable pub fixing : App
-fixing =
-    with_rule (with_rule (with_rule (with_rule (with_rule (with_rule schemas
-    (flag (codes "fix"))) (flag (codes "unsafe-fixes"))) (flag (codes "diff"))) (flag (codes "force")))
-    (flag (codes "change-owner"))) (flag (codes "in-place"))
+-- the program without options except for `--version`, since it has a version
+abbrev pub plain : App
+plain = let app = new_app (codes "toml-span") in record app { top = record app.top { has_version = true } }
 
--- `[..] [--config FILE] [--no-config] [--force-exclude] [--deny-warnings]`, with the options for schemas and fixes
-unfoldable pub configured : App
-configured =
-    with_rule (with_rule (with_rule (with_rule fixing (optional (codes "config"))) (flag (codes "no-config")))
-    (flag (codes "force-exclude"))) (flag (codes "deny-warnings"))
-
--- `check [..] [--quiet] [--toml VERSION] [--exclude GLOB].. [--stdin-name NAME] [FILE..]`, with the options for schemas,
--- fixes and configuration files
+-- `check [OPTION].. [FILE]..`
 unfoldable pub check : App
-check =
-    with_rule (with_rule (with_rule (with_rule (with_rule configured
-    (flag (codes "quiet"))) (with_default (codes "toml") (codes "auto"))) (several (codes "exclude")))
-    (with_default (codes "stdin-name") (codes "-"))) files
+check = with_rules plain (
+    with_default (codes "format") (codes "text") ∷ with_default (codes "color") (codes "auto")
+    ∷ optional (codes "schema") ∷ optional (codes "catalog") ∷ several (codes "schema-map") ∷ flag (codes "no-formats")
+    ∷ flag (codes "fix") ∷ flag (codes "unsafe-fixes") ∷ flag (codes "diff")
+    ∷ flag (codes "force") ∷ flag (codes "change-owner") ∷ flag (codes "in-place")
+    ∷ optional (codes "config") ∷ flag (codes "no-config") ∷ flag (codes "force-exclude")
+    ∷ flag (codes "deny-warnings") ∷ flag (codes "quiet") ∷ with_default (codes "toml") (codes "auto")
+    ∷ several (codes "exclude") ∷ with_default (codes "stdin-name") (codes "-") ∷ files (codes "FILE") ∷ [])
 
--- `[--format FORMAT] [--color WHEN] [--json] [--raw] [--toml] [--tagged] [--items] [--sort-keys]`
-unfoldable pub forms : App
-forms =
-    with_rule (with_rule (with_rule (with_rule (with_rule (with_rule common
-    (flag (codes "json"))) (flag (codes "raw"))) (flag (codes "toml"))) (flag (codes "tagged")))
-    (flag (codes "items"))) (flag (codes "sort-keys"))
-
--- `get [..] FILE.. PATH`, with the options for forms
+-- `get [OPTION].. FILE.. PATH`
 unfoldable pub get : App
-get = with_rule (with_rule forms (required (codes "FILE"))) path
+get = with_rules plain (
+    with_default (codes "format") (codes "text") ∷ with_default (codes "color") (codes "auto")
+    ∷ flag (codes "json") ∷ flag (codes "raw") ∷ flag (codes "toml") ∷ flag (codes "tagged") ∷ flag (codes "items")
+    ∷ flag (codes "sort-keys") ∷ required (codes "FILE") ∷ after_others (codes "PATH") ∷ [])
 
 abbrev pub program : Query → App
 program queries.Check = check

@@ -3,7 +3,8 @@ ghost use Rattle.std.specs.Prelude.{◌≡◌, ◌≤◌, IfOk, [], false, strin
 ghost use Rattle.toml_span_commands.specs.Say.{Gives};
 ghost use Rattle.toml_span_lex.specs.declared.stop.Stop.TheVariants as stops;
 
-use crate::commands::{Command, help_of};
+use crate::commands::{Command, edits, help_of};
+use crate::help::EDITING;
 use crate::say::{misuse_text, quoted_word, say};
 use std::alloc::{AllocError, Global};
 use toml_span::Stop;
@@ -49,29 +50,38 @@ pub(crate) fn failed(
     errors.push_str(": ")?;
     push_visible(&mut errors, reason)?;
     errors.push('\n')?;
-    Ok(Answer {
-        out: String::new(alloc),
-        errors,
-        status,
-    })
+    Ok(warned(alloc, errors, status))
 }
 
 /// Returns the answer of a command that prints its help.
 pub(crate) fn helped(alloc: Global, command: Command) -> Result<Answer, AllocError>
     ensures { IfOk result (λ answer. answer.status ≡ 0) }
 {
-    Ok(printed(alloc, String::from_str(alloc, help_of(command))?))
+    let mut text = String::from_str(alloc, help_of(command))?;
+    if edits(command) {
+        text.push_str(EDITING)?;
+    }
+    Ok(printed(alloc, text))
+}
+
+/// Returns the answer of a command that fails with this status, and prints `errors` on standard error.
+pub(crate) fn warned(alloc: Global, errors: String, status: u8) -> Answer
+    requires { status ≤ 4 }
+    ensures says { result.errors ≡ errors }
+    ensures fails { result.status ≡ status }
+{
+    Answer {
+        out: String::new(alloc),
+        errors,
+        status,
+    }
 }
 
 /// Returns the answer for wrong arguments. `message` says what is wrong.
 pub(crate) fn misuse(alloc: Global, command: Command, message: &str) -> Result<Answer, AllocError>
     ensures { IfOk result (λ answer. answer.status ≡ 2) }
 {
-    Ok(Answer {
-        out: String::new(alloc),
-        errors: misuse_text(alloc, command, message)?,
-        status: 2,
-    })
+    Ok(warned(alloc, misuse_text(alloc, command, message)?, 2))
 }
 
 /// Returns the answer for wrong arguments. `stop` has the message that says what is wrong. Fails if `stop` is
@@ -93,11 +103,7 @@ pub(crate) fn stopped(alloc: Global, stop: Stop<String>) -> Result<Answer, Alloc
     ensures says { IfOk result (λ answer. stop ≡ stops.Fault answer.errors) }
     ensures fails { IfOk result (λ answer. answer.status ≡ 2) }
 {
-    Ok(Answer {
-        out: String::new(alloc),
-        errors: stop.fault()?,
-        status: 2,
-    })
+    Ok(warned(alloc, stop.fault()?, 2))
 }
 
 /// Prints an answer. Returns its status, or 3 if a write fails.

@@ -4,12 +4,10 @@ ghost use Rattle.toml_span_commands.specs.Arguments as spec;
 
 use crate::commands::Command;
 use crate::files::set_write_option;
-use crate::options::search_of;
 use crate::say::unexpected;
 use crate::words::{Argument, arguments_in};
-use std::alloc::{AllocError, Global};
+use std::alloc::Global;
 use toml_span::Stop;
-use toml_span_config::sources::Search;
 use toml_span_files::Options;
 
 /// The maximum value of `--wait`: a day, in seconds.
@@ -60,20 +58,15 @@ pub(crate) struct Arguments<'w> {
     /// Whether a value may replace a table or array that headers or dotted keys define.
     pub(crate) replaces_tables: bool,
     /// The path of the configuration file, or an empty text.
-    config: &'w str,
+    pub(crate) config: &'w str,
     /// Whether to use no configuration file.
-    has_no_config: bool,
+    pub(crate) has_no_config: bool,
     /// The name of standard input.
     stdin_name: &'w str,
     pub(crate) is_help: bool,
 }
 
 impl<'w> Arguments<'w> {
-    /// Returns which configuration file to use.
-    pub(crate) fn search(&self) -> Search<'w> {
-        search_of(self.config, self.has_no_config)
-    }
-
     /// Returns the name of the file in messages.
     pub(crate) fn shown<'s>(&'s self, file: &'s str) -> &'s str {
         if file == "-" { self.stdin_name } else { file }
@@ -142,18 +135,6 @@ impl<'w> Arguments<'w> {
         self.words.push(word)?;
         Ok(())
     }
-
-    /// Stores an argument. Fails with a message if it is wrong.
-    fn take(&mut self, alloc: Global, argument: Argument<'w>) -> Result<(), Stop<String>> {
-        match argument {
-            Argument::Flag(word) => self.option(alloc, word),
-            Argument::Valued(name, word) => self.set(alloc, name, word),
-            Argument::Other(word) => {
-                self.words.push(word)?;
-                Ok(())
-            }
-        }
-    }
 }
 
 /// Parses `words`, the arguments after the name of the command. Fails with a message if an argument is wrong, or if the
@@ -182,7 +163,11 @@ pub(crate) fn arguments_asked<'w>(
     };
     let given = arguments_in(alloc, words, valued)?;
     for argument in &given.list {
-        asked.take(alloc, *argument)?;
+        match *argument {
+            Argument::Flag(word) => asked.option(alloc, word)?,
+            Argument::Valued(name, word) => asked.set(alloc, name, word)?,
+            Argument::Other(word) => asked.words.push(word)?,
+        }
     }
     given.complete(alloc)?;
     Ok(asked)

@@ -2,7 +2,7 @@
 ghost use Rattle.std.specs.Prelude.{◌≡◌, IfOk, length, vec_len};
 ghost use Rattle.toml_span_commands.specs.Edits as spec;
 
-use crate::commands::Command;
+use crate::commands::{Command, command_named};
 use crate::paths::wrong_path;
 use std::alloc::{AllocError, Global};
 use toml_span::Stop;
@@ -31,16 +31,6 @@ pub(crate) enum Action<'w> {
     Insert(&'w str),
     /// Moves the value at the path to this path.
     Move(&'w str),
-}
-
-/// Returns how many arguments an editing command takes after the name of the file.
-pub(crate) fn count_of(command: Command) -> usize {
-    match command {
-        Command::Edit => 0,
-        Command::Remove => 1,
-        Command::Add => 3,
-        _ => 2,
-    }
 }
 
 /// Returns the edit that a command makes. `words` are the arguments after the name of the file. Returns `None` if their
@@ -77,20 +67,6 @@ impl<'w> PathEdit<'w> {
     }
 }
 
-/// Returns the command with this name, or `None` if no edit in a script begins with this name.
-fn scripted(name: &str) -> Option<Command> {
-    match name {
-        "set" => Some(Command::Set),
-        "rename" => Some(Command::Rename),
-        "remove" => Some(Command::Remove),
-        "add" => Some(Command::Add),
-        "append" => Some(Command::Append),
-        "insert" => Some(Command::Insert),
-        "move" => Some(Command::Move),
-        _ => None,
-    }
-}
-
 /// Splits a line after the first word, which may be in quotes. Returns the word without quotes, and the rest of the
 /// line without the blanks at its start. Returns `None` if the line is blank, or if the quotes of the word are not
 /// closed. Quotes have no escapes.
@@ -114,7 +90,7 @@ fn first_word(line: &str) -> Option<(&str, &str)> {
 /// Returns `None` if the line is not an edit.
 fn line_change(line: &str) -> Option<PathEdit<'_>> {
     let (name, rest) = first_word(line)?;
-    let command = scripted(name)?;
+    let command = command_named(name)?;
     let (path, rest) = first_word(rest)?;
     match command {
         Command::Remove => change_of(command, &[path]).filter(|_| rest.is_empty()),

@@ -1,20 +1,20 @@
 //! The command `check`.
 ghost use Rattle.std.specs.Prelude.{◌≡◌, ◌≤◌, IfOk, None, [], false, map, string_bytes};
-ghost use Rattle.toml_span_commands.specs.Check.{ChecksConfigured, ChecksFixed, ChecksWith, PerformsCheck, ShowsChanges};
+ghost use Rattle.toml_span_commands.specs.Check.{ChecksConfigured, ChecksFixed, ChecksWith, PerformsCheck};
+ghost use Rattle.toml_span_commands.specs.Check.{ShowsChanges};
 ghost use Rattle.toml_span_commands.specs.Configured as spec;
 ghost use Rattle.toml_span_commands.specs.Configured.{IsConfigured, configured_says};
 ghost use Rattle.toml_span_commands.specs.Start.{RunsWith};
 ghost use Rattle.toml_span_check.specs.Fixing.{fixed};
 ghost use Rattle.toml_span_check.specs.Newer.{FixesAll};
 
-use crate::answers::Answer;
 use crate::colours::Screen;
 use crate::configured::{
     Configured, Wanted, common_version, configured_files, configured_task, has_schemas,
 };
 use crate::edit::escaped;
-use crate::files::{read_file, replace};
-use crate::options::{Fixing, Options, Query, options_of};
+use crate::files::replace;
+use crate::options::{Fixing, Options, Query, options_of, search_of};
 use crate::say::say;
 use crate::schemas::FileSchemas;
 use crate::start::{refuse, run_with};
@@ -36,6 +36,7 @@ use toml_span_files::unified;
 use toml_span_lines::run::BOUND;
 use toml_span_lines::sink::Sink;
 use toml_span_lines::tracked::Tracked;
+use toml_span_lookup::disk::Disk;
 use toml_span_report::Style;
 use toml_span_report::visible::visible;
 
@@ -64,13 +65,6 @@ struct Fixes {
 }
 
 impl Fixes {
-    /// Adds the line and the status of the answer for a file that can't be written.
-    fn fail(&mut self, answer: &Answer) -> Result<(), AllocError> {
-        self.lines.push_str(answer.errors.as_str())?;
-        self.status = self.status.max(answer.status.min(3));
-        Ok(())
-    }
-
     /// Adds what the fixes change in a file, which reports call `shown`. `text` is the text of the file, and `new` the
     /// fixed text.
     fn add_changes(
@@ -113,7 +107,9 @@ impl Fixes {
             text.as_bytes(),
             new,
         )? {
-            return self.fail(&answer);
+            self.lines.push_str(answer.errors.as_str())?;
+            self.status = self.status.max(answer.status.min(3));
+            return Ok(());
         }
         self.errors = self.errors.saturating_add(made.count);
         self.files = self.files.saturating_add(1);
@@ -129,8 +125,8 @@ impl Fixes {
         with_all_fixes(alloc, text, version, file.shown.as_str(), self.level)
     }
 
-    /// Fixes errors of a file whose content is `bytes`, and calls `put` if there were fixes. Returns whether there were.
-    /// A file that is larger than 16 MiB or not valid UTF-8 has no fixes.
+    /// Fixes errors of a file whose content is `bytes`, and calls `put` if there were fixes. Returns whether there
+    /// were. A file that is larger than 16 MiB or not valid UTF-8 has no fixes.
     fn add_bytes(
         &mut self,
         alloc: Global,
@@ -164,7 +160,7 @@ impl Fixes {
         let is_stdin = file.name.as_str() == "-";
         let mut kept = None;
         if !is_stdin || self.is_diff {
-            if let Ok(bytes) = read_file(alloc, host, file.name.as_str())? {
+            if let Ok(bytes) = host.read_file(alloc, file.name.as_str())? {
                 let is_put = self.add_bytes(alloc, host, file, bytes.as_slice())?;
                 if self.is_diff && is_put {
                     return Ok(());
@@ -176,12 +172,6 @@ impl Fixes {
         }
         self.texts.push(kept)?;
         Ok(())
-    }
-
-    /// Removes what would be printed.
-    fn silence(&mut self, alloc: Global) {
-        self.changes = String::new(alloc);
-        self.lines = String::new(alloc);
     }
 
     /// Adds the line that says how many errors were fixed, or would be fixed, in how many files. Adds nothing without
@@ -224,7 +214,8 @@ fn fix_files(
     }
     fixes.add_total(alloc)?;
     if options.request.is_quiet {
-        fixes.silence(alloc);
+        fixes.changes = String::new(alloc);
+        fixes.lines = String::new(alloc);
     }
     Ok(fixes)
 }
@@ -317,14 +308,6 @@ fn layer_of(task: Task, denies_warnings: bool) -> Layer
     }
 }
 
-/// Returns the style of reports on configuration files.
-fn style_of(format: Format) -> Style {
-    match format {
-        Format::Text(style) => style,
-        _ => Style::Plain,
-    }
-}
-
 /// Finds the files that `options` names, and reads their configuration files. Fails with a message, for standard error,
 /// if a configuration file can't be read or is wrong.
 fn find_files(
@@ -334,8 +317,12 @@ fn find_files(
 ) -> Result<Listed, Stop<String>> {
     let request = &options.request;
     let layer = layer_of(request.task, options.denies_warnings);
-    let style = style_of(request.format);
-    let mut sources = Sources::new(alloc, host, options.search(), layer, style)?;
+    let style = match request.format {
+        Format::Text(style) => style,
+        _ => Style::Plain,
+    };
+    let search = search_of(options.config, options.has_no_config);
+    let mut sources = Sources::new(alloc, host, search, layer, style)?;
     let wanted = Wanted {
         names: request.names.as_slice(),
         excludes: request.excludes.as_slice(),
@@ -410,7 +397,8 @@ fn check_files<O: Sink, E: Sink>(
 ) -> u8
     requires out { O.failed out.old ≡ false }
     requires errors { E.failed errors.old ≡ false }
-    ensures { RunsWith configured_says request.now None None (O.contents out.old) (O.contents out.new) (O.failed out.new)
+    ensures { RunsWith configured_says request.now None None
+        (O.contents out.old) (O.contents out.new) (O.failed out.new)
         (E.contents errors.old) (E.contents errors.new) (E.failed errors.new) result }
 {
     run_with(
@@ -551,7 +539,8 @@ fn check_with<O: Sink, E: Sink>(
 }
 
 /// Checks files. With `--fix`, first fixes their errors. With `--diff`, writes no file: prints what the fixes would
-/// change instead of the reports of the check. Returns the exit status. `words` are the name of the command, or of the program, and the arguments.
+/// change instead of the reports of the check. Returns the exit status. `words` are the name of the command, or of the
+/// program, and the arguments.
 pub fn check<O: Sink, E: Sink>(
     alloc: Global,
     words: &[String],

@@ -85,6 +85,21 @@ pub(crate) fn arguments_of(command: Command) -> &'static str {
     }
 }
 
+/// Returns whether a command edits a file.
+pub(crate) fn edits(command: Command) -> bool {
+    matches!(
+        command,
+        Command::Set
+            | Command::Rename
+            | Command::Remove
+            | Command::Add
+            | Command::Append
+            | Command::Insert
+            | Command::Move
+            | Command::Edit
+    )
+}
+
 /// Returns the help text of a command. For a command that edits, the text lacks its end, which is `EDITING`.
 pub(crate) fn help_of(command: Command) -> &'static str {
     match command {

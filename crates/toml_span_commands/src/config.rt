@@ -1,20 +1,17 @@
 //! The command `config`.
-ghost use Rattle.std.specs.Prelude.{◌≡◌, ◌≤◌, IfOk, false};
-
-use crate::answers::{Answer, give, helped, misused, printed, stopped};
+use crate::answers::{Answer, helped, misused, printed, stopped};
 use crate::commands::Command;
 use crate::options::search_of;
 use crate::say::unexpected;
-use crate::words::{Argument, after_name, arguments_in, has_help};
+use crate::words::{Argument, arguments_in, has_help};
 use std::alloc::{AllocError, Global};
 use toml_span::Stop;
 use toml_span_check::input::Host;
 use toml_span_check::newer::Version;
 use toml_span_check::words::shown_word;
-use toml_span_config::layers::{Chosen, Crlf, ExpandArrays, Layer, Origin, Settings};
+use toml_span_config::layers::{Chosen, Crlf, ExpandArrays, Layer, Origin};
 use toml_span_config::sources::{Found, Sources};
 use toml_span_edit::string_text;
-use toml_span_lines::sink::Sink;
 use toml_span_report::visible::visible;
 use toml_span_report::{Style, line_column};
 
@@ -69,27 +66,17 @@ impl Table<'_> {
         self.out.push_str(" = ")?;
         self.out.push_str(value)?;
         self.out.push_str(" # ")?;
-        self.add_origin(origin)?;
+        match (origin, self.sources.source_at(self.found.source)) {
+            (Origin::File(span), Some(source)) => {
+                let (line, column) = line_column(source.text.as_str(), span.start);
+                let name = shown_word(self.alloc, source.name.as_str())?;
+                let name = visible(self.alloc, name.as_str())?;
+                let place = format!(in self.alloc; "{}:{line}:{column}", name.as_str())?;
+                self.out.push_str(place.as_str())?;
+            }
+            _ => self.out.push_str("default")?,
+        }
         self.out.push('\n')
-    }
-
-    /// Adds where a setting comes from.
-    fn add_origin(&mut self, origin: Origin) -> Result<(), AllocError> {
-        let Origin::File(span) = origin else {
-            return self.out.push_str("default");
-        };
-        let source = match self.found.source {
-            Some(at) => self.sources.list.get(at),
-            None => None,
-        };
-        let Some(source) = source else {
-            return self.out.push_str("default");
-        };
-        let (line, column) = line_column(source.text.as_str(), span.start);
-        let name = shown_word(self.alloc, source.name.as_str())?;
-        let name = visible(self.alloc, name.as_str())?;
-        let place = format!(in self.alloc; "{}:{line}:{column}", name.as_str())?;
-        self.out.push_str(place.as_str())
     }
 
     /// Adds a line with a number.
@@ -118,21 +105,13 @@ impl Table<'_> {
         let indent = u16::from(settings.indent.value);
         self.add_number("fmt.indent", indent, settings.indent.origin)?;
         self.add_flag("fmt.sort-keys", settings.sort_keys)?;
-        self.add_layout(&settings)
-    }
-
-    /// Adds a line for each setting that says how the formatter writes commas, lines and comments.
-    fn add_layout(&mut self, settings: &Settings) -> Result<(), AllocError> {
         self.add_flag("fmt.trailing-comma", settings.trailing_comma)?;
         let expansion = match settings.expand_arrays.value {
             ExpandArrays::Auto => "\"auto\"",
             ExpandArrays::Keep => "\"keep\"",
         };
-        self.add(
-            "fmt.expand-arrays",
-            expansion,
-            settings.expand_arrays.origin,
-        )?;
+        let origin = settings.expand_arrays.origin;
+        self.add("fmt.expand-arrays", expansion, origin)?;
         self.add_flag("fmt.align-comments", settings.align_comments)?;
         let blank_lines = u16::from(settings.blank_lines.value);
         self.add_number("fmt.blank-lines", blank_lines, settings.blank_lines.origin)?;
@@ -158,11 +137,7 @@ impl Table<'_> {
 
     /// Adds a comment that names the configuration file, and one that says if it excludes the file.
     fn add_head(&mut self) -> Result<(), AllocError> {
-        let source = match self.found.source {
-            Some(at) => self.sources.list.get(at),
-            None => None,
-        };
-        match source {
+        match self.sources.source_at(self.found.source) {
             Some(source) => {
                 let name = shown_word(self.alloc, source.name.as_str())?;
                 let name = visible(self.alloc, name.as_str())?;
@@ -199,8 +174,13 @@ fn shown(alloc: Global, asked: Asked<'_>, host: &mut Host) -> Result<String, Sto
     Ok(table.out)
 }
 
-/// Returns the answer for these arguments.
-fn answer_of(alloc: Global, arguments: &[String], host: &mut Host) -> Result<Answer, AllocError> {
+/// Carries out `config`: returns the answer with the settings for a file, the help, or that the arguments or a
+/// configuration file are wrong.
+pub(crate) fn config(
+    alloc: Global,
+    arguments: &[String],
+    host: &mut Host,
+) -> Result<Answer, AllocError> {
     if has_help(arguments) {
         return helped(alloc, Command::Config);
     }
@@ -212,21 +192,4 @@ fn answer_of(alloc: Global, arguments: &[String], host: &mut Host) -> Result<Ans
         Ok(text) => Ok(printed(alloc, text)),
         Err(stop) => stopped(alloc, stop),
     }
-}
-
-/// Carries out `config`: prints the settings for a file, the help, or that the arguments or a configuration file are
-/// wrong. `words` are the name of the command and its arguments. Returns the exit status.
-pub fn config<O: Sink, E: Sink>(
-    alloc: Global,
-    words: &[String],
-    host: &mut Host,
-    out: &mut O,
-    errors: &mut E,
-) -> Result<u8, AllocError>
-    requires out { O.failed out.old ≡ false }
-    requires errors { E.failed errors.old ≡ false }
-    ensures { IfOk result (λ status. status ≤ 4) }
-{
-    let answer = answer_of(alloc, after_name(words), host)?;
-    Ok(give(&answer, out, errors))
 }

@@ -1,16 +1,15 @@
 //! The commands that edit a file.
-ghost use Rattle.std.specs.Prelude.{◌≡◌, ◌≤◌, ◌++◌, IfOk, OnOk, false, true, string_bytes};
+ghost use Rattle.std.specs.Prelude.{◌≡◌, ◌++◌, IfOk, OnOk, true, string_bytes};
 ghost use Rattle.toml_span_commands.specs.Arguments as arguments;
 ghost use Rattle.toml_span_commands.specs.Escaped as spec;
 
-use crate::answers::{Answer, failed, give, misuse, misused, printed, stopped};
+use crate::answers::{Answer, failed, helped, misuse, misused, printed, stopped};
 use crate::arguments::{Arguments, Show, arguments_asked};
-use crate::changes::{PathEdit, change_of, count_of, option_changes, script_changes};
-use crate::commands::{Command, help_of};
-use crate::files::{read_file, unedited};
-use crate::help::EDITING;
+use crate::changes::{PathEdit, change_of, option_changes, script_changes};
+use crate::commands::Command;
+use crate::files::unedited;
 use crate::making::{Refusal, Way, new_text};
-use crate::words::after_name;
+use crate::options::search_of;
 use std::alloc::{AllocError, Global};
 use std::io::IsTerminal;
 use toml_span::Stop;
@@ -20,7 +19,7 @@ use toml_span_check::words::is_bytes;
 use toml_span_config::layers::Layer;
 use toml_span_config::sources::Sources;
 use toml_span_files::{Failed, Failure, LIMIT, edit_file, unified};
-use toml_span_lines::sink::Sink;
+use toml_span_lookup::disk::Disk;
 use toml_span_report::Style;
 use toml_span_report::visible::{push_char, visible};
 
@@ -82,7 +81,7 @@ fn show(
     way: Way<'_>,
     host: &mut Host,
 ) -> Result<Answer, AllocError> {
-    let bytes = match read_file(alloc, host, file)? {
+    let bytes = match host.read_file(alloc, file)? {
         Ok(bytes) => bytes,
         Err(reason) => {
             let shown = asked.shown(file);
@@ -131,8 +130,8 @@ fn version_of(
     asked: &Arguments<'_>,
     host: &mut Host,
 ) -> Result<Version, Stop<String>> {
-    let layer = Layer::empty();
-    let mut sources = Sources::new(alloc, host, asked.search(), layer, Style::Plain)?;
+    let search = search_of(asked.config, asked.has_no_config);
+    let mut sources = Sources::new(alloc, host, search, Layer::empty(), Style::Plain)?;
     let found = sources.settings_for(alloc, host, shown)?;
     Ok(found.settings.toml.value)
 }
@@ -187,13 +186,8 @@ fn perform_script(
         Err(reason) => return failed(alloc, "error: cannot read ", "-", reason.as_str(), 2),
     };
     let Ok(script) = str::from_utf8(bytes.as_slice()) else {
-        return failed(
-            alloc,
-            "error: cannot read ",
-            "-",
-            "it is not valid UTF-8",
-            2,
-        );
+        let reason = "it is not valid UTF-8";
+        return failed(alloc, "error: cannot read ", "-", reason, 2);
     };
     match script_changes(alloc, script) {
         Ok(changes) => perform(alloc, file, changes.as_slice(), asked, host),
@@ -204,16 +198,14 @@ fn perform_script(
     }
 }
 
-/// Returns the help text of a command that edits.
-pub(crate) fn edit_help(alloc: Global, command: Command) -> Result<String, AllocError> {
-    let mut text = String::from_str(alloc, help_of(command))?;
-    text.push_str(EDITING)?;
-    Ok(text)
-}
-
 /// Returns the answer for a wrong number of arguments. `given` is this number.
 fn miscounted(alloc: Global, command: Command, given: usize) -> Result<Answer, AllocError> {
-    let wanted = count_of(command).saturating_add(1);
+    let wanted = match command {
+        Command::Edit => 1,
+        Command::Remove => 2,
+        Command::Add => 4,
+        _ => 3,
+    };
     let arguments = if wanted == 1 { "argument" } else { "arguments" };
     let message = format!(in alloc; "expected {wanted} {arguments}, found {given}")?;
     misuse(alloc, command, message.as_str())
@@ -261,8 +253,8 @@ fn edit_once(
     }
 }
 
-/// Parses the arguments of a command that edits, and carries out the command. Returns the answer.
-fn answer_of(
+/// Carries out a command that edits a file. Returns the answer.
+pub(crate) fn edit(
     alloc: Global,
     command: Command,
     words: &[String],
@@ -276,28 +268,11 @@ fn answer_of(
         Err(stop) => return misused(alloc, command, stop),
     };
     if asked.is_help {
-        return Ok(printed(alloc, edit_help(alloc, command)?));
+        return helped(alloc, command);
     }
     if command == Command::Edit {
         edit_by_script(alloc, &asked, host)
     } else {
         edit_once(alloc, command, &asked, host)
     }
-}
-
-/// Carries out a command that edits. `words` are the name of the command and its arguments. Returns the exit status.
-pub fn edit<O: Sink, E: Sink>(
-    alloc: Global,
-    command: Command,
-    words: &[String],
-    host: &mut Host,
-    out: &mut O,
-    errors: &mut E,
-) -> Result<u8, AllocError>
-    requires out { O.failed out.old ≡ false }
-    requires errors { E.failed errors.old ≡ false }
-    ensures { IfOk result (λ status. status ≤ 4) }
-{
-    let answer = answer_of(alloc, command, after_name(words), host)?;
-    Ok(give(&answer, out, errors))
 }

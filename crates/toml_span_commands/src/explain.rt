@@ -1,17 +1,16 @@
 //! The command `explain`.
-ghost use Rattle.std.specs.Prelude.{◌≡◌, ◌≤◌, IfOk, false, option_map};
+ghost use Rattle.std.specs.Prelude.{◌≡◌, option_map};
 ghost use Rattle.toml_span_commands.specs.Explain as spec;
 
+use crate::answers::{Answer, helped, misuse, printed, warned};
 use crate::commands::Command;
-use crate::help::EXPLAIN;
-use crate::say::{quoted_word, say, say_misuse, similar_line};
-use crate::schema_pages::{SCHEMA_CODES, schema_page};
+use crate::say::{quoted_word, similar_line};
+use crate::schema_pages::{SCHEMA_PAGES, schema_page};
 use crate::words::is_help;
 use std::alloc::{AllocError, Global};
-use toml_span_lines::sink::Sink;
 use toml_span_report::{CODES, explain as page_of_error};
 
-/// The codes of `check` and `get` that are neither in `CODES` nor in `SCHEMA_CODES`.
+/// The codes of `check` and `get` that are neither in `CODES` nor in `SCHEMA_PAGES`.
 const OWN_CODES: [&str; 4] = ["too-many-errors", "not-utf-8", "too-long", "nothing-there"];
 
 /// The explanation of `too-many-errors`.
@@ -63,92 +62,51 @@ fn page_of(code: &str) -> Option<&'static str>
     }
 }
 
-/// Returns the first line of an explanation.
-fn title_of(page: &str) -> &str {
-    match page.split_once('\n') {
-        Some((title, _)) => title,
-        None => page,
+/// Returns all codes.
+fn all_codes(alloc: Global) -> Result<Vec<&'static str>, AllocError> {
+    let mut codes = Vec::from_slice(alloc, &CODES)?;
+    codes.extend_from_slice(&OWN_CODES)?;
+    for page in &SCHEMA_PAGES {
+        codes.push(page.0)?;
     }
+    Ok(codes)
 }
 
-/// Appends a line for each code in `list`: the code, and the first line of its explanation.
-fn push_titles(out: &mut String, list: &[&str]) -> Result<(), AllocError> {
-    for code in list {
+/// Returns a line for each code: the code, and the first line of its explanation.
+fn titles(alloc: Global) -> Result<String, AllocError> {
+    let mut out = String::new(alloc);
+    for code in &all_codes(alloc)? {
         out.push_str(*code)?;
         for _ in code.len()..31 {
             out.push(' ')?;
         }
-        out.push_str(title_of(page_of(*code).unwrap_or("")))?;
+        let page = page_of(*code).unwrap_or("");
+        out.push_str(page.split_once('\n').map_or(page, |parts| parts.0))?;
         out.push('\n')?;
     }
-    Ok(())
+    Ok(out)
 }
 
-/// Prints all codes with the first lines of their explanations. Returns the exit status.
-fn say_all<O: Sink>(alloc: Global, out: &mut O) -> Result<u8, AllocError>
-    requires { O.failed out.old ≡ false }
-    ensures { IfOk result (λ status. status ≤ 4) }
-{
-    let mut text = String::new(alloc);
-    push_titles(&mut text, &CODES)?;
-    push_titles(&mut text, &OWN_CODES)?;
-    push_titles(&mut text, &SCHEMA_CODES)?;
-    Ok(say(out, text.as_str(), 0))
-}
-
-/// Prints to `errors` that a code is not known, and the most similar code, if one is similar. Returns status 2, or 3 if
-/// the write fails.
-fn say_unknown<E: Sink>(alloc: Global, code: &str, errors: &mut E) -> Result<u8, AllocError>
-    requires { E.failed errors.old ≡ false }
-    ensures { IfOk result (λ status. status ≤ 4) }
-{
+/// Returns the answer that a code is not known, with the most similar code, if one is similar.
+fn unknown(alloc: Global, code: &str) -> Result<Answer, AllocError> {
     let shown = quoted_word(alloc, code)?;
-    let mut all = Vec::from_slice(alloc, &CODES)?;
-    all.extend_from_slice(&OWN_CODES)?;
-    all.extend_from_slice(&SCHEMA_CODES)?;
-    let similar = similar_line(alloc, "code", code, all.as_slice())?;
+    let similar = similar_line(alloc, "code", code, all_codes(alloc)?.as_slice())?;
     let text = format!(in alloc;
         "error: no such code: {shown}\n{similar}help: `toml-span explain` lists the codes\n"
     )?;
-    Ok(say(errors, text.as_str(), 2))
+    Ok(warned(alloc, text, 2))
 }
 
-/// Prints the explanation of a code, or that the code is not known. Returns the exit status.
-fn say_page<O: Sink, E: Sink>(
-    alloc: Global,
-    code: &str,
-    out: &mut O,
-    errors: &mut E,
-) -> Result<u8, AllocError>
-    requires out { O.failed out.old ≡ false }
-    requires errors { E.failed errors.old ≡ false }
-    ensures { IfOk result (λ status. status ≤ 4) }
-{
-    match page_of(code) {
-        Some(page) => {
-            let text = format!(in alloc; "{code}: {page}\n")?;
-            Ok(say(out, text.as_str(), 0))
-        }
-        None => say_unknown(alloc, code, errors),
-    }
-}
-
-/// Carries out `explain`: prints the explanation of a code, the list of codes, the help, or that the arguments are
-/// wrong. `words` are the name of the command and its arguments. Returns the exit status.
-pub fn explain<O: Sink, E: Sink>(
-    alloc: Global,
-    words: &[String],
-    out: &mut O,
-    errors: &mut E,
-) -> Result<u8, AllocError>
-    requires out { O.failed out.old ≡ false }
-    requires errors { E.failed errors.old ≡ false }
-    ensures { IfOk result (λ status. status ≤ 4) }
-{
-    match words {
-        [_, word] if is_help(word.as_str()) => Ok(say(out, EXPLAIN, 0)),
-        [_, code] => say_page(alloc, code.as_str(), out, errors),
-        [_, _, _, ..] => say_misuse(alloc, Command::Explain, "`explain` takes one code", errors),
-        _ => say_all(alloc, out),
+/// Carries out `explain`: returns the answer with the explanation of a code, with all codes and the first lines of
+/// their explanations, with the help, or that the arguments are wrong.
+pub(crate) fn explain(alloc: Global, arguments: &[String]) -> Result<Answer, AllocError> {
+    match arguments {
+        [] => Ok(printed(alloc, titles(alloc)?)),
+        [word] if is_help(word.as_str()) => helped(alloc, Command::Explain),
+        [code] => match page_of(code.as_str()) {
+            Some(page) => Ok(printed(alloc, format!(in alloc; "{code}: {page}\n")?)),
+            None => unknown(alloc, code.as_str()),
+        },
+        _ => misuse(alloc, Command::Explain, "`explain` takes one code"),
     }
 }

@@ -5,9 +5,7 @@ ghost use Rattle.toml_span_commands.specs.Files as spec;
 use crate::answers::{Answer, failed};
 use std::alloc::{AllocError, Global};
 use std::io::ErrorKind;
-use toml_span_check::input::Host;
 use toml_span_files::{Failure, Options, put_file};
-use toml_span_lookup::disk::Disk;
 
 /// Stores an option that says how to write a file, and that has no value: `--force`, `--change-owner` or `--in-place`.
 /// Returns whether `word` is one of these.
@@ -22,16 +20,6 @@ pub(crate) fn set_write_option(options: &mut Options, word: &str) -> bool
         _ => return false,
     }
     true
-}
-
-/// Returns the bytes of a file, or of standard input for `-`, but at most one byte more than 16 MiB. Returns a message
-/// if they can't be read, or if `name` is a directory, a pipe, a device or a socket, which are not opened.
-pub(crate) fn read_file(
-    alloc: Global,
-    host: &mut Host,
-    name: &str,
-) -> Result<Result<Vec<u8>, String>, AllocError> {
-    host.read_file(alloc, name)
 }
 
 /// Returns the start of the message about a file that was not edited, and the exit status.

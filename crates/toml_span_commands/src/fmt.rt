@@ -1,21 +1,22 @@
 //! The command `fmt`.
-ghost use Rattle.std.specs.Prelude.{◌≡◌, ◌≤◌, ◌&&◌, not, IfOk, OnOk, false};
+ghost use Rattle.std.specs.Prelude.{◌≡◌, ◌&&◌, not, IfOk, OnOk};
 ghost use Rattle.std.specs.Str.{IsValidUpTo};
 ghost use Rattle.toml_span_commands.specs.Fmt as spec;
 ghost use Rattle.toml_span_commands.specs.Fmt.{FormatsAs};
 
-use crate::answers::{Answer, failed, give, helped, misused, printed, stopped};
+use crate::answers::{Answer, failed, helped, misused, printed, stopped, warned};
 use crate::arguments::seconds;
 use crate::commands::Command;
 use crate::configured::{Configured, Wanted, configured_files};
 use crate::edit::escaped;
-use crate::files::{read_file, replace, set_write_option};
+use crate::files::{replace, set_write_option};
 use crate::options::search_of;
 use crate::say::unexpected;
-use crate::words::{Argument, after_name, arguments_in, has_help};
+use crate::words::{Argument, arguments_in, has_help};
 use std::alloc::{AllocError, Global};
 use std::fmt::Write;
 use std::io::IsTerminal;
+use std::mem;
 use toml_span::{Error, Stop, parse};
 use toml_span_check::encoding::not_utf8;
 use toml_span_check::folder::is_folder;
@@ -26,7 +27,7 @@ use toml_span_config::sources::Sources;
 use toml_span_files::unified;
 use toml_span_format::{FormatError, format, format_sorted};
 use toml_span_lines::run::BOUND;
-use toml_span_lines::sink::Sink;
+use toml_span_lookup::disk::Disk;
 use toml_span_mistakes::error_report;
 use toml_span_report::visible::visible;
 use toml_span_report::{Style, render};
@@ -140,31 +141,6 @@ fn number_of(
     }
 }
 
-/// Returns the setting that the value `word` of `--expand-arrays` names. Fails with a message for any other `word`.
-fn expansion_of(alloc: Global, word: &str) -> Result<ExpandArrays, Stop<String>> {
-    match word {
-        "auto" => Ok(ExpandArrays::Auto),
-        "keep" => Ok(ExpandArrays::Keep),
-        _ => {
-            let message = "the value of '--expand-arrays' must be 'auto' or 'keep'";
-            Err(Stop::Fault(String::from_str(alloc, message)?))
-        }
-    }
-}
-
-/// Returns the setting that the value `word` of `--crlf` names. Fails with a message for any other `word`.
-fn crlf_of(alloc: Global, word: &str) -> Result<Crlf, Stop<String>> {
-    match word {
-        "auto" => Ok(Crlf::Auto),
-        "always" => Ok(Crlf::Always),
-        "never" => Ok(Crlf::Never),
-        _ => {
-            let message = "the value of '--crlf' must be 'auto', 'always' or 'never'";
-            Err(Stop::Fault(String::from_str(alloc, message)?))
-        }
-    }
-}
-
 impl Asked<'_> {
     /// Returns whether formatted files are written: not with `--check` and `--diff`.
     fn writes(&self) -> bool
@@ -187,8 +163,27 @@ impl<'w> Asked<'w> {
                 let count = number_of(alloc, name, word, 1, MOST_BLANK_LINES)?;
                 self.layer.blank_lines = given(u8::try_from(count).unwrap_or(u8::MAX));
             }
-            "--expand-arrays" => self.layer.expand_arrays = given(expansion_of(alloc, word)?),
-            "--crlf" => self.layer.crlf = given(crlf_of(alloc, word)?),
+            "--expand-arrays" => {
+                self.layer.expand_arrays = match word {
+                    "auto" => given(ExpandArrays::Auto),
+                    "keep" => given(ExpandArrays::Keep),
+                    _ => {
+                        let message = "the value of '--expand-arrays' must be 'auto' or 'keep'";
+                        return Err(Stop::Fault(String::from_str(alloc, message)?));
+                    }
+                };
+            }
+            "--crlf" => {
+                self.layer.crlf = match word {
+                    "auto" => given(Crlf::Auto),
+                    "always" => given(Crlf::Always),
+                    "never" => given(Crlf::Never),
+                    _ => {
+                        let message = "the value of '--crlf' must be 'auto', 'always' or 'never'";
+                        return Err(Stop::Fault(String::from_str(alloc, message)?));
+                    }
+                };
+            }
             "--config" => self.config = word,
             "--stdin-name" => self.stdin_name = word,
             "--wait" => self.writing.wait = seconds(alloc, word)?,
@@ -238,18 +233,6 @@ impl<'w> Asked<'w> {
         self.names.push("-")?;
         Ok(())
     }
-
-    /// Stores an argument. Fails with a message if it is wrong.
-    fn take(&mut self, alloc: Global, argument: Argument<'w>) -> Result<(), Stop<String>> {
-        match argument {
-            Argument::Flag(word) => self.option(alloc, word),
-            Argument::Valued(name, word) => self.set(alloc, name, word),
-            Argument::Other(word) => {
-                self.names.push(word)?;
-                Ok(())
-            }
-        }
-    }
 }
 
 /// Parses all arguments. If they name no file, stores the name `.`, the current directory. Fails with a message if an
@@ -270,7 +253,11 @@ fn asked_of<'w>(alloc: Global, arguments: &'w [String]) -> Result<Asked<'w>, Sto
     };
     let split = arguments_in(alloc, arguments, &VALUED)?;
     for argument in &split.list {
-        asked.take(alloc, *argument)?;
+        match *argument {
+            Argument::Flag(word) => asked.option(alloc, word)?,
+            Argument::Valued(name, word) => asked.set(alloc, name, word)?,
+            Argument::Other(word) => asked.names.push(word)?,
+        }
     }
     split.complete(alloc)?;
     if asked.names.is_empty() {
@@ -284,11 +271,7 @@ fn invalid(alloc: Global, name: &str, text: &str, error: &Error<'_>) -> Result<A
     ensures { IfOk result (λ answer. answer.status ≡ 1) }
 {
     let report = error_report(alloc, error, text)?;
-    Ok(Answer {
-        out: String::new(alloc),
-        errors: render(alloc, Style::Plain, &report, name, text)?,
-        status: 1,
-    })
+    Ok(warned(alloc, render(alloc, Style::Plain, &report, name, text)?, 1))
 }
 
 /// Returns the answer for a file that can't be formatted. A text whose keys clash may be read as long as they are not
@@ -318,11 +301,7 @@ fn not_text(alloc: Global, name: &str, bytes: &[u8], at: usize) -> Result<Answer
     ensures { IfOk result (λ answer. answer.status ≡ 1) }
 {
     let (report, text) = not_utf8(alloc, bytes, at)?;
-    Ok(Answer {
-        out: String::new(alloc),
-        errors: render(alloc, Style::Plain, &report, name, text)?,
-        status: 1,
-    })
+    Ok(warned(alloc, render(alloc, Style::Plain, &report, name, text)?, 1))
 }
 
 /// Returns the answer for a file that must not be written, but whose `text` would change to `new`.
@@ -428,7 +407,7 @@ fn format_file(
 ) -> Result<Answer, AllocError> {
     let name = file.shown.as_str();
     let front = "error: cannot format ";
-    let bytes = match read_file(alloc, host, file.name.as_str())? {
+    let bytes = match host.read_file(alloc, file.name.as_str())? {
         Ok(bytes) => bytes,
         Err(reason) => {
             let reason = unread(host, file.name.as_str(), reason.as_str());
@@ -500,11 +479,7 @@ fn format_each(
 ) -> Result<Answer, AllocError> {
     // If nothing else is reported, the line that counts files needs no more memory once files have been written.
     let errors = String::with_capacity(alloc, LONGEST_LINE)?;
-    let mut all = Answer {
-        out: String::new(alloc),
-        errors,
-        status: 0,
-    };
+    let mut all = warned(alloc, errors, 0);
     let mut count = Count {
         changed: 0,
         unchanged: 0,
@@ -535,32 +510,28 @@ fn files_of(
     configured_files(alloc, host, &mut sources, wanted)
 }
 
-/// Finds the files, and formats them as `format_each` does. With `--diff`, the output is escaped if standard output is a
-/// terminal. If a configuration file can't be read or is wrong, formats nothing, and the answer says why.
+/// Finds the files, and formats them as `format_each` does. With `--diff`, the output is escaped if standard output is
+/// a terminal. If a configuration file can't be read or is wrong, formats nothing, and the answer says why.
 fn format_all(alloc: Global, asked: &Asked<'_>, host: &mut Host) -> Result<Answer, AllocError> {
     let files = match files_of(alloc, asked, host) {
         Ok(files) => files,
         Err(stop) => return stopped(alloc, stop),
     };
-    let answer = format_each(alloc, asked, host, files.as_slice())?;
-    if !asked.is_diff {
-        return Ok(answer);
+    let mut answer = format_each(alloc, asked, host, files.as_slice())?;
+    if asked.is_diff {
+        let out = mem::replace(&mut answer.out, String::new(alloc));
+        answer.out = escaped(alloc, out, host.rt.stdout().is_terminal())?;
     }
-    let Answer {
-        out,
-        errors,
-        status,
-    } = answer;
-    let out = escaped(alloc, out, host.rt.stdout().is_terminal())?;
-    Ok(Answer {
-        out,
-        errors,
-        status,
-    })
+    Ok(answer)
 }
 
-/// Returns the answer for these arguments.
-fn answer_of(alloc: Global, arguments: &[String], host: &mut Host) -> Result<Answer, AllocError> {
+/// Formats files. Returns the answer. Its status is 0 for success; 1 if a file can't be formatted, or would change with
+/// `--check` or `--diff`; 2 if a file can't be read or the arguments are wrong; 3 if a write fails.
+pub(crate) fn fmt(
+    alloc: Global,
+    arguments: &[String],
+    host: &mut Host,
+) -> Result<Answer, AllocError> {
     if has_help(arguments) {
         return helped(alloc, Command::Fmt);
     }
@@ -568,23 +539,4 @@ fn answer_of(alloc: Global, arguments: &[String], host: &mut Host) -> Result<Ans
         Ok(asked) => format_all(alloc, &asked, host),
         Err(stop) => misused(alloc, Command::Fmt, stop),
     }
-}
-
-/// Formats files. `words` are the name of the command and its arguments.
-///
-/// Returns the exit status: 0 for success; 1 if a file can't be formatted, or would change with `--check` or `--diff`;
-/// 2 if a file can't be read or the arguments are wrong; 3 if a write fails.
-pub fn fmt<O: Sink, E: Sink>(
-    alloc: Global,
-    words: &[String],
-    host: &mut Host,
-    out: &mut O,
-    errors: &mut E,
-) -> Result<u8, AllocError>
-    requires out { O.failed out.old ≡ false }
-    requires errors { E.failed errors.old ≡ false }
-    ensures { IfOk result (λ status. status ≤ 4) }
-{
-    let answer = answer_of(alloc, after_name(words), host)?;
-    Ok(give(&answer, out, errors))
 }

@@ -1,25 +1,26 @@
 //! The commands of the program `toml-span`, except `lsp`, with their arguments and help texts.
 #![tactic(auto)]
 
+pub mod answering;
 mod answers;
 mod arguments;
 mod changes;
 pub mod check;
 pub mod colours;
 pub mod commands;
-pub mod config;
+mod config;
 mod configured;
-pub mod edit;
-pub mod explain;
+mod edit;
+mod explain;
 mod files;
-pub mod fmt;
+mod fmt;
 pub mod help;
 pub mod helping;
 mod making;
 pub mod options;
 mod paths;
 pub mod say;
-pub mod schema;
+mod schema;
 mod schema_pages;
 mod schemas;
 pub mod show;

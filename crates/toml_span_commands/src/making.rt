@@ -1,5 +1,4 @@
 //! Makes edits in the text of a file.
-ghost use Rattle.std.specs.Prelude.{◌≡◌};
 ghost use Rattle.std.specs.Str.{IsValidUpTo};
 ghost use Rattle.toml_span_commands.specs.Edits as spec;
 
@@ -10,31 +9,20 @@ use std::fmt::Write;
 use toml_span::Stop;
 use toml_span_check::encoding::{not_utf8, not_utf8_text};
 use toml_span_check::newer::{Version, version_reports, with_older_forms};
-use toml_span_edit::{Edit, EditError, Edits, Reason, path_segments, segment_names, string_text};
+use toml_span_edit::{
+    Change, Edit, EditError, Edits, Reason, path_segments, segment_names, string_text,
+};
 use toml_span_report::line_column;
 
 /// The text before a value that makes it a document.
 const PROBE: &str = "v = ";
 
-/// The kind of an edit.
-#[derive(Clone, Copy)]
-enum Kind {
-    Set,
-    /// Sets the value, even if headers or dotted keys define the old value.
-    SetForced,
-    Rename,
-    Remove,
-    Add,
-    Append,
-    Insert,
-    Move,
-}
-
 /// Why edits were refused.
 #[derive(Drop)]
 pub(crate) struct Refusal {
     pub(crate) message: String,
-    /// Whether the edit would be made if it were allowed to replace a table or array that headers or dotted keys define.
+    /// Whether the edit would be made if it were allowed to replace a table or array that headers or dotted keys
+    /// define.
     pub(crate) is_table: bool,
 }
 
@@ -50,7 +38,9 @@ struct Located<'w> {
 /// An edit that is prepared for `toml_span_edit`.
 #[derive(Drop)]
 struct Prepared<'w> {
-    kind: Kind,
+    action: Action<'w>,
+    /// Whether the edit sets the value even if headers or dotted keys define the old value.
+    is_forced: bool,
     path: Vec<&'w str>,
     /// The segments of the path to which a value is moved. Empty for other edits.
     target: Vec<&'w str>,
@@ -109,39 +99,19 @@ fn value_of(alloc: Global, value: &str, way: Way<'_>) -> Result<String, Stop<Ref
     }
 }
 
-/// Returns the kind of an edit with this action.
-fn kind_of(action: Action<'_>) -> Kind
-    ensures { result ≡ spec.kind_of action.entry }
-{
-    match action {
-        Action::Set(_) => Kind::Set,
-        Action::Rename(_) => Kind::Rename,
-        Action::Remove => Kind::Remove,
-        Action::Add(_, _) => Kind::Add,
-        Action::Append(_) => Kind::Append,
-        Action::Insert(_) => Kind::Insert,
-        Action::Move(_) => Kind::Move,
-    }
-}
-
-/// Splits the paths of a change into segments.
-fn locate<'w>(alloc: Global, change: &PathEdit<'w>) -> Result<Located<'w>, AllocError> {
-    let target = match change.action {
-        Action::Move(to) => segments_of(alloc, to)?,
-        _ => Vec::new(alloc),
-    };
-    Ok(Located {
-        change: *change,
-        path: segments_of(alloc, change.path)?,
-        target,
-    })
-}
-
 /// Splits the paths of changes into segments.
 fn locate_all<'w>(alloc: Global, changes: &[PathEdit<'w>]) -> Result<Vec<Located<'w>>, AllocError> {
     let mut list = Vec::new(alloc);
     for change in changes {
-        list.push(locate(alloc, change)?)?;
+        let target = match change.action {
+            Action::Move(to) => segments_of(alloc, to)?,
+            _ => Vec::new(alloc),
+        };
+        list.push(Located {
+            change: *change,
+            path: segments_of(alloc, change.path)?,
+            target,
+        })?;
     }
     Ok(list)
 }
@@ -153,7 +123,8 @@ fn prepare<'w>(
     way: Way<'_>,
 ) -> Result<Prepared<'w>, Stop<Refusal>> {
     let mut prepared = Prepared {
-        kind: kind_of(located.change.action),
+        action: located.change.action,
+        is_forced: false,
         path: segment_names(alloc, located.path.as_slice())?,
         target: segment_names(alloc, located.target.as_slice())?,
         value: String::new(alloc),
@@ -190,15 +161,15 @@ fn edit_of<'w>(prepared: &'w Prepared<'w>) -> Edit<'w>
     ensures { spec.IsEditOf prepared.entry.now result }
 {
     let value = prepared.value.as_str();
-    let change = match prepared.kind {
-        Kind::Set => toml_span_edit::Change::SetOrAdd(value),
-        Kind::SetForced => toml_span_edit::Change::Replace(value),
-        Kind::Rename => toml_span_edit::Change::Rename(value),
-        Kind::Remove => toml_span_edit::Change::Remove,
-        Kind::Add => toml_span_edit::Change::Add(value),
-        Kind::Append => toml_span_edit::Change::Append(value),
-        Kind::Insert => toml_span_edit::Change::Insert(value),
-        Kind::Move => toml_span_edit::Change::MoveTo(prepared.target.as_slice()),
+    let change = match (prepared.action, prepared.is_forced) {
+        (Action::Set(_), false) => Change::SetOrAdd(value),
+        (Action::Set(_), true) => Change::Replace(value),
+        (Action::Rename(_), _) => Change::Rename(value),
+        (Action::Remove, _) => Change::Remove,
+        (Action::Add(_, _), _) => Change::Add(value),
+        (Action::Append(_), _) => Change::Append(value),
+        (Action::Insert(_), _) => Change::Insert(value),
+        (Action::Move(_), _) => Change::MoveTo(prepared.target.as_slice()),
     };
     Edit {
         path: prepared.path.as_slice(),
@@ -223,7 +194,9 @@ fn finished<'w>(
 /// define.
 fn sets_table(list: &[Prepared<'_>], error: &EditError) -> bool {
     match (&error.reason, list.get(error.edit)) {
-        (Reason::NotLiteral, Some(prepared)) => matches!(prepared.kind, Kind::Set),
+        (Reason::NotLiteral, Some(prepared)) => {
+            matches!(prepared.action, Action::Set(_)) && !prepared.is_forced
+        }
         _ => false,
     }
 }
@@ -265,7 +238,7 @@ fn made(
             return Err(Stop::Fault(refusal_of(alloc, list.as_slice(), &error)?));
         }
         if let Some(prepared) = list.as_mut_slice().get_mut(error.edit) {
-            prepared.kind = Kind::SetForced;
+            prepared.is_forced = true;
         }
     }
     match finished(alloc, text, list.as_slice()) {

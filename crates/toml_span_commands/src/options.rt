@@ -25,7 +25,7 @@ use toml_span_report::Style;
 pub(crate) const WRONG_MAP: &str = "the value of '--schema-map' must be URL=FILE";
 
 /// A command whose arguments this module parses.
-#[derive(Clone, Copy, PartialEq, Eq)]
+#[derive(Clone, Copy)]
 pub enum Query {
     /// `check`
     Check,
@@ -34,7 +34,7 @@ pub enum Query {
 }
 
 /// What `check` does with the fixes of errors.
-#[derive(Clone, Copy, PartialEq, Eq)]
+#[derive(Clone, Copy)]
 pub(crate) enum Fixing {
     /// Nothing.
     No,
@@ -56,20 +56,13 @@ pub(crate) struct Options<'w> {
     pub(crate) writing: toml_span_files::Options,
     pub(crate) schemas: SchemaOptions<'w>,
     /// The path of the configuration file, or an empty text.
-    config: &'w str,
+    pub(crate) config: &'w str,
     /// Whether to use no configuration file.
-    has_no_config: bool,
+    pub(crate) has_no_config: bool,
     /// Whether configuration files also exclude files that are named.
     pub(crate) forces_exclude: bool,
     /// Whether warnings are errors.
     pub(crate) denies_warnings: bool,
-}
-
-impl<'w> Options<'w> {
-    /// Returns which configuration file to use.
-    pub(crate) fn search(&self) -> Search<'w> {
-        search_of(self.config, self.has_no_config)
-    }
 }
 
 /// Returns which configuration file to use. `config` is the value of `--config`, or an empty text, and `has_none` says
@@ -87,7 +80,7 @@ pub(crate) fn search_of<'w>(config: &'w str, has_none: bool) -> Search<'w>
 }
 
 /// A mistake that clap does not find in the arguments.
-#[derive(Clone, Copy, PartialEq, Eq)]
+#[derive(Clone, Copy)]
 enum Mistake {
     /// The value of `--format` is unknown.
     Format,
@@ -107,142 +100,98 @@ enum Mistake {
     Fix,
 }
 
-/// Returns a flag, which is an option without a value.
-fn flag<'w>(alloc: Global, name: &'w str) -> Arg<'w>
-    ensures rule { rule_of result ≡ spec.flag name.entry.now }
-    ensures own { result.global ≡ false }
-{
-    Arg::new(alloc, name).long(name).action(ArgAction::SetTrue)
+/// How an option or an argument is given.
+#[derive(Clone, Copy)]
+enum Kind<'w> {
+    /// An option without a value.
+    Flag,
+    /// An option.
+    Optional,
+    /// An option that may be repeated.
+    Several,
+    /// An option with this default value.
+    Default(&'w str),
+    /// The names of files, the current directory by default.
+    Files,
+    /// An argument that is required.
+    Required,
+    /// An argument that is required, and may follow further arguments.
+    Last,
 }
 
-/// Returns an option with a default value.
-fn with_default<'w>(alloc: Global, name: &'w str, default: &'w str) -> Arg<'w>
-    ensures rule { rule_of result ≡ spec.with_default name.entry.now default.entry.now }
+/// The options and arguments of `check`.
+const CHECK_OPTIONS: [(&str, Kind<'static>); 21] = [
+    ("format", Kind::Default("text")),
+    ("color", Kind::Default("auto")),
+    ("schema", Kind::Optional),
+    ("catalog", Kind::Optional),
+    ("schema-map", Kind::Several),
+    ("no-formats", Kind::Flag),
+    ("fix", Kind::Flag),
+    ("unsafe-fixes", Kind::Flag),
+    ("diff", Kind::Flag),
+    ("force", Kind::Flag),
+    ("change-owner", Kind::Flag),
+    ("in-place", Kind::Flag),
+    ("config", Kind::Optional),
+    ("no-config", Kind::Flag),
+    ("force-exclude", Kind::Flag),
+    ("deny-warnings", Kind::Flag),
+    ("quiet", Kind::Flag),
+    ("toml", Kind::Default("auto")),
+    ("exclude", Kind::Several),
+    ("stdin-name", Kind::Default("-")),
+    ("FILE", Kind::Files),
+];
+
+/// The options and arguments of `get`.
+const GET_OPTIONS: [(&str, Kind<'static>); 10] = [
+    ("format", Kind::Default("text")),
+    ("color", Kind::Default("auto")),
+    ("json", Kind::Flag),
+    ("raw", Kind::Flag),
+    ("toml", Kind::Flag),
+    ("tagged", Kind::Flag),
+    ("items", Kind::Flag),
+    ("sort-keys", Kind::Flag),
+    ("FILE", Kind::Required),
+    ("PATH", Kind::Last),
+];
+
+/// Returns the option or argument `name` of this kind.
+fn arg<'w>(alloc: Global, name: &'w str, kind: Kind<'w>) -> Arg<'w>
+    ensures rule { rule_of result ≡ spec.rule name.entry.now kind.entry }
     ensures own { result.global ≡ false }
 {
-    Arg::new(alloc, name).long(name).default_value(default)
+    match kind {
+        Kind::Flag => Arg::new(alloc, name).long(name).action(ArgAction::SetTrue),
+        Kind::Optional => Arg::new(alloc, name).long(name),
+        Kind::Several => Arg::new(alloc, name).long(name).action(ArgAction::Append),
+        Kind::Default(value) => Arg::new(alloc, name).long(name).default_value(value),
+        Kind::Files => Arg::new(alloc, name).num_args(0..).default_value("."),
+        Kind::Required => Arg::new(alloc, name).required(true),
+        Kind::Last => Arg::new(alloc, name).required(true).num_args(1..),
+    }
 }
 
-/// Returns an option that may be repeated.
-fn several<'w>(alloc: Global, name: &'w str) -> Arg<'w>
-    ensures rule { rule_of result ≡ spec.several name.entry.now }
-    ensures own { result.global ≡ false }
+/// Returns a command with these options and arguments. `name` is the name of the command in messages, and `help` its
+/// help text.
+fn command_with<'w>(
+    alloc: Global,
+    name: &'w str,
+    help: &'w str,
+    options: &[(&'w str, Kind<'w>)],
+) -> Result<Command<'w>, AllocError>
+    ensures { IfOk result (λ c. app_of c ≡ spec.with_options spec.plain options.entry.now) }
 {
-    Arg::new(alloc, name).long(name).action(ArgAction::Append)
-}
-
-/// Returns an option without a default value.
-fn optional<'w>(alloc: Global, name: &'w str) -> Arg<'w>
-    ensures rule { rule_of result ≡ spec.optional name.entry.now }
-    ensures own { result.global ≡ false }
-{
-    Arg::new(alloc, name).long(name)
-}
-
-/// Returns the argument for the names of files.
-fn files<'w>(alloc: Global) -> Arg<'w>
-    ensures rule { rule_of result ≡ spec.files }
-    ensures own { result.global ≡ false }
-{
-    Arg::new(alloc, "FILE").num_args(0..).default_value(".")
-}
-
-/// Returns an argument that is required.
-fn required<'w>(alloc: Global, name: &'w str) -> Arg<'w>
-    ensures rule { rule_of result ≡ spec.required name.entry.now }
-    ensures own { result.global ≡ false }
-{
-    Arg::new(alloc, name).required(true)
-}
-
-/// Returns the argument for the path of `get`, which may follow names of further files.
-fn path<'w>(alloc: Global) -> Arg<'w>
-    ensures rule { rule_of result ≡ spec.path }
-    ensures own { result.global ≡ false }
-{
-    required(alloc, "PATH").num_args(1..)
-}
-
-/// Returns a command with the options that `check` and `get` share. `name` is the name of the command in messages, and
-/// `help` its help text.
-fn common<'w>(alloc: Global, name: &'w str, help: &'w str) -> Result<Command<'w>, AllocError>
-    ensures { IfOk result (λ c. app_of c ≡ spec.common) }
-{
-    Command::new(alloc, "toml-span")
+    let mut command = Command::new(alloc, "toml-span")
         .bin_name(name)?
         .override_help(help)
-        .version(VERSION)
-        .arg(with_default(alloc, "format", "text"))?
-        .arg(with_default(alloc, "color", "auto"))
-}
-
-/// Returns the command `check` with the options of `common` and the options about schemas.
-fn schema_command<'w>(alloc: Global) -> Result<Command<'w>, AllocError>
-    ensures { IfOk result (λ c. app_of c ≡ spec.schemas) }
-{
-    common(alloc, "toml-span check", CHECK)?
-        .arg(optional(alloc, "schema"))?
-        .arg(optional(alloc, "catalog"))?
-        .arg(several(alloc, "schema-map"))?
-        .arg(flag(alloc, "no-formats"))
-}
-
-/// Returns the command `check` with the options of `schema_command` and those about fixes.
-fn fixing_command<'w>(alloc: Global) -> Result<Command<'w>, AllocError>
-    ensures { IfOk result (λ c. app_of c ≡ spec.fixing) }
-{
-    schema_command(alloc)?
-        .arg(flag(alloc, "fix"))?
-        .arg(flag(alloc, "unsafe-fixes"))?
-        .arg(flag(alloc, "diff"))?
-        .arg(flag(alloc, "force"))?
-        .arg(flag(alloc, "change-owner"))?
-        .arg(flag(alloc, "in-place"))
-}
-
-/// Returns the command `check` with the options of `fixing_command` and those about configuration files.
-fn configured_command<'w>(alloc: Global) -> Result<Command<'w>, AllocError>
-    ensures { IfOk result (λ c. app_of c ≡ spec.configured) }
-{
-    fixing_command(alloc)?
-        .arg(optional(alloc, "config"))?
-        .arg(flag(alloc, "no-config"))?
-        .arg(flag(alloc, "force-exclude"))?
-        .arg(flag(alloc, "deny-warnings"))
-}
-
-/// Returns the command `check` with all its arguments.
-fn check_command<'w>(alloc: Global) -> Result<Command<'w>, AllocError>
-    ensures { IfOk result (λ c. app_of c ≡ spec.check) }
-{
-    configured_command(alloc)?
-        .arg(flag(alloc, "quiet"))?
-        .arg(with_default(alloc, "toml", "auto"))?
-        .arg(several(alloc, "exclude"))?
-        .arg(with_default(alloc, "stdin-name", "-"))?
-        .arg(files(alloc))
-}
-
-/// Returns the command `get` with its options, but without the file and the path.
-fn forms_command<'w>(alloc: Global) -> Result<Command<'w>, AllocError>
-    ensures { IfOk result (λ c. app_of c ≡ spec.forms) }
-{
-    common(alloc, "toml-span get", GET)?
-        .arg(flag(alloc, "json"))?
-        .arg(flag(alloc, "raw"))?
-        .arg(flag(alloc, "toml"))?
-        .arg(flag(alloc, "tagged"))?
-        .arg(flag(alloc, "items"))?
-        .arg(flag(alloc, "sort-keys"))
-}
-
-/// Returns the command `get` with all its arguments.
-fn get_command<'w>(alloc: Global) -> Result<Command<'w>, AllocError>
-    ensures { IfOk result (λ c. app_of c ≡ spec.get) }
-{
-    forms_command(alloc)?
-        .arg(required(alloc, "FILE"))?
-        .arg(path(alloc))
+        .version(VERSION);
+    for option in options {
+        command = command.arg(arg(alloc, option.0, option.1))?;
+    }
+    Ok(command)
 }
 
 /// Returns the command that `query` names, with all its arguments.
@@ -250,8 +199,8 @@ fn command<'w>(alloc: Global, query: Query) -> Result<Command<'w>, AllocError>
     ensures { IfOk result (λ c. app_of c ≡ spec.program query) }
 {
     match query {
-        Query::Check => check_command(alloc),
-        Query::Get => get_command(alloc),
+        Query::Check => command_with(alloc, "toml-span check", CHECK, &CHECK_OPTIONS),
+        Query::Get => command_with(alloc, "toml-span get", GET, &GET_OPTIONS),
     }
 }
 

@@ -60,17 +60,8 @@ pub(crate) fn is_among(name: &str, names: &[&str]) -> bool
     false
 }
 
-/// Returns the name and the value of an argument such as `--name=value`. Any other argument is a name, and has an empty
-/// value.
-fn option_parts(word: &str) -> (&str, &str) {
-    match word.split_once('=') {
-        Some((name, value)) if name.len() > 2 && name.starts_with("--") => (name, value),
-        _ => (word, ""),
-    }
-}
-
-/// Returns the message that an argument is unexpected, in the words of clap. An option is named without its value. If one
-/// of the options `names` is similar, a second line names it. Otherwise, if the command has the option `--`
+/// Returns the message that an argument is unexpected, in the words of clap. An option is named without its value. If
+/// one of the options `names` is similar, a second line names it. Otherwise, if the command has the option `--`
 /// (`has_dashes`), a second line says how to pass an argument with two dashes as a value.
 pub(crate) fn unexpected(
     alloc: Global,
@@ -80,7 +71,10 @@ pub(crate) fn unexpected(
 ) -> Result<String, AllocError> {
     let shown = shown_word(alloc, word)?;
     let shown = visible(alloc, shown.as_str())?;
-    let (name, value) = option_parts(shown.as_str());
+    let (name, value) = match shown.as_str().split_once('=') {
+        Some((name, value)) if name.len() > 2 && name.starts_with("--") => (name, value),
+        _ => (shown.as_str(), ""),
+    };
     if !value.is_empty() && is_among(name, names) {
         return format!(in alloc;
             "unexpected value '{value}' for '{name}' found; no more were expected"
@@ -97,16 +91,6 @@ pub(crate) fn unexpected(
         );
     }
     format!(in alloc; "unexpected argument '{name}' found")
-}
-
-/// Returns the message that an option has no value, in the words of clap.
-pub(crate) fn missing_value(alloc: Global, option: &str) -> Result<String, AllocError> {
-    let name = if option == "-e" {
-        "edit"
-    } else {
-        option.trim_start_matches('-')
-    };
-    format!(in alloc; "a value is required for '{option} <{name}>' but none was supplied")
 }
 
 /// Returns a text about wrong arguments: `message`, which says what is wrong, and the usage of the command.

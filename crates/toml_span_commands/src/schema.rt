@@ -1,19 +1,17 @@
 //! The command `schema`, which checks schemas and prints commands that fetch them.
-ghost use Rattle.std.specs.Prelude.{◌≡◌, ◌≤◌, ◌++◌, IfOk, OnOk, false, string_bytes};
+ghost use Rattle.std.specs.Prelude.{◌≡◌, ◌++◌, OnOk, string_bytes};
 ghost use Rattle.toml_span_commands.specs.Shell as spec;
 
-use crate::answers::{Answer, give};
+use crate::answers::{Answer, helped, misuse, misused, printed, warned};
 use crate::commands::Command;
-use crate::help::SCHEMA;
 use crate::options::WRONG_MAP;
-use crate::say::{say, say_misuse, unexpected};
+use crate::say::unexpected;
 use crate::schemas::{SchemaOptions, copy_of};
-use crate::words::{Argument, arguments_in, is_help};
+use crate::words::{Argument, arguments_in, has_help};
 use std::alloc::{AllocError, Global};
 use std::fmt::Write;
 use toml_span::Stop;
 use toml_span_check::input::Host;
-use toml_span_lines::sink::Sink;
 use toml_span_lookup::disk::Disk;
 use toml_span_lookup::lookup::Lookup;
 use toml_span_lookup::options::{Options, Place};
@@ -67,17 +65,6 @@ fn asked_of<'w>(alloc: Global, words: &'w [String]) -> Result<Arguments<'w>, Sto
         return Err(Stop::Fault(String::from_str(alloc, message)?));
     }
     Ok(made)
-}
-
-/// Appends a local copy to the options, from its address and its path.
-fn push_copy(
-    alloc: Global,
-    options: &mut Options,
-    address: &str,
-    path: &str,
-) -> Result<(), AllocError> {
-    options.copies.push(copy_of(alloc, address, path)?)?;
-    Ok(())
 }
 
 /// Appends a word in quotes for a shell.
@@ -138,11 +125,7 @@ fn check_schemas(
     let errors = lookup.take_complaint(alloc);
     let status = if errors.is_empty() { 0 } else { 1 };
     lines.push_str(errors.as_str())?;
-    Ok(Answer {
-        out: String::new(alloc),
-        errors: lines,
-        status,
-    })
+    Ok(warned(alloc, lines, status))
 }
 
 /// Appends the lines of a shell script that write a catalog for schemas to a file.
@@ -188,8 +171,8 @@ fn fetch_schemas(
 ) -> Result<Answer, AllocError> {
     let folder = arguments.folder;
     let mut options = Options::new(alloc, Place::Arguments);
-    push_copy(alloc, &mut options, "https://", folder)?;
-    push_copy(alloc, &mut options, "http://", folder)?;
+    options.copies.push(copy_of(alloc, "https://", folder)?)?;
+    options.copies.push(copy_of(alloc, "http://", folder)?)?;
     let mut lookup = Lookup::new(alloc, options);
     let mut out = String::new(alloc);
     let mut again = String::from_str(alloc, "toml-span schema get --folder ")?;
@@ -207,11 +190,7 @@ fn fetch_schemas(
     }
     let errors = lookup.take_complaint(alloc);
     if !errors.is_empty() {
-        return Ok(Answer {
-            out: String::new(alloc),
-            errors,
-            status: 1,
-        });
+        return Ok(warned(alloc, errors, 1));
     }
     let catalog = format!(in alloc; "{folder}/catalog.json")?;
     if !out.is_empty() {
@@ -220,46 +199,28 @@ fn fetch_schemas(
     } else if host.stamp(catalog.as_str()).is_none() {
         push_catalog(&mut out, catalog.as_str(), arguments.names.as_slice())?;
     }
-    Ok(Answer {
-        out,
-        errors,
-        status: 0,
-    })
+    Ok(printed(alloc, out))
 }
 
-/// Carries out `schema`. `words` are the name of the command and its arguments. Returns the exit status.
-pub fn schema<O: Sink, E: Sink>(
+/// Carries out `schema`. Returns the answer.
+pub(crate) fn schema(
     alloc: Global,
     words: &[String],
     host: &mut Host,
-    out: &mut O,
-    errors: &mut E,
-) -> Result<u8, AllocError>
-    requires out { O.failed out.old ≡ false }
-    requires errors { E.failed errors.old ≡ false }
-    ensures { IfOk result (λ status. status ≤ 4) }
-{
-    let [_, task, rest @ ..] = words else {
-        return say_misuse(alloc, Command::Schema, NO_TASK, errors);
+) -> Result<Answer, AllocError> {
+    let [task, rest @ ..] = words else {
+        return misuse(alloc, Command::Schema, NO_TASK);
     };
-    if is_help(task.as_str()) || rest.iter().any(|word| is_help(word.as_str())) {
-        return Ok(say(out, SCHEMA, 0));
+    if has_help(words) {
+        return helped(alloc, Command::Schema);
     }
     let is_check = task.as_str() == "check";
     if !is_check && task.as_str() != "get" {
-        return say_misuse(alloc, Command::Schema, NO_TASK, errors);
+        return misuse(alloc, Command::Schema, NO_TASK);
     }
-    let arguments = match asked_of(alloc, rest) {
-        Ok(arguments) => arguments,
-        Err(stop) => {
-            let message = stop.fault()?;
-            return say_misuse(alloc, Command::Schema, message.as_str(), errors);
-        }
-    };
-    let answer = if is_check {
-        check_schemas(alloc, host, &arguments)?
-    } else {
-        fetch_schemas(alloc, host, &arguments)?
-    };
-    Ok(give(&answer, out, errors))
+    match asked_of(alloc, rest) {
+        Ok(arguments) if is_check => check_schemas(alloc, host, &arguments),
+        Ok(arguments) => fetch_schemas(alloc, host, &arguments),
+        Err(stop) => misused(alloc, Command::Schema, stop),
+    }
 }

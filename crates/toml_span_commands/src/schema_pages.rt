@@ -4,44 +4,8 @@ ghost use Rattle.toml_span_commands.specs.Explain as spec;
 
 use toml_span_report::tables::text_in;
 
-/// The codes of reports about schemas.
-pub(crate) const SCHEMA_CODES: [&str; 32] = [
-    "schema",
-    "schema-false",
-    "schema-type",
-    "schema-enum",
-    "schema-const",
-    "schema-minimum",
-    "schema-exclusive-minimum",
-    "schema-maximum",
-    "schema-exclusive-maximum",
-    "schema-multiple-of",
-    "schema-min-length",
-    "schema-max-length",
-    "schema-pattern",
-    "schema-format",
-    "schema-min-items",
-    "schema-max-items",
-    "schema-unique-items",
-    "schema-contains",
-    "schema-unevaluated-items",
-    "schema-min-properties",
-    "schema-max-properties",
-    "schema-required",
-    "schema-additional-properties",
-    "schema-unevaluated-properties",
-    "schema-dependent-required",
-    "schema-dependencies",
-    "schema-any-of",
-    "schema-one-of",
-    "schema-not",
-    "schema-deprecated",
-    "schema-not-checked",
-    "schema-not-fetched",
-];
-
-/// Each code of `SCHEMA_CODES` with its explanation.
-const SCHEMA_PAGES: [(&str, &str); 32] = [
+/// The codes of reports about schemas, each with its explanation.
+pub(crate) const SCHEMA_PAGES: [(&str, &str); 32] = [
     (
         "schema",
         "a value that does not match its schema\n\nThe JSON Schema of the file refuses the marked value. The schema is the one that\n`--schema`, a comment `#:schema PATH` in the file, or a catalog names.",

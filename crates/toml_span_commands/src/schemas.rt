@@ -145,9 +145,9 @@ fn is_shared(shared: &Shared, named: &Named) -> bool
 }
 
 impl FileSchemas {
-    /// Returns a source of the schemas of `files`, which are named by files, by `options`, by the configuration files in
-    /// `sources` or by the catalog in `options`. `are_mixed` says whether the files have several versions of TOML. Reads
-    /// nothing yet.
+    /// Returns a source of the schemas of `files`, which are named by files, by `options`, by the configuration files
+    /// in `sources` or by the catalog in `options`. `are_mixed` says whether the files have several versions of TOML.
+    /// Reads nothing yet.
     pub(crate) fn new(
         alloc: Global,
         host: Host,
@@ -181,8 +181,8 @@ impl FileSchemas {
         None
     }
 
-    /// Returns what the configuration says of the file that reports call `name`, and whose content is `text`. The option
-    /// `--schema`, and a directive in the file, come before a schema that the configuration names.
+    /// Returns what the configuration says of the file that reports call `name`, and whose content is `text`. The
+    /// option `--schema`, and a directive in the file, come before a schema that the configuration names.
     fn named(&mut self, alloc: Global, name: &str, text: &str) -> Result<Named, AllocError>
         ensures keeps { self.new ≡ record self.old { last = self.new.last } }
         ensures named { IfOk result
@@ -214,11 +214,7 @@ impl FileSchemas {
         named: &Named,
         copies: &mut Vec<LocalCopy>,
     ) -> Result<(), AllocError> {
-        let source = match named.source {
-            Some(at) => self.sources.list.get(at),
-            None => None,
-        };
-        let Some(source) = source else {
+        let Some(source) = self.sources.source_at(named.source) else {
             return Ok(());
         };
         for copy in &source.config.copies {

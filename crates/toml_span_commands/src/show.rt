@@ -3,7 +3,6 @@ ghost use Rattle.std.specs.Prelude.{◌≡◌, IfOk, false, map, string_bytes};
 ghost use Rattle.toml_span_commands.specs.Show.{PrintsUnread, PerformsShow, ShowsFile};
 
 use crate::commands::Command;
-use crate::files::read_file;
 use crate::help::SHOW;
 use crate::say::{say, say_misuse};
 use crate::words::is_help;
@@ -14,6 +13,7 @@ use toml_span_check::words::shown_word;
 use toml_span_lines::run::run;
 use toml_span_lines::sink::Sink;
 use toml_span_lines::tracked::Tracked;
+use toml_span_lookup::disk::Disk;
 
 /// Prints to `errors` that the file `name` can't be read, and why. Returns status 2, or 3 if the write fails.
 pub(crate) fn say_unread<E: Sink>(
@@ -47,7 +47,7 @@ fn show_file<O: Sink, E: Sink>(
         (O.contents out.old) (O.contents out.new) (O.failed out.new)
         (E.contents errors.old) (E.contents errors.new) (E.failed errors.new) status) }
 {
-    match read_file(alloc, host, name)? {
+    match host.read_file(alloc, name)? {
         Ok(bytes) => Ok(run(alloc, &mut Tracked::new(bytes.as_slice()), out)),
         Err(reason) => {
             let status = say_unread(alloc, name, reason.as_str(), errors)?;

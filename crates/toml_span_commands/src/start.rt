@@ -34,14 +34,6 @@ fn help_of(query: Query) -> &'static str
     }
 }
 
-/// Returns the command that `query` names.
-fn command_of(query: Query) -> Command {
-    match query {
-        Query::Check => Command::Check,
-        Query::Get => Command::Get,
-    }
-}
-
 /// Returns what clap's message about wrong arguments says is wrong, without the usage after it.
 fn problem_of(message: &str) -> &str {
     let message = message.strip_prefix("error: ").unwrap_or(message);
@@ -52,14 +44,6 @@ fn problem_of(message: &str) -> &str {
     match end.split_once("\n\nFor more") {
         Some((front, _)) => front,
         None => end,
-    }
-}
-
-/// Returns the text without the dots that clap writes after `<PATH>`, since files may come before the path.
-fn without_dots(alloc: Global, problem: &str) -> Result<String, AllocError> {
-    match problem.split_once("<PATH>...") {
-        Some((front, rest)) => format!(in alloc; "{front}<PATH>{rest}"),
-        None => String::from_str(alloc, problem),
     }
 }
 
@@ -76,8 +60,17 @@ fn message_of(alloc: Global, query: Query, words: &[String]) -> Result<String, A
                 return Err(AllocError);
             }
             let message = error.to_string(alloc)?;
-            let problem = without_dots(alloc, problem_of(message.as_str()))?;
-            usage_text(alloc, command_of(query), problem.as_str())
+            let problem = problem_of(message.as_str());
+            // clap writes dots after `<PATH>`, but files may come before the path.
+            let problem = match problem.split_once("<PATH>...") {
+                Some((front, rest)) => format!(in alloc; "{front}<PATH>{rest}")?,
+                None => String::from_str(alloc, problem)?,
+            };
+            let command = match query {
+                Query::Check => Command::Check,
+                Query::Get => Command::Get,
+            };
+            usage_text(alloc, command, problem.as_str())
         }
     }
 }

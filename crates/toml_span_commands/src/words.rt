@@ -2,7 +2,7 @@
 ghost use Rattle.std.specs.Prelude.{◌≡◌, IfOk, OnOk, None, map, string_bytes};
 ghost use Rattle.toml_span_commands.specs.Words as spec;
 
-use crate::say::{is_among, missing_value};
+use crate::say::is_among;
 use std::alloc::{AllocError, Global};
 use std::env::FillError;
 use std::rt::Env;
@@ -36,14 +36,6 @@ pub fn given_words(rt: &HostRuntime) -> Result<Vec<String>, AllocError> {
         words.push(word_text(rt.alloc(), word.as_slice())?)?;
     }
     Ok(words)
-}
-
-/// Returns the arguments after the name of the command, which is the first of `words`.
-pub(crate) fn after_name(words: &[String]) -> &[String] {
-    match words {
-        [_, rest @ ..] => rest,
-        [] => words,
-    }
 }
 
 /// Returns whether one of the arguments is `-h` or `--help`.
@@ -155,12 +147,20 @@ impl<'w> Given<'w> {
         Ok(())
     }
 
-    /// Fails with a message if the last argument is an option whose value is missing.
+    /// Fails with a message, in the words of clap, if the last argument is an option whose value is missing.
     pub(crate) fn complete(&self, alloc: Global) -> Result<(), Stop<String>>
         ensures { OnOk result (self.now.waiting ≡ None) }
     {
         match self.waiting {
-            Some(option) => Err(Stop::Fault(missing_value(alloc, option)?)),
+            Some(option) => {
+                let name = match option {
+                    "-e" => "edit",
+                    _ => option.trim_start_matches('-'),
+                };
+                Err(Stop::Fault(format!(in alloc;
+                    "a value is required for '{option} <{name}>' but none was supplied"
+                )?))
+            }
             None => Ok(()),
         }
     }

@@ -59,11 +59,12 @@ schema_text (Some path) = string_bytes path.value
 abbrev pub entry_layer : FilesTable → ℕ → Layer
 entry_layer t at = with_fmt (with_check (schema_layer t.schema at) t.check) t.fmt
 
-abbrev pub patterns : Vec Glob Global → List PatternContent
-patterns globs = map (λ g. pattern g.pattern) globs.items
+abbrev pub patterns : Option (Vec Glob Global) → List PatternContent
+patterns None = []
+patterns (Some globs) = map (λ g. pattern g.pattern) globs.items
 
 abbrev pub entry_content : FilesTable → ℕ → EntryContent
-entry_content t at = (patterns t.globs, entry_layer t at)
+entry_content t at = (patterns (Some t.globs), entry_layer t at)
 
 -- the entries of the tables from the position `at` on
 abbrev pub entries_from : ℕ → List FilesTable → List EntryContent
@@ -74,14 +75,10 @@ abbrev pub entries : Option (Vec FilesTable Global) → List EntryContent
 entries None = []
 entries (Some files) = entries_from 0 files.items
 
-abbrev pub excludes : Option (Vec Glob Global) → List PatternContent
-excludes None = []
-excludes (Some globs) = patterns globs
-
 -- the settings for all files
 abbrev pub general_layer : Document → Layer
 general_layer d = with_fmt (with_check empty d.check) d.fmt
 
 -- the configuration of a file
 abbrev pub config_content : Document → ConfigContent
-config_content d = (general_layer d, entries d.files, excludes d.exclude)
+config_content d = (general_layer d, entries d.files, patterns d.exclude)

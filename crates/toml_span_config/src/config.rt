@@ -1,7 +1,7 @@
 //! Configurations, and the settings that they have for a file.
 ghost use Rattle.std.specs.Prelude.{◌≡◌, ◌<◌, ◌==◌, ◌&&◌, IfOk, length, map, slice_index, take, Some, true};
 ghost use Rattle.std.specs.Prelude.{string_bytes};
-ghost use Rattle.toml_span_check.specs.Patterns.{pattern, parts};
+ghost use Rattle.toml_span_check.specs.Patterns.{pattern};
 ghost use Rattle.toml_span_config.specs.Config as spec;
 ghost use Rattle.toml_span_config.specs.Tables as tables;
 
@@ -44,11 +44,14 @@ pub struct Config {
     pub copies: Vec<LocalCopy>,
 }
 
-/// Returns the patterns of the globs.
-fn patterns_of(alloc: Global, globs: Vec<Glob>) -> Result<Vec<Pattern>, AllocError>
+/// Returns the patterns of the globs, if they are there.
+fn patterns_of(alloc: Global, globs: Option<Vec<Glob>>) -> Result<Vec<Pattern>, AllocError>
     ensures { IfOk result (λ patterns. map pattern patterns.items ≡ tables.patterns globs) }
 {
     let mut patterns = Vec::new(alloc);
+    let Some(globs) = globs else {
+        return Ok(patterns);
+    };
     for glob in globs {
         patterns.push(glob.pattern)?;
     }
@@ -129,7 +132,7 @@ fn entry_of(alloc: Global, table: FilesTable, at: usize) -> Result<Entry, AllocE
         None => String::new(alloc),
     };
     Ok(Entry {
-        patterns: patterns_of(alloc, globs)?,
+        patterns: patterns_of(alloc, Some(globs))?,
         layer,
         schema,
     })
@@ -165,16 +168,6 @@ fn copies_of(
     Ok(copies)
 }
 
-/// Returns the patterns of the globs, if they are there.
-fn excludes_of(alloc: Global, globs: Option<Vec<Glob>>) -> Result<Vec<Pattern>, AllocError>
-    ensures { IfOk result (λ patterns. map pattern patterns.items ≡ tables.excludes globs) }
-{
-    match globs {
-        Some(globs) => patterns_of(alloc, globs),
-        None => Ok(Vec::new(alloc)),
-    }
-}
-
 /// Returns the configuration of a file that has been read.
 fn config_of(alloc: Global, document: Document) -> Result<Config, AllocError>
     ensures { IfOk result (λ config. spec.config config ≡ tables.config_content document) }
@@ -187,26 +180,11 @@ fn config_of(alloc: Global, document: Document) -> Result<Config, AllocError>
         schema_map,
     } = document;
     Ok(Config {
-        excludes: excludes_of(alloc, exclude)?,
+        excludes: patterns_of(alloc, exclude)?,
         general: with_fmt(with_check(Layer::empty(), &check), &fmt),
         files: entries_of(alloc, files)?,
         copies: copies_of(alloc, schema_map)?,
     })
-}
-
-/// Returns the reports on a text that is not a configuration: those of its syntax errors or, if it is valid TOML, those
-/// of `read`, the failed read.
-fn reports_on(
-    alloc: Global,
-    text: &str,
-    read: &Result<(), Stop<DeserError<'_>>>,
-) -> Result<Vec<Report>, AllocError> {
-    let reports = check(alloc, text)?;
-    if reports.is_empty() {
-        reports_of(alloc, read, &[], text)
-    } else {
-        Ok(reports)
-    }
 }
 
 /// Returns `lower` with the settings of an entry, which hold where both set one, if the patterns of the entry select
@@ -270,13 +248,17 @@ impl Config {
     }
 
     /// Reads a configuration. Fails with the reports of all errors if the text is not valid TOML, or not a
-    /// configuration.
+    /// configuration. If it is not valid TOML, those are the syntax errors.
     pub fn read(alloc: Global, text: &str) -> Result<Config, Stop<Vec<Report>>> {
         match from_str::<Document>(alloc, text) {
             Ok(document) => Ok(config_of(alloc, document)?),
             Err(stop) => {
-                let read = Err(stop);
-                Err(Stop::Fault(reports_on(alloc, text, &read)?))
+                let reports = check(alloc, text)?;
+                if !reports.is_empty() {
+                    return Err(Stop::Fault(reports));
+                }
+                let read: Result<(), Stop<DeserError<'_>>> = Err(stop);
+                Err(Stop::Fault(reports_of(alloc, &read, &[], text)?))
             }
         }
     }

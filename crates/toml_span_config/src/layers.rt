@@ -7,7 +7,7 @@ use toml_span_check::newer::Version;
 use toml_span_format::Options;
 
 /// Which arrays have several lines.
-#[derive(Clone, Copy, PartialEq, Eq)]
+#[derive(Clone, Copy)]
 pub enum ExpandArrays {
     /// Those that are too wide for one line, or end in a comma.
     Auto,
@@ -16,7 +16,7 @@ pub enum ExpandArrays {
 }
 
 /// Whether lines end with CRLF.
-#[derive(Clone, Copy, PartialEq, Eq)]
+#[derive(Clone, Copy)]
 pub enum Crlf {
     /// If the first one does.
     Auto,
@@ -25,7 +25,7 @@ pub enum Crlf {
 }
 
 /// Where a setting comes from.
-#[derive(Clone, Copy, PartialEq, Eq)]
+#[derive(Clone, Copy)]
 pub enum Origin {
     /// Nothing sets it.
     Default,
@@ -36,7 +36,7 @@ pub enum Origin {
 }
 
 /// The value of a setting, and where it comes from.
-#[derive(Clone, Copy, PartialEq, Eq)]
+#[derive(Clone, Copy)]
 pub struct Chosen<T> {
     pub value: T,
     pub origin: Origin,
@@ -44,7 +44,7 @@ pub struct Chosen<T> {
 
 /// Settings of one place, such as the tables `check` and `fmt`, an entry of `files`, or the command line. A setting
 /// that is not set there is `None`.
-#[derive(Clone, Copy, PartialEq, Eq)]
+#[derive(Clone, Copy)]
 pub struct Layer {
     /// The version of TOML.
     pub toml: Option<Chosen<Version>>,
@@ -71,7 +71,7 @@ pub struct Layer {
 }
 
 /// The settings that hold for a file.
-#[derive(Clone, Copy, PartialEq, Eq)]
+#[derive(Clone, Copy)]
 pub struct Settings {
     /// The version of TOML.
     pub toml: Chosen<Version>,

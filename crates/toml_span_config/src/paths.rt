@@ -4,9 +4,13 @@ ghost use Rattle.toml_span_config.specs.Sources as spec;
 
 use std::alloc::{AllocError, Global};
 
-/// Appends the parts of a path. The part `..` removes the last part instead, `.` and empty parts are left out.
-fn push_parts<'t>(parts: &mut Vec<&'t str>, path: &'t str) -> Result<(), AllocError> {
-    for part in path.split('/') {
+/// Returns the absolute path of the file or directory at `path`, which is relative to the directory `base` unless it is
+/// absolute. The result has no parts `.` and `..`, and no slash at its end: the root is an empty text.
+pub(crate) fn absolute(alloc: Global, base: &str, path: &str) -> Result<String, AllocError> {
+    let base = if path.starts_with('/') { "" } else { base };
+    let whole = format!(in alloc; "{base}/{path}")?;
+    let mut parts = Vec::new(alloc);
+    for part in whole.as_str().split('/') {
         match part {
             "" | "." => {}
             ".." => {
@@ -15,17 +19,6 @@ fn push_parts<'t>(parts: &mut Vec<&'t str>, path: &'t str) -> Result<(), AllocEr
             _ => parts.push(part)?,
         }
     }
-    Ok(())
-}
-
-/// Returns the absolute path of the file or directory at `path`, which is relative to the directory `base` unless it is
-/// absolute. The result has no parts `.` and `..`, and no slash at its end: the root is an empty text.
-pub(crate) fn absolute(alloc: Global, base: &str, path: &str) -> Result<String, AllocError> {
-    let mut parts = Vec::new(alloc);
-    if !path.starts_with('/') {
-        push_parts(&mut parts, base)?;
-    }
-    push_parts(&mut parts, path)?;
     let mut out = String::new(alloc);
     for part in &parts {
         out.push('/')?;
@@ -40,8 +33,8 @@ pub(crate) fn above(path: &str) -> Option<&str> {
     Some(folder)
 }
 
-/// Returns the part of `path` below the directory `folder`, or `None` if it is not below. Both are as `absolute` returns
-/// them.
+/// Returns the part of `path` below the directory `folder`, or `None` if it is not below. Both are as `absolute`
+/// returns them.
 pub(crate) fn below<'t>(folder: &str, path: &'t str) -> Option<&'t str>
     ensures { option_map (λ rest. rest.now) result ≡ spec.below folder.now path.now }
 {
@@ -51,8 +44,8 @@ pub(crate) fn below<'t>(folder: &str, path: &'t str) -> Option<&'t str>
     }
 }
 
-/// Returns the part of `path` below the directory `folder`, or the whole path if it is not below. Both are as `absolute`
-/// returns them.
+/// Returns the part of `path` below the directory `folder`, or the whole path if it is not below. Both are as
+/// `absolute` returns them.
 pub(crate) fn inside<'t>(folder: &str, path: &'t str) -> &'t str
     ensures { result.now ≡ spec.inside folder.now path.now }
 {

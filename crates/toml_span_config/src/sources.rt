@@ -71,40 +71,6 @@ pub struct Sources {
     folders: BTreeMap<String, Option<usize>>,
 }
 
-/// Returns the absolute path of the current directory, or an empty text, as for the root, if the system does not say.
-fn current_folder(alloc: Global, rt: &HostRuntime) -> Result<String, AllocError> {
-    match env::current_dir(rt) {
-        Ok(folder) => absolute(alloc, "", folder.as_str()),
-        Err(error) if error.kind() == io::ErrorKind::OutOfMemory => Err(AllocError),
-        Err(_) => Ok(String::new(alloc)),
-    }
-}
-
-/// Returns whether there is a file, or a link to one, at `path`.
-fn is_file(rt: &HostRuntime, path: &str) -> bool {
-    match fs::metadata(rt, path) {
-        Ok(found) => found.is_file(),
-        Err(_) => false,
-    }
-}
-
-/// Returns whether there is anything at `path`.
-fn is_there(rt: &HostRuntime, path: &str) -> bool {
-    fs::symlink_metadata(rt, path).is_ok()
-}
-
-/// Returns the path of the configuration file in the directory `folder`, if it has one. `folder` is as `absolute`
-/// returns it.
-fn config_in(alloc: Global, rt: &HostRuntime, folder: &str) -> Result<Option<String>, AllocError> {
-    for name in &NAMES {
-        let path = format!(in alloc; "{folder}/{name}")?;
-        if is_file(rt, path.as_str()) {
-            return Ok(Some(path));
-        }
-    }
-    Ok(None)
-}
-
 /// Returns the path of the nearest configuration file, in the directory `folder` or above. The search ends at a
 /// directory that has an entry `.git`, and at the root. `folder` is as `absolute` returns it.
 fn nearest_config(
@@ -117,10 +83,14 @@ fn nearest_config(
         let Some(folder) = next else {
             break;
         };
-        if let Some(path) = config_in(alloc, rt, folder)? {
-            return Ok(Some(path));
+        for name in &NAMES {
+            let path = format!(in alloc; "{folder}/{name}")?;
+            if matches!(fs::metadata(rt, path.as_str()), Ok(found) if found.is_file()) {
+                return Ok(Some(path));
+            }
         }
-        if is_there(rt, format!(in alloc; "{folder}/.git")?.as_str()) {
+        let end = format!(in alloc; "{folder}/.git")?;
+        if fs::symlink_metadata(rt, end.as_str()).is_ok() {
             break;
         }
         next = above(folder);
@@ -148,9 +118,17 @@ impl Sources {
         ensures arguments { IfOk result (λ sources. sources.arguments ≡ arguments) }
         ensures search { IfOk result (λ sources. spec.IsSearched search.entry sources.fixed) }
     {
+        // If the system does not say which directory is the current one, paths are relative to the root.
+        let base = match env::current_dir(&host.rt) {
+            Ok(folder) => absolute(alloc, "", folder.as_str())?,
+            Err(error) if error.kind() == io::ErrorKind::OutOfMemory => return Err(
+                AllocError.into(),
+            ),
+            Err(_) => String::new(alloc),
+        };
         let mut sources = Sources {
             style,
-            base: current_folder(alloc, &host.rt)?,
+            base,
             arguments,
             fixed: None,
             list: Vec::new(alloc),
@@ -168,7 +146,7 @@ impl Sources {
     }
 
     /// Reads the configuration file at an absolute path, and appends it to the list. Returns its position. Fails with a
-    /// message if the file can't be read or is wrong.
+    /// message, such as the reports of all errors, if the file can't be read or is wrong.
     fn read(&mut self, alloc: Global, host: &mut Host, path: &str) -> Result<usize, Stop<String>>
         ensures { self.new ≡ record self.old { list = self.new.list } }
     {
@@ -177,7 +155,15 @@ impl Sources {
         let file = path.rsplit_once('/').map_or(path, |pair| pair.1);
         let name = format!(in alloc; "{}{file}", front.as_str())?;
         let text = text_of(alloc, host, name.as_str(), path)?;
-        let config = self.config_of(alloc, name.as_str(), text.as_str())?;
+        let config = match Config::read(alloc, text.as_str()) {
+            Ok(config) => config,
+            Err(stop) => {
+                let reports = stop.fault()?;
+                let (name, text) = (name.as_str(), text.as_str());
+                let message = render_all(alloc, self.style, reports.as_slice(), name, text)?;
+                return Err(Stop::Fault(message));
+            }
+        };
         let at = self.list.len();
         self.list.push(Source {
             name,
@@ -187,19 +173,6 @@ impl Sources {
             folder: String::from_str(alloc, folder)?,
         })?;
         Ok(at)
-    }
-
-    /// Returns the configuration of the file `name`, whose content is `text`. Fails with the text of the reports of all
-    /// errors if the file is wrong.
-    fn config_of(&self, alloc: Global, name: &str, text: &str) -> Result<Config, Stop<String>> {
-        match Config::read(alloc, text) {
-            Ok(config) => Ok(config),
-            Err(stop) => {
-                let reports = stop.fault()?;
-                let message = render_all(alloc, self.style, reports.as_slice(), name, text)?;
-                Err(Stop::Fault(message))
-            }
-        }
     }
 
     /// Returns the position of the configuration file at an absolute path. Reads the file if it has not been read.
@@ -264,7 +237,7 @@ impl Sources {
     }
 
     /// Returns the configuration file at the position `at`, if there is one.
-    fn source_at(&self, at: Option<usize>) -> Option<&Source>
+    pub fn source_at(&self, at: Option<usize>) -> Option<&Source>
         ensures { option_map (λ s. spec.source s.now) result
             ≡ spec.source_at (map spec.source self.now.list.items) at }
     {
@@ -274,8 +247,8 @@ impl Sources {
         }
     }
 
-    /// Returns the settings for the file at `path`, an absolute path, by the configuration file at the position `at`, if
-    /// there is one.
+    /// Returns the settings for the file at `path`, an absolute path, by the configuration file at the position `at`,
+    /// if there is one.
     fn found(&self, alloc: Global, at: Option<usize>, path: &str) -> Result<Found, AllocError>
         ensures { IfOk result (λ found. found
             ≡ spec.found (map spec.source self.now.list.items) self.now.arguments at path.now) }
@@ -333,7 +306,8 @@ impl Sources {
 }
 
 impl Source {
-    /// Returns a path of the configuration, relative to the current directory. A URL or an absolute path stays as it is.
+    /// Returns a path of the configuration, relative to the current directory. A URL or an absolute path stays as it
+    /// is.
     pub fn shown_path(&self, alloc: Global, path: &str) -> Result<String, AllocError> {
         if path.starts_with('/') || path.contains("://") {
             return String::from_str(alloc, path);
@@ -343,8 +317,8 @@ impl Source {
     }
 }
 
-/// Returns the text of the configuration file at an absolute path. Fails with a message, which calls the file `name`, if
-/// it can't be read, is not valid UTF-8, or is too long.
+/// Returns the text of the configuration file at an absolute path. Fails with a message, which calls the file `name`,
+/// if it can't be read, is not valid UTF-8, or is too long.
 fn text_of(alloc: Global, host: &mut Host, name: &str, path: &str) -> Result<String, Stop<String>> {
     let bytes = match host.read(alloc, path)? {
         Ok(bytes) => bytes,

@@ -102,50 +102,8 @@ fn write_conversions(
     Ok(())
 }
 
-/// Writes an action for each repair of one of `reports` that touches `span`.
-fn write_repairs(
-    request: &Request<'_, '_, '_>,
-    reports: &[Report],
-    span: Span,
-    out: &mut Json,
-) -> Result<(), AllocError> {
-    for repair in &repairs(request.alloc, request.table, reports, span)? {
-        let title = repair.title.as_str();
-        let (diagnostic, edits) = (&repair.diagnostic, repair.edits.as_slice());
-        write_action(
-            request,
-            title,
-            QUICK_FIX,
-            Some(diagnostic),
-            repair.is_safe,
-            edits,
-            out,
-        );
-    }
-    Ok(())
-}
-
-/// Writes an action for each missing key of a table at `span` that the document's schema requires. `reports` are those
-/// on the document.
-fn write_insertions(
-    request: &Request<'_, '_, '_>,
-    document: &Document<'_>,
-    guide: &Guide,
-    reports: &[Report],
-    span: Span,
-    out: &mut Json,
-) -> Result<(), AllocError> {
-    let (alloc, table) = (request.alloc, request.table);
-    for made in &insertions(alloc, guide, document, span)? {
-        let found = missing_key(alloc, table, reports, made.name.as_str(), made.place)?;
-        let (title, edits) = (made.title.as_str(), made.edits.as_slice());
-        write_action(request, title, QUICK_FIX, found.as_ref(), false, edits, out);
-    }
-    Ok(())
-}
-
-/// Writes an action for each repair of one of `reports` that touches `span`, and one for each missing key of a table
-/// there. `guide` is the document's schema.
+/// Writes an action for each repair of one of `reports`, those on the document, that touches `span`, and one for each
+/// missing key of a table there that `guide`, the document's schema, requires.
 fn write_quick_fixes(
     request: &Request<'_, '_, '_>,
     document: Option<&Document<'_>>,
@@ -154,26 +112,22 @@ fn write_quick_fixes(
     span: Span,
     out: &mut Json,
 ) -> Result<(), AllocError> {
-    write_repairs(request, reports, span, out)?;
-    if let (Some(document), Some(guide)) = (document, guide) {
-        if reports.iter().any(|report| is_of_schema(report)) {
-            write_insertions(request, document, guide, reports, span, out)?;
-        }
+    let (alloc, table) = (request.alloc, request.table);
+    for repair in &repairs(alloc, table, reports, span)? {
+        let (title, found) = (repair.title.as_str(), Some(&repair.diagnostic));
+        let (is_safe, edits) = (repair.is_safe, repair.edits.as_slice());
+        write_action(request, title, QUICK_FIX, found, is_safe, edits, out);
     }
-    Ok(())
-}
-
-/// Writes an action that makes the edits of `all_repairs`, if there are any. `name` is the path of the document.
-fn write_fix_all(
-    request: &Request<'_, '_, '_>,
-    name: &str,
-    out: &mut Json,
-) -> Result<(), AllocError> {
-    let (text, version) = (request.table.text, request.settings.version);
-    let edits = all_repairs(request.alloc, text, version, name)?;
-    if !edits.is_empty() {
-        let title = "Apply all safe fixes";
-        write_action(request, title, FIX_ALL, None, false, edits.as_slice(), out);
+    let (Some(document), Some(guide)) = (document, guide) else {
+        return Ok(());
+    };
+    if !reports.iter().any(|report| is_of_schema(report)) {
+        return Ok(());
+    }
+    for made in &insertions(alloc, guide, document, span)? {
+        let found = missing_key(alloc, table, reports, made.name.as_str(), made.place)?;
+        let (title, edits) = (made.title.as_str(), made.edits.as_slice());
+        write_action(request, title, QUICK_FIX, found.as_ref(), false, edits, out);
     }
     Ok(())
 }
@@ -184,8 +138,8 @@ fn is_of_schema(report: &Report) -> bool {
 }
 
 /// Writes an action for each repair of a diagnostic of the open document that touches `span`, one for each missing key
-/// of a table there, and if the client asks for it (see `is_asked_for`), one with the edits of `all_repairs`. Leaves out
-/// kinds that the client does not want.
+/// of a table there, and if the client asks for it (see `is_asked_for`), one with the edits of `all_repairs`, if there
+/// are any. Leaves out kinds that the client does not want.
 fn write_fixes(
     request: &Request<'_, '_, '_>,
     document: Option<&Document<'_>>,
@@ -194,14 +148,18 @@ fn write_fixes(
     span: Span,
     out: &mut Json,
 ) -> Result<(), AllocError> {
-    let reports = open.reports();
+    let reports = open.found.reports.as_slice();
+    let (alloc, name, text) = (request.alloc, open.name.as_str(), open.text.as_str());
     if is_wanted(request.params, QUICK_FIX) {
-        let (name, text) = (open.name.as_str(), open.text.as_str());
-        let guide = lookup.guide_of(request.alloc, name, text)?;
+        let guide = lookup.guide_of(alloc, name, text)?;
         write_quick_fixes(request, document, guide, reports, span, out)?;
     }
     if is_asked_for(request.params, FIX_ALL) && reports.iter().any(|report| !is_of_schema(report)) {
-        write_fix_all(request, open.name.as_str(), out)?;
+        let edits = all_repairs(alloc, request.table.text, request.settings.version, name)?;
+        if !edits.is_empty() {
+            let title = "Apply all safe fixes";
+            write_action(request, title, FIX_ALL, None, false, edits.as_slice(), out);
+        }
     }
     Ok(())
 }

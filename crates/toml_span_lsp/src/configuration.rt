@@ -17,70 +17,20 @@ const SECTION: &str = "toml-span";
 /// The id of the request for the settings, and of the registration for their changes.
 const SETTINGS: &str = "settings";
 
+/// The registration for changes of the settings.
+const SETTINGS_CHANGES: &str = r#"{"id":"settings","method":"workspace/didChangeConfiguration",
+    "registerOptions":{"section":"toml-span"}}"#;
+
+/// The registration for changes of files that may be schemas, and of configuration files.
+const FILE_CHANGES: &str = r#"{"id":"files","method":"workspace/didChangeWatchedFiles",
+    "registerOptions":{"watchers":[
+        {"globPattern":"**/*.json"},{"globPattern":"**/{toml-span,.toml-span}.toml"}]}}"#;
+
 /// Returns the request for the settings.
 fn settings_request(alloc: Global) -> ServerCall {
     let mut out = Json::new(alloc);
-    out.begin_object();
-    out.array("items");
-    out.begin_object();
-    out.text("section", SECTION);
-    out.end_object();
-    out.end_array();
-    out.end_object();
-    ServerCall::request(SETTINGS, "workspace/configuration", out)
-}
-
-/// Begins a registration in a list: writes its id and its method, and begins its options.
-fn begin_registration(out: &mut Json, id: &str, method: &str) {
-    out.begin_object();
-    out.text("id", id);
-    out.text("method", method);
-    out.object("registerOptions");
-}
-
-/// Ends a registration.
-fn end_registration(out: &mut Json) {
-    out.end_object();
-    out.end_object();
-}
-
-/// Writes a pattern of files in a list of watched files.
-fn write_watcher(out: &mut Json, pattern: &str) {
-    out.begin_object();
-    out.text("globPattern", pattern);
-    out.end_object();
-}
-
-/// Returns the request that asks the client to report changes of the settings, of files that may be schemas, and of
-/// configuration files, as far as the client supports that.
-fn registration(alloc: Global, client: Client) -> ServerCall {
-    let mut out = Json::new(alloc);
-    out.begin_object();
-    out.array("registrations");
-    if client.registers_settings {
-        begin_registration(&mut out, SETTINGS, "workspace/didChangeConfiguration");
-        out.text("section", SECTION);
-        end_registration(&mut out);
-    }
-    if client.registers_files {
-        begin_registration(&mut out, "files", "workspace/didChangeWatchedFiles");
-        out.array("watchers");
-        write_watcher(&mut out, "**/*.json");
-        write_watcher(&mut out, "**/{toml-span,.toml-span}.toml");
-        out.end_array();
-        end_registration(&mut out);
-    }
-    out.end_array();
-    out.end_object();
-    ServerCall::request("registration", "client/registerCapability", out)
-}
-
-/// Returns the request that asks the client to request diagnostics again.
-fn refresh_request(alloc: Global) -> ServerCall {
-    let mut out = Json::new(alloc);
-    out.begin_object();
-    out.end_object();
-    ServerCall::request("refresh", "workspace/diagnostic/refresh", out)
+    out.json(alloc, r#"{"items":[{"section":"toml-span"}]}"#);
+    ServerCall::new(Some(SETTINGS), "workspace/configuration", out)
 }
 
 /// Returns the settings in `value`. Adds a line to `state.notices` if settings are wrong.
@@ -97,35 +47,20 @@ pub(crate) fn settings_in(
     Ok(read.all)
 }
 
-/// Stores `settings` in `state`, and forgets the schemas that have been read.
-pub(crate) fn use_settings(
+/// Stores the settings about schemas in `state`, and forgets the schemas that have been read.
+pub(crate) fn use_options(
     alloc: Global,
     state: &mut State,
-    settings: AllSettings,
+    options: Options,
 ) -> Result<(), AllocError> {
-    state.settings = settings.settings;
-    use_options(alloc, state, settings.options)
-}
-
-/// Stores the settings about schemas in `state`, and forgets the schemas that have been read.
-fn use_options(alloc: Global, state: &mut State, options: Options) -> Result<(), AllocError> {
     state.folders = Folders::at_paths(alloc, state.roots.as_slice(), &options)?;
     state.options = options;
     Ok(())
 }
 
-/// Returns `value`, or `None` if it is missing, null or an empty object.
-fn not_empty<'v, 'j>(value: Option<&'v Value<'j>>) -> Option<&'v Value<'j>> {
-    match value? {
-        Value::Null => None,
-        Value::Object(members) if members.is_empty() => None,
-        _ => value,
-    }
-}
-
-/// Uses the settings in `value`, or those of `initializationOptions` if `value` has none. Then checks the open
-/// documents, as `check_all` does. Does nothing if `value` has no settings and those of `initializationOptions` are in
-/// use.
+/// Uses the settings in `value`, or those of `initializationOptions` if `value` has none: if it is missing, null or an
+/// empty object. Then checks the open documents, as `check_all` does. Does nothing if `value` has no settings and those
+/// of `initializationOptions` are in use.
 fn change_settings<D: Disk>(
     alloc: Global,
     state: &mut State,
@@ -133,14 +68,19 @@ fn change_settings<D: Disk>(
     value: Option<&Value<'_>>,
     out: &mut Outbox,
 ) -> Result<(), AllocError> {
-    let value = not_empty(value);
+    let value = match value {
+        None | Some(Value::Null) => None,
+        Some(Value::Object(members)) if members.is_empty() => None,
+        Some(value) => Some(value),
+    };
     let settings = match value {
         Some(value) => settings_in(alloc, state, value)?,
         None if state.has_later_settings => state.initial.clone()?,
         None => return Ok(()),
     };
     state.has_later_settings = value.is_some();
-    use_settings(alloc, state, settings)?;
+    state.settings = settings.settings;
+    use_options(alloc, state, settings.options)?;
     check_all(alloc, state, disk, out)
 }
 
@@ -169,7 +109,8 @@ pub(crate) fn folders_changed<D: Disk>(
 }
 
 /// Reads the schemas of the open documents, and appends for each document a notification with its diagnostics, as
-/// `publish` does. If the client requests diagnostics itself and supports `refresh_request`, appends that request.
+/// `publish` does. If the client requests diagnostics itself, appends the request to request them again, if the client
+/// supports it.
 pub(crate) fn check_all<D: Disk>(
     alloc: Global,
     state: &mut State,
@@ -187,19 +128,32 @@ pub(crate) fn check_all<D: Disk>(
         publish(alloc, state, uri.as_str(), out)?;
     }
     if state.client.asks_diagnostics && state.client.refreshes_diagnostics {
-        out.add(refresh_request(alloc));
+        let mut params = Json::new(alloc);
+        params.json(alloc, "{}");
+        out.add(ServerCall::new(Some("refresh"), "workspace/diagnostic/refresh", params));
     }
     Ok(())
 }
 
-/// Appends the request to report changes of the settings and files, and the request for the settings. Leaves out a
-/// request that the client does not support.
-pub(crate) fn initialized(alloc: Global, state: &State, out: &mut Outbox) {
-    let client = state.client;
+/// Appends the request to report changes of the settings, of files that may be schemas, and of configuration files, and
+/// the request for the settings. Leaves out what the client does not support.
+pub(crate) fn initialized(alloc: Global, client: Client, out: &mut Outbox) {
     if client.registers_settings || client.registers_files {
-        out.add(registration(alloc, client));
+        let mut params = Json::new(alloc);
+        params.begin_object();
+        params.array("registrations");
+        if client.registers_settings {
+            params.json(alloc, SETTINGS_CHANGES);
+        }
+        if client.registers_files {
+            params.json(alloc, FILE_CHANGES);
+        }
+        params.end_array();
+        params.end_object();
+        let (id, method) = (Some("registration"), "client/registerCapability");
+        out.add(ServerCall::new(id, method, params));
     }
-    if state.client.has_settings {
+    if client.has_settings {
         out.add(settings_request(alloc));
     }
 }

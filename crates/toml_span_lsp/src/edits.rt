@@ -54,11 +54,11 @@ pub(crate) fn write_renamable(
     at: usize,
     out: &mut Json,
 ) -> Result<(), AllocError> {
-    let Some(document) = document else {
-        out.null();
-        return Ok(());
+    let key = match document {
+        Some(document) => renamable_at(request.alloc, document, at)?,
+        None => None,
     };
-    let Some(key) = renamable_at(request.alloc, document, at)? else {
+    let Some(key) = key else {
         out.null();
         return Ok(());
     };

@@ -20,13 +20,13 @@ pub(crate) struct Folder {
 }
 
 impl Folder {
-    /// Returns a folder of which no schemas have been read. Paths in `options` are relative to the folder.
-    fn new(alloc: Global, path: &str, options: &Options) -> Result<Folder, AllocError> {
-        Ok(Folder {
-            path: String::from_str(alloc, path)?,
-            lookup: Lookup::new(alloc, rooted_options(alloc, path, options)?),
+    /// Returns a folder of which no schemas have been read.
+    fn new(alloc: Global, path: String, options: Options) -> Folder {
+        Folder {
+            path,
+            lookup: Lookup::new(alloc, options),
             faults: BTreeMap::new(alloc),
-        })
+        }
     }
 }
 
@@ -43,11 +43,7 @@ impl Folders {
     /// Returns the folders for an editor that has none, with `options` for schemas.
     pub(crate) fn none(alloc: Global, options: Options) -> Folders {
         Folders {
-            first: Folder {
-                path: String::new(alloc),
-                lookup: Lookup::new(alloc, options),
-                faults: BTreeMap::new(alloc),
-            },
+            first: Folder::new(alloc, String::new(alloc), options),
             others: Vec::new(alloc),
             configured: BTreeMap::new(alloc),
         }
@@ -62,14 +58,13 @@ impl Folders {
     ) -> Result<Folders, AllocError> {
         let mut others = Vec::new(alloc);
         for path in paths.get(1..).unwrap_or(&[]) {
-            others.push(Folder::new(alloc, path.as_str(), options)?)?;
+            let options = rooted_options(alloc, path.as_str(), options)?;
+            others.push(Folder::new(alloc, path.clone()?, options))?;
         }
-        let first = match paths.first() {
-            Some(path) => path.as_str(),
-            None => "",
-        };
+        let first = paths.first().map_or("", |path| path.as_str());
+        let options = rooted_options(alloc, first, options)?;
         Ok(Folders {
-            first: Folder::new(alloc, first, options)?,
+            first: Folder::new(alloc, String::from_str(alloc, first)?, options),
             others,
             configured: BTreeMap::new(alloc),
         })
@@ -113,11 +108,7 @@ impl Folders {
         if self.configured.get(key.as_str()).is_none() {
             let mut options = rooted_options(alloc, root, options)?;
             project.add_options(alloc, schema, &mut options)?;
-            let folder = Folder {
-                path,
-                lookup: Lookup::new(alloc, options),
-                faults: BTreeMap::new(alloc),
-            };
+            let folder = Folder::new(alloc, path, options);
             self.configured.insert(key.clone()?, folder)?;
         }
         Ok(key)
@@ -129,11 +120,8 @@ impl Folders {
         if let Some(folder) = self.configured.get(key) {
             return folder;
         }
-        let Some(at) = self.position_of(name) else {
-            return &self.first;
-        };
-        match self.others.get(at) {
-            Some(folder) => folder,
+        match self.position_of(name) {
+            Some(at) => self.others.get(at).unwrap_or(&self.first),
             None => &self.first,
         }
     }

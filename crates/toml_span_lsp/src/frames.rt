@@ -1,5 +1,6 @@
 //! Frames: headers, an empty line, and the content (LSP 3.17, Base Protocol).
-ghost use Rattle.std.specs.Prelude.{◌≡◌, ◌≢◌, ◌+◌, ◌<◌, ◌^◌, ◌++◌, ◌≤◌, IfSome, List, OnOk, Some, codes, length, take, ℕ};
+ghost use Rattle.std.specs.Prelude.{◌≡◌, ◌≢◌, ◌+◌, ◌<◌, ◌^◌, ◌++◌, ◌≤◌, IfSome, List, OnOk, Some, codes, length, take};
+ghost use Rattle.std.specs.Prelude.{ℕ};
 ghost use Rattle.std.specs.List.{All};
 ghost use Rattle.toml_span_lsp.specs.Frames as spec;
 ghost use Rattle.toml_span_lsp.specs.Frames.{IsShort};
@@ -15,7 +16,7 @@ pub const LIMIT: usize = 67_108_864;
 const HEADERS: usize = 8192;
 
 /// What is wrong with a frame.
-#[derive(Clone, Copy, Debug, PartialEq, Eq)]
+#[derive(Clone, Copy)]
 pub enum FrameFault {
     /// The headers are longer than 8 KiB, or are not valid UTF-8.
     Headers,
@@ -24,7 +25,7 @@ pub enum FrameFault {
 }
 
 /// The result of reading a frame at the start of the bytes.
-#[derive(Clone, Copy, Debug, PartialEq, Eq)]
+#[derive(Clone, Copy)]
 pub enum Framed {
     /// The whole frame is there. Its content is from `start` to `end`, the end exclusive.
     Whole { start: usize, end: usize },

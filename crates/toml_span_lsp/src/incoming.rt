@@ -12,7 +12,7 @@ use json::Value;
 use toml_span_editor::positions::{Position, Range};
 
 /// The id of a request.
-#[derive(Clone, Copy, Debug)]
+#[derive(Clone, Copy)]
 pub(crate) enum Id<'v> {
     Null,
     Number(i64),

@@ -2,7 +2,6 @@
 use crate::incoming::member;
 use crate::methods::Request;
 use crate::outgoing::{Json, write_location};
-use json::Value;
 use std::alloc::{AllocError, Global};
 use toml_span_editor::document::Document;
 use toml_span_editor::folding::folds;
@@ -170,13 +169,6 @@ pub(crate) fn write_highlights(
     Ok(())
 }
 
-/// Returns whether the answer to a request for references must include the places where the key is defined. The default
-/// is true.
-fn with_definitions(params: &Value<'_>) -> bool {
-    let asked = member(params, &["context", "includeDeclaration"]);
-    asked.and_then(|asked| asked.as_bool()).unwrap_or(true)
-}
-
 /// Writes the locations where the key at an offset is written. Leaves out its definitions if the request says so.
 pub(crate) fn write_references(
     request: &Request<'_, '_, '_>,
@@ -184,7 +176,8 @@ pub(crate) fn write_references(
     at: usize,
     out: &mut Json,
 ) -> Result<(), AllocError> {
-    let all = with_definitions(request.params);
+    let asked = member(request.params, &["context", "includeDeclaration"]);
+    let all = asked.and_then(|asked| asked.as_bool()).unwrap_or(true);
     out.begin_array();
     for mention in &mentions(request.alloc, document, at)? {
         if all || !mention.is_definition {

@@ -10,7 +10,7 @@ use toml_span_editor::syntax::Syntax;
 use toml_span_editor::table::PositionTable;
 
 /// A request about a document.
-#[derive(Clone, Copy, Debug, PartialEq, Eq)]
+#[derive(Clone, Copy, PartialEq, Eq)]
 pub(crate) enum Method {
     Symbols,
     Folds,

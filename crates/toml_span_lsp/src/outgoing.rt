@@ -6,8 +6,7 @@ ghost use Rattle.toml_span_lsp.specs.Messages.{IsCall, IsMessage, IsResponse, Se
 
 use crate::incoming::Id;
 use crate::methods::Request;
-use crate::refusal::Refusal;
-use json::Writer;
+use json::{Scratch, Value, Writer};
 use std::alloc::{AllocError, Global};
 use toml_span_editor::edits::Edit;
 use toml_span_editor::positions::{Position, Range};
@@ -88,6 +87,16 @@ impl Json {
         self.keep(written);
     }
 
+    /// Writes the value of a JSON text.
+    pub(crate) fn json(&mut self, alloc: Global, text: &str) {
+        let mut scratch = Scratch::new(alloc);
+        let written = match Value::parse(alloc, text, &mut scratch) {
+            Ok(value) => self.writer.value(&value),
+            Err(_) => Err(AllocError),
+        };
+        self.keep(written);
+    }
+
     /// Writes a member whose value is a string.
     pub(crate) fn text(&mut self, name: &str, value: &str) {
         self.key(name);
@@ -146,20 +155,8 @@ pub(crate) struct ServerCall {
 }
 
 impl ServerCall {
-    pub(crate) fn notification(method: &'static str, params: Json) -> ServerCall {
-        ServerCall {
-            id: None,
-            method,
-            params,
-        }
-    }
-
-    pub(crate) fn request(id: &'static str, method: &'static str, params: Json) -> ServerCall {
-        ServerCall {
-            id: Some(id),
-            method,
-            params,
-        }
+    pub(crate) fn new(id: Option<&'static str>, method: &'static str, params: Json) -> ServerCall {
+        ServerCall { id, method, params }
     }
 
     /// Returns the message. Fails if an allocation fails, or has failed for the parameters.
@@ -310,7 +307,8 @@ pub(crate) fn response(alloc: Global, id: Id<'_>, value: Json) -> Result<Vec<u8>
 pub(crate) fn error_response(
     alloc: Global,
     id: Id<'_>,
-    refusal: &Refusal,
+    code: i64,
+    message: &str,
 ) -> Result<Vec<u8>, AllocError>
     ensures { IfOk result (λ message. IsResponse (spec.id_token id.entry) message.items) }
 {
@@ -318,30 +316,21 @@ pub(crate) fn error_response(
     let mut value = Json::new(alloc);
     value.begin_object();
     value.key("code");
-    value.integer(refusal.code);
-    value.text("message", refusal.message.as_str());
+    value.integer(code);
+    value.text("message", message);
     value.end_object();
     end(head, value)
 }
 
-/// Returns the notification `method` with the warning `message`.
-fn warning(alloc: Global, method: &'static str, message: &str) -> ServerCall {
+/// Returns the notification `method` with the warning `message`: `window/showMessage`, which shows it to the user, or
+/// `window/logMessage`, which adds it to the client's log.
+pub(crate) fn warning(alloc: Global, method: &'static str, message: &str) -> ServerCall {
     let mut params = Json::new(alloc);
     params.begin_object();
     params.number("type", 2);
     params.text("message", message);
     params.end_object();
-    ServerCall::notification(method, params)
-}
-
-/// Returns the notification that shows the warning `message` to the user.
-pub(crate) fn show_message(alloc: Global, message: &str) -> ServerCall {
-    warning(alloc, "window/showMessage", message)
-}
-
-/// Returns the notification that adds the warning `message` to the client's log.
-pub(crate) fn log_message(alloc: Global, message: &str) -> ServerCall {
-    warning(alloc, "window/logMessage", message)
+    ServerCall::new(None, method, params)
 }
 
 /// Writes a location: the document `uri` and a range in it.
@@ -364,30 +353,25 @@ pub(crate) fn write_edits(out: &mut Json, table: &PositionTable<'_>, edits: &[Ed
     out.end_array();
 }
 
-/// Writes edits of the version of a document that a request is about.
-fn write_versioned_edit(request: &Request<'_, '_, '_>, edits: &[Edit], out: &mut Json) {
-    out.array("documentChanges");
-    out.begin_object();
-    out.object("textDocument");
-    out.text("uri", request.uri);
-    out.key("version");
-    match request.version {
-        Some(version) => out.integer(version),
-        None => out.null(),
-    }
-    out.end_object();
-    out.key("edits");
-    write_edits(out, request.table, edits);
-    out.end_object();
-    out.end_array();
-}
-
 /// Writes edits of the document that a request is about as a workspace edit. The edit names the version of the document
 /// if the client supports that.
 pub(crate) fn write_workspace_edit(request: &Request<'_, '_, '_>, edits: &[Edit], out: &mut Json) {
     out.begin_object();
     if request.client.has_versioned_edits {
-        write_versioned_edit(request, edits, out);
+        out.array("documentChanges");
+        out.begin_object();
+        out.object("textDocument");
+        out.text("uri", request.uri);
+        out.key("version");
+        match request.version {
+            Some(version) => out.integer(version),
+            None => out.null(),
+        }
+        out.end_object();
+        out.key("edits");
+        write_edits(out, request.table, edits);
+        out.end_object();
+        out.end_array();
     } else {
         out.object("changes");
         out.key(request.uri);
@@ -397,18 +381,8 @@ pub(crate) fn write_workspace_edit(request: &Request<'_, '_, '_>, edits: &[Edit]
     out.end_object();
 }
 
-/// Returns a Markdown text as plain text: without backticks and the marks of bold text.
-fn plain_text(alloc: Global, markdown: &str) -> Result<String, AllocError> {
-    let mut out = String::new(alloc);
-    for part in markdown.split("**") {
-        for piece in part.split('`') {
-            out.push_str(piece)?;
-        }
-    }
-    Ok(out)
-}
-
-/// Writes a text in Markdown as it is or, if `is_markdown` is not set, as plain text.
+/// Writes a text in Markdown as it is or, if `is_markdown` is not set, as plain text: without backticks and the marks
+/// of bold text.
 pub(crate) fn write_markup(
     alloc: Global,
     markdown: &str,
@@ -420,7 +394,12 @@ pub(crate) fn write_markup(
         out.text("kind", "markdown");
         out.text("value", markdown);
     } else {
-        let text = plain_text(alloc, markdown)?;
+        let mut text = String::new(alloc);
+        for part in markdown.split("**") {
+            for piece in part.split('`') {
+                text.push_str(piece)?;
+            }
+        }
         out.text("kind", "plaintext");
         out.text("value", text.as_str());
     }

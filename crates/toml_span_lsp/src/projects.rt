@@ -99,25 +99,21 @@ fn read_config<D: Disk>(
 }
 
 impl Project {
-    /// Returns the path of the file `name` relative to the directory of the configuration file.
-    fn inside<'t>(&self, name: &'t str) -> &'t str {
-        name.strip_prefix(folder_of(self.path.as_str()))
-            .unwrap_or(name)
+    /// Returns the settings for the file `name`, and whether the configuration excludes it.
+    pub(crate) fn settings_for(
+        &self,
+        alloc: Global,
+        name: &str,
+    ) -> Result<(Settings, bool), AllocError> {
+        let inside = name
+            .strip_prefix(folder_of(self.path.as_str()))
+            .unwrap_or(name);
+        let settings = self.config.settings_for(alloc, Layer::empty(), inside)?;
+        Ok((settings, self.config.excludes(alloc, inside)?))
     }
 
-    /// Returns the settings for the file `name`.
-    pub(crate) fn settings_for(&self, alloc: Global, name: &str) -> Result<Settings, AllocError> {
-        self.config
-            .settings_for(alloc, Layer::empty(), self.inside(name))
-    }
-
-    /// Returns whether the configuration excludes the file `name`.
-    pub(crate) fn excludes(&self, alloc: Global, name: &str) -> Result<bool, AllocError> {
-        self.config.excludes(alloc, self.inside(name))
-    }
-
-    /// Returns the path or URL of the schema for a file with these settings, as it is written, or an empty text. Returns
-    /// an empty text if another schema is named already.
+    /// Returns the path or URL of the schema for a file with these settings, as it is written, or an empty text.
+    /// Returns an empty text if another schema is named already.
     pub(crate) fn schema_of(&self, settings: &Settings, is_named: bool) -> &str {
         if is_named {
             return "";

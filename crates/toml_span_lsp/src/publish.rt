@@ -43,13 +43,6 @@ fn write_related(out: &mut Json, uri: &str, related: &[Related]) {
     out.end_array();
 }
 
-/// Writes the tag for deprecated code (LSP 3.17, DiagnosticTag).
-fn write_deprecated(out: &mut Json) {
-    out.array("tags");
-    out.count(2);
-    out.end_array();
-}
-
 /// Returns whether a schema caused the diagnostic with this range and code, and the range has several lines.
 fn is_about_lines(range: Range, code: &str) -> bool
     ensures { result ≡ spec.is_about_lines code.now range }
@@ -86,7 +79,10 @@ pub(crate) fn write_diagnostic(out: &mut Json, client: Client, uri: &str, diagno
     out.text("source", "toml-span");
     out.text("message", diagnostic.message.as_str());
     if diagnostic.code.as_str() == DEPRECATED {
-        write_deprecated(out);
+        // the tag for deprecated code (LSP 3.17, DiagnosticTag)
+        out.array("tags");
+        out.count(2);
+        out.end_array();
     }
     if client.has_related && !diagnostic.related.is_empty() {
         write_related(out, uri, diagnostic.related.as_slice());
@@ -155,17 +151,6 @@ fn plain_diagnostic(
         message: String::from_str(alloc, message)?,
         related: Vec::new(alloc),
     })
-}
-
-/// Returns a list of the diagnostic that a document is too long to be read.
-fn too_long(alloc: Global) -> Result<Vec<Diagnostic>, AllocError> {
-    let range = Range {
-        start: FIRST,
-        end: FIRST,
-    };
-    let message = "the file is larger than 16 MiB";
-    let made = plain_diagnostic(alloc, range, Severity::Error, "too-long", message)?;
-    Ok(vec![in alloc; made]?)
 }
 
 /// Appends a diagnostic at the schema that a document names, if the schema can't be used.
@@ -258,8 +243,8 @@ fn shown(
 }
 
 /// Checks an open document against the schemas in `lookup`. If it can't be checked against its schema, adds error lines
-/// to `notices`, as `show_complaint` does. Finds nothing if the configuration file of the document excludes it. Reads no
-/// files.
+/// to `notices`, as `show_complaint` does. Finds nothing if the configuration file of the document excludes it. Reads
+/// no files.
 fn checked(
     alloc: Global,
     encoding: Encoding,
@@ -271,8 +256,14 @@ fn checked(
         → IfOk result (AreShown lookup.old document.old encoding) }
 {
     if is_too_long(document) {
+        let range = Range {
+            start: FIRST,
+            end: FIRST,
+        };
+        let message = "the file is larger than 16 MiB";
+        let made = plain_diagnostic(alloc, range, Severity::Error, "too-long", message)?;
         return Ok(Findings {
-            diagnostics: too_long(alloc)?,
+            diagnostics: vec![in alloc; made]?,
             reports: Vec::new(alloc),
         });
     }
@@ -293,16 +284,15 @@ pub(crate) fn check_once(alloc: Global, state: &mut State, uri: &str) -> Result<
     let Some(open) = state.documents.get_mut(uri) else {
         return Ok(());
     };
-    if open.found.is_some() && open.schemas_read == state.schemas_read {
+    if open.checked_with == Some(state.schemas_read) {
         return Ok(());
     }
     let folder = state
         .folders
         .folder_of_mut(open.name.as_str(), open.schemas.as_str());
     let (encoding, lookup) = (state.encoding, &mut folder.lookup);
-    let found = checked(alloc, encoding, open, lookup, &mut state.notices)?;
-    open.found = Some(found);
-    open.schemas_read = state.schemas_read;
+    open.found = checked(alloc, encoding, open, lookup, &mut state.notices)?;
+    open.checked_with = Some(state.schemas_read);
     Ok(())
 }
 
@@ -320,7 +310,13 @@ pub(crate) fn write_report(
     };
     out.begin_object();
     out.text("kind", "full");
-    write_list(out, "items", state.client, uri, open.diagnostics());
+    write_list(
+        out,
+        "items",
+        state.client,
+        uri,
+        open.found.diagnostics.as_slice(),
+    );
     out.end_object();
     Ok(true)
 }
@@ -342,11 +338,11 @@ pub(crate) fn published(
     }
     write_list(&mut out, "diagnostics", client, uri, diagnostics);
     out.end_object();
-    ServerCall::notification("textDocument/publishDiagnostics", out)
+    ServerCall::new(None, "textDocument/publishDiagnostics", out)
 }
 
-/// Appends the notification with the diagnostics of the open document `uri`, as `check_once` finds them. Does nothing if
-/// the document is not open, or if the client requests diagnostics itself.
+/// Appends the notification with the diagnostics of the open document `uri`, as `check_once` finds them. Does nothing
+/// if the document is not open, or if the client requests diagnostics itself.
 pub(crate) fn publish(
     alloc: Global,
     state: &mut State,
@@ -358,8 +354,8 @@ pub(crate) fn publish(
     }
     check_once(alloc, state, uri)?;
     if let Some(open) = state.documents.get(uri) {
-        let client = state.client;
-        out.add(published(alloc, client, uri, open.version, open.diagnostics()));
+        let found = open.found.diagnostics.as_slice();
+        out.add(published(alloc, state.client, uri, open.version, found));
     }
     Ok(())
 }

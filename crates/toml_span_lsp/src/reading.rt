@@ -45,16 +45,6 @@ pub(crate) struct Reading<'t> {
     pub partial: Option<Document<'t>>,
 }
 
-impl<'t> Reading<'t> {
-    /// Returns the document or, if the text has errors, what can be read of it.
-    pub(crate) fn known(&self) -> Option<&Document<'t>> {
-        match &self.document {
-            Some(document) => Some(document),
-            None => self.partial.as_ref(),
-        }
-    }
-}
-
 /// The messages that came after the one that is answered, and the document that has been read.
 #[derive(Clone, Copy)]
 pub(crate) struct Around<'w, 'r, 't> {

@@ -1,5 +1,5 @@
 //! The errors with which the server refuses requests.
-use std::alloc::{AllocError, Global};
+use std::alloc::Global;
 use toml_span_lex::stop::Stop;
 
 /// The content of a frame is not JSON.
@@ -24,24 +24,16 @@ pub(crate) const REQUEST_CANCELLED: i64 = -32800;
 pub(crate) const REQUEST_FAILED: i64 = -32803;
 
 /// Why a request is answered with an error.
-#[derive(Debug, Drop)]
+#[derive(Drop)]
 pub(crate) struct Refusal {
     pub code: i64,
     pub message: String,
 }
 
-/// Returns a refusal with a copy of `message`.
-pub(crate) fn refusal_with(alloc: Global, code: i64, message: &str) -> Result<Refusal, AllocError> {
-    Ok(Refusal {
-        code,
-        message: String::from_str(alloc, message)?,
-    })
-}
-
 /// Returns `Stop::Fault` with a refusal that has a copy of `message`, or `Stop::Memory` if an allocation fails.
 pub(crate) fn refused(alloc: Global, code: i64, message: &str) -> Stop<Refusal> {
-    match refusal_with(alloc, code, message) {
-        Ok(refusal) => Stop::Fault(refusal),
+    match String::from_str(alloc, message) {
+        Ok(message) => Stop::Fault(Refusal { code, message }),
         Err(error) => Stop::Memory(error),
     }
 }

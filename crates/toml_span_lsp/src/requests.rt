@@ -14,20 +14,17 @@ use crate::lists::{
 use crate::methods::{Method, Request};
 use crate::outgoing::Json;
 use crate::publish::write_report;
-use crate::reading::{LARGE, Reading, TextName, is_too_long, kept_of, reading_of, text_of};
+use crate::reading::{LARGE, Reading, TextName, is_too_long, kept_of, reading_of};
 use crate::refusal::{INVALID_PARAMS, REQUEST_FAILED, Refusal, refused};
-use crate::settings::Settings;
 use crate::state::State;
 use crate::tokens::{write_tokens, write_tokens_in};
 use json::Value;
 use std::alloc::Global;
 use toml_span_editor::document::{Document, read};
 use toml_span_editor::positions::{Position, offset_at};
+use toml_span_lex::span::Span;
 use toml_span_lex::stop::Stop;
 use toml_span_schema::Guide;
-
-/// Why a request without a valid range is refused.
-const NO_RANGE: &str = "`range` must have a `start` and an `end`";
 
 /// Returns the position in the parameters of a request, or `None` if they have no valid position.
 fn asked_position(params: &Value<'_>) -> Option<Position>
@@ -79,14 +76,49 @@ fn write_selections(
     Ok(())
 }
 
-/// Writes the answer to a request about a position in a document that can be read. Fails with a `Refusal` if the
-/// request is refused.
-fn write_at(
+/// Returns the range in a request. Fails with `INVALID_PARAMS` if the request has no valid range.
+fn asked_span(request: &Request<'_, '_, '_>) -> Result<Span, Stop<Refusal>> {
+    match span_of(request) {
+        Some(span) => Ok(span),
+        None => Err(refused(
+            request.alloc,
+            INVALID_PARAMS,
+            "`range` must have a `start` and an `end`",
+        )),
+    }
+}
+
+/// Writes the answer to a request about a document or, for some requests if it has errors, about what can be read of
+/// it. Fails with a `Refusal` if the request is refused.
+fn write_answer(
     request: &Request<'_, '_, '_>,
-    document: &Document<'_>,
+    reading: &Reading<'_>,
     guide: Option<&Guide>,
     out: &mut Json,
 ) -> Result<(), Stop<Refusal>> {
+    let whole = reading.document.as_ref();
+    match request.method {
+        Method::Format | Method::FormatRange => return Ok(write_formatting(request, out)?),
+        Method::Folds => return Ok(write_folds(request, out)?),
+        Method::TokensInRange => return Ok(write_tokens_in(request, asked_span(request)?, out)?),
+        Method::Rename => return write_rename(request, whole, offset_of(request)?, out),
+        Method::PrepareRename => return Ok(write_renamable(
+            request,
+            whole,
+            offset_of(request)?,
+            out,
+        )?),
+        _ => {}
+    }
+    let Some(document) = whole.or(reading.partial.as_ref()) else {
+        out.null();
+        return Ok(());
+    };
+    match request.method {
+        Method::Symbols => return Ok(write_symbols(request, document, out)?),
+        Method::Selections => return write_selections(request, document, out),
+        _ => {}
+    }
     let at = offset_of(request)?;
     match request.method {
         Method::Highlights => write_highlights(request, document, at, out)?,
@@ -96,107 +128,6 @@ fn write_at(
         _ => write_completion(request, document, guide, at, out)?,
     }
     Ok(())
-}
-
-/// Writes the answer to a request about a document that can be read. Fails with a `Refusal` if the request is refused.
-fn write_of(
-    request: &Request<'_, '_, '_>,
-    document: &Document<'_>,
-    guide: Option<&Guide>,
-    out: &mut Json,
-) -> Result<(), Stop<Refusal>> {
-    match request.method {
-        Method::Symbols => write_symbols(request, document, out)?,
-        Method::Selections => return write_selections(request, document, out),
-        _ => return write_at(request, document, guide, out),
-    }
-    Ok(())
-}
-
-/// Writes the answer to a request about a document or, if it has errors, about what can be read of it. Fails with a
-/// `Refusal` if the request is refused.
-fn write_readable(
-    request: &Request<'_, '_, '_>,
-    reading: &Reading<'_>,
-    guide: Option<&Guide>,
-    out: &mut Json,
-) -> Result<(), Stop<Refusal>> {
-    match reading.known() {
-        Some(document) => write_of(request, document, guide, out),
-        None => {
-            out.null();
-            Ok(())
-        }
-    }
-}
-
-/// Writes the actions for the range in a request. `document` is `None` if the document has errors. Reads no files.
-/// Fails with `INVALID_PARAMS` if the request has no valid range.
-fn write_actions_of(
-    request: &Request<'_, '_, '_>,
-    document: Option<&Document<'_>>,
-    state: &mut State,
-    out: &mut Json,
-) -> Result<(), Stop<Refusal>> {
-    match span_of(request) {
-        Some(span) => Ok(write_actions(request, document, state, span, out)?),
-        None => Err(refused(request.alloc, INVALID_PARAMS, NO_RANGE)),
-    }
-}
-
-/// Writes the semantic tokens in the range of a request. Fails with `INVALID_PARAMS` if the request has no valid range.
-fn write_tokens_in_range(
-    request: &Request<'_, '_, '_>,
-    out: &mut Json,
-) -> Result<(), Stop<Refusal>> {
-    match span_of(request) {
-        Some(span) => Ok(write_tokens_in(request, span, out)?),
-        None => Err(refused(request.alloc, INVALID_PARAMS, NO_RANGE)),
-    }
-}
-
-/// Writes the answer to a request about a document. Fails with a `Refusal` if the request is refused.
-fn write_answer(
-    request: &Request<'_, '_, '_>,
-    reading: &Reading<'_>,
-    guide: Option<&Guide>,
-    out: &mut Json,
-) -> Result<(), Stop<Refusal>> {
-    match request.method {
-        Method::Format | Method::FormatRange => Ok(write_formatting(request, out)?),
-        Method::Folds => Ok(write_folds(request, out)?),
-        Method::TokensInRange => write_tokens_in_range(request, out),
-        Method::Rename => {
-            let at = offset_of(request)?;
-            write_rename(request, reading.document.as_ref(), at, out)
-        }
-        Method::PrepareRename => {
-            let at = offset_of(request)?;
-            Ok(write_renamable(request, reading.document.as_ref(), at, out)?)
-        }
-        _ => write_readable(request, reading, guide, out),
-    }
-}
-
-/// Returns whether the answer to a request has entries for all of a document.
-fn is_for_all(method: Method) -> bool {
-    matches!(
-        method,
-        Method::Symbols | Method::Tokens | Method::TokenChanges
-    )
-}
-
-/// Returns the version of the open document `uri`, or `None` if it is not open or has none.
-fn version_of(state: &State, uri: &str) -> Option<i64> {
-    state.documents.get(uri)?.version
-}
-
-/// Returns the settings for the open document `uri`, or those of the client if it is not open.
-fn settings_of(state: &State, uri: &str) -> Settings {
-    match state.documents.get(uri) {
-        Some(open) => open.settings,
-        None => state.settings,
-    }
 }
 
 /// Writes the answer to a request about the open document `uri` that depends on its name or its schema. Reads no files.
@@ -231,6 +162,10 @@ fn write_known(
     reading: &Reading<'_>,
     out: &mut Json,
 ) -> Result<(), Stop<Refusal>> {
+    let (settings, version) = match state.documents.get(uri) {
+        Some(open) => (open.settings, open.version),
+        None => (state.settings, None),
+    };
     let request = Request {
         alloc,
         method,
@@ -238,40 +173,27 @@ fn write_known(
         table: &reading.table,
         syntax: reading.syntax.as_ref(),
         params,
-        settings: settings_of(state, uri),
+        settings,
         client: state.client,
-        version: version_of(state, uri),
+        version,
     };
-    if is_for_all(method) && reading.table.text.len() > LARGE {
+    // The answers to these requests have entries for all of a document.
+    let is_for_all = matches!(
+        method,
+        Method::Symbols | Method::Tokens | Method::TokenChanges
+    );
+    if is_for_all && reading.table.text.len() > LARGE {
         out.null();
         return Ok(());
     }
     match method {
         Method::Tokens | Method::TokenChanges => Ok(write_tokens(&request, state, out)?),
-        Method::Actions => write_actions_of(&request, reading.document.as_ref(), state, out),
+        Method::Actions => {
+            let span = asked_span(&request)?;
+            Ok(write_actions(&request, reading.document.as_ref(), state, span, out)?)
+        }
         _ => write_named(&request, state, reading, out),
     }
-}
-
-/// Writes the answer to a request about an open document, whose text has the number `revision`. Reads the document.
-/// Fails with a `Refusal` if the request is refused.
-fn write_reading(
-    alloc: Global,
-    state: &mut State,
-    uri: &str,
-    revision: u64,
-    method: Method,
-    params: &Value<'_>,
-    out: &mut Json,
-) -> Result<(), Stop<Refusal>> {
-    let name = TextName::new(alloc, uri, revision)?;
-    let text = text_of(state, &name)?.unwrap_or(String::new(alloc));
-    let document = read(alloc, text.as_str())?;
-    let kept = kept_of(alloc, document.as_ref(), text.as_str())?;
-    let encoding = state.encoding;
-    let (whole, part) = (text.as_str(), kept.as_str());
-    let reading = reading_of(alloc, encoding, name, whole, document, part)?;
-    write_known(alloc, state, uri, method, params, &reading, out)
 }
 
 /// Writes the answer to a request about an open document. If `known` is a reading of its text, reads nothing again.
@@ -298,11 +220,16 @@ pub(crate) fn write_result(
         out.null();
         return Ok(());
     }
-    let revision = open.revision;
     if let Some(reading) = known {
-        if reading.name.revision == revision {
+        if reading.name.revision == open.revision {
             return write_known(alloc, state, uri, method, params, reading, out);
         }
     }
-    write_reading(alloc, state, uri, revision, method, params, out)
+    let name = TextName::new(alloc, uri, open.revision)?;
+    let text = open.text.clone()?;
+    let document = read(alloc, text.as_str())?;
+    let kept = kept_of(alloc, document.as_ref(), text.as_str())?;
+    let (encoding, whole, part) = (state.encoding, text.as_str(), kept.as_str());
+    let reading = reading_of(alloc, encoding, name, whole, document, part)?;
+    write_known(alloc, state, uri, method, params, &reading, out)
 }

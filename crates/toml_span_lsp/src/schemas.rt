@@ -86,10 +86,8 @@ fn configure<D: Disk>(
     else {
         return Ok(());
     };
-    let found = project.settings_for(alloc, name)?;
-    open.settings = state
-        .settings
-        .in_project(found, project.excludes(alloc, name)?);
+    let (found, is_excluded) = project.settings_for(alloc, name)?;
+    open.settings = state.settings.in_project(found, is_excluded);
     if project.is_wrong {
         open.settings.can_format = false;
     }

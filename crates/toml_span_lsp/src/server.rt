@@ -1,5 +1,6 @@
 //! The loop of the server, which reads frames and writes the answers.
-ghost use Rattle.std.specs.Prelude.{◌≡◌, ◌-◌, ◌≤◌, Bool, IfNone, IfOk, List, None, Option, Some, [], drop, false, length, take, ℕ};
+ghost use Rattle.std.specs.Prelude.{◌≡◌, ◌-◌, ◌≤◌, Bool, IfNone, IfOk, List, None, Option, Some, [], drop, false};
+ghost use Rattle.std.specs.Prelude.{length, take, ℕ};
 ghost use Rattle.std.specs.List.{flat_map};
 ghost use Rattle.toml_span_lsp.specs.Frames as spec;
 ghost use Rattle.toml_span_lsp.specs.Frames.{WritesFront};
@@ -12,10 +13,11 @@ ghost use Rattle.toml_span_lsp.specs.declared.state.Phase.TheVariants.{New};
 
 use crate::frames::{FrameFault, Framed, frame, push_frame};
 use crate::incoming::Id;
+use crate::outgoing::error_response;
 use crate::reading::{Around, Reading, TextName, kept_of, reading_of, text_of};
 use crate::refusal::INVALID_REQUEST;
 use crate::state::Server;
-use crate::steps::{refuse, step_around};
+use crate::steps::step_around;
 use crate::waiting::next_text;
 use std::alloc::{AllocError, Global};
 use toml_span_editor::document::read;
@@ -26,7 +28,7 @@ use toml_span_lines::source::Source;
 use toml_span_lookup::disk::Disk;
 
 /// How the server ended.
-#[derive(Clone, Copy, Debug, PartialEq, Eq)]
+#[derive(Clone, Copy)]
 pub struct Ended {
     /// The exit status: 0 after `shutdown` and `exit`, 1 if the client left without one of them, 2 if the input is not
     /// a sequence of whole frames, 3 if a read or a write failed, or 4 if an allocation failed or 2^64 - 1 steps were
@@ -34,14 +36,6 @@ pub struct Ended {
     pub status: u8,
     /// What was wrong, or an empty text.
     pub reason: &'static str,
-}
-
-/// Returns the reason why a frame can't be read.
-fn reason_of(fault: FrameFault) -> &'static str {
-    match fault {
-        FrameFault::Headers => "the input does not begin with message headers",
-        FrameFault::Length => "no valid `Content-Length` header",
-    }
 }
 
 /// Returns an `Ended` with this status and reason.
@@ -92,7 +86,7 @@ fn refusal_frame(alloc: Global) -> Result<Vec<u8>, AllocError>
     ensures { IfOk result (λ out. Refuses out.items) }
 {
     let message = "the message is longer than 64 MiB";
-    let refusal = refuse(alloc, Id::Null, INVALID_REQUEST, message)?;
+    let refusal = error_response(alloc, Id::Null, INVALID_REQUEST, message)?;
     let mut out = Vec::new(alloc);
     push_frame(&mut out, refusal.as_slice())?;
     Ok(out)
@@ -240,7 +234,10 @@ fn next<D: Disk, R: Source, W: Sink>(
     match frame(bytes.as_slice()) {
         Framed::Part => read_more(reader, bytes),
         Framed::TooLong { end } => refuse_frame(alloc, bytes, end, reader, writer),
-        Framed::Fault(fault) => Some(end_with(2, reason_of(fault))),
+        Framed::Fault(FrameFault::Headers) => {
+            Some(end_with(2, "the input does not begin with message headers"))
+        }
+        Framed::Fault(FrameFault::Length) => Some(end_with(2, "no valid `Content-Length` header")),
         Framed::Whole { start, end } => {
             let span = Span { start, end };
             take_frame(alloc, server, disk, bytes, span, reading, writer)
@@ -292,43 +289,9 @@ fn answer_all<D: Disk, R: Source, W: Sink>(
     None
 }
 
-/// Reads the text `name`, about which the frame at the start of `bytes` asks, and answers that frame and those after
-/// it, as `answer_all` does. Returns how the server ends, or `None` if the server continues.
-fn read_and_answer<D: Disk, R: Source, W: Sink>(
-    alloc: Global,
-    server: &mut Server,
-    disk: &mut D,
-    bytes: &mut Vec<u8>,
-    reader: &mut R,
-    name: TextName,
-    writer: &mut W,
-) -> Option<Ended>
-    requires phase { exit_status server.old.phase ≡ None }
-    requires writer { W.failed writer.old ≡ false }
-    ensures { Serves result server.old.phase bytes.old.items
-        (streams (R.remaining reader.old) (R.failed reader.old) (W.contents writer.old) (W.failed writer.old))
-        server.new.phase bytes.new.items
-        (streams (R.remaining reader.new) (R.failed reader.new) (W.contents writer.new) (W.failed writer.new)) }
-{
-    let Ok(Some(text)) = text_of(&server.state, &name) else {
-        return Some(end_with(4, ""));
-    };
-    let Ok(document) = read(alloc, text.as_str()) else {
-        return Some(end_with(4, ""));
-    };
-    let Ok(kept) = kept_of(alloc, document.as_ref(), text.as_str()) else {
-        return Some(end_with(4, ""));
-    };
-    let (encoding, whole, part) = (server.state.encoding, text.as_str(), kept.as_str());
-    let Ok(reading) = reading_of(alloc, encoding, name, whole, document, part) else {
-        return Some(end_with(4, ""));
-    };
-    answer_all(alloc, server, disk, bytes, reader, &reading, writer)
-}
-
 /// Answers the frame at the start of `bytes` or, if the frame is not complete, reads more bytes. If the frame asks
-/// about a document, reads the document, and answers all frames that are about the same text. Returns how the server
-/// ends, or `None` if the server continues.
+/// about a document, reads the document, and answers that frame and those after it, as `answer_all` does. Returns how
+/// the server ends, or `None` if the server continues.
 fn next_reading<D: Disk, R: Source, W: Sink>(
     alloc: Global,
     server: &mut Server,
@@ -344,13 +307,26 @@ fn next_reading<D: Disk, R: Source, W: Sink>(
         server.new.phase bytes.new.items
         (streams (R.remaining reader.new) (R.failed reader.new) (W.contents writer.new) (W.failed writer.new)) }
 {
-    let Ok(text) = next_text(alloc, server, bytes.as_slice()) else {
+    let Ok(asked) = next_text(alloc, server, bytes.as_slice()) else {
         return Some(end_with(4, ""));
     };
-    match text {
-        Some(name) => read_and_answer(alloc, server, disk, bytes, reader, name, writer),
-        None => next(alloc, server, disk, bytes, reader, None, writer),
-    }
+    let Some(name) = asked else {
+        return next(alloc, server, disk, bytes, reader, None, writer);
+    };
+    let Ok(Some(text)) = text_of(&server.state, &name) else {
+        return Some(end_with(4, ""));
+    };
+    let Ok(document) = read(alloc, text.as_str()) else {
+        return Some(end_with(4, ""));
+    };
+    let Ok(kept) = kept_of(alloc, document.as_ref(), text.as_str()) else {
+        return Some(end_with(4, ""));
+    };
+    let (encoding, whole, part) = (server.state.encoding, text.as_str(), kept.as_str());
+    let Ok(reading) = reading_of(alloc, encoding, name, whole, document, part) else {
+        return Some(end_with(4, ""));
+    };
+    answer_all(alloc, server, disk, bytes, reader, &reading, writer)
 }
 
 /// Runs the server until the client ends it, or until an error occurs. Reads schemas from `disk`. Returns the exit

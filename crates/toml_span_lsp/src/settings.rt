@@ -104,7 +104,7 @@ impl AllSettings {
 pub(crate) struct ReadSettings {
     pub all: AllSettings,
     /// A line about the settings that have a wrong value, or an empty text. These settings are not used, except for
-    /// the copies that `read_copies` keeps.
+    /// the copies that `AllSettings::set` keeps.
     pub faults: String,
 }
 
@@ -119,69 +119,18 @@ fn push_fault(faults: &mut String, fault: &str) -> Result<(), AllocError> {
     faults.push_str(fault)
 }
 
-/// Returns the value of the setting `name`, or `None` if the value is missing or null.
-fn set_in<'v, 'j>(value: &'v Value<'j>, name: &str) -> Option<&'v Value<'j>> {
-    match value.get(name) {
-        None | Some(Value::Null) => None,
-        Some(found) => Some(found),
-    }
-}
-
-/// Reads the setting `width`, an integer from 0 to 65535. Adds a fault if the value is wrong.
-fn read_width(value: &Value<'_>, read: &mut ReadSettings) -> Result<(), AllocError> {
-    let Some(width) = set_in(value, "width") else {
-        return Ok(());
-    };
-    match width.as_u64() {
-        Some(width) if width <= 65_535 => {
-            read.all.settings.width = Some(width as usize);
-            Ok(())
-        }
-        _ => push_fault(
-            &mut read.faults,
-            "`width` must be an integer from 0 to 65535",
-        ),
-    }
-}
-
-/// Returns the version of TOML that `name` denotes in the setting `toml`, or `None` if `name` is unknown.
-fn version_named(name: &str) -> Option<Version> {
-    match name {
-        "auto" => Some(Version::Auto),
-        "1.0" => Some(Version::Toml10),
-        "1.1" => Some(Version::Toml11),
-        _ => None,
-    }
-}
-
-/// Reads the setting `toml`, a version of TOML. Adds a fault if the value is wrong.
-fn read_version(value: &Value<'_>, read: &mut ReadSettings) -> Result<(), AllocError> {
-    let Some(version) = set_in(value, "toml") else {
-        return Ok(());
-    };
-    match version.as_str().and_then(|name| version_named(name)) {
-        Some(version) => {
-            read.all.settings.version = version;
-            Ok(())
-        }
-        None => push_fault(
-            &mut read.faults,
-            "`toml` must be \"1.0\", \"1.1\" or \"auto\"",
-        ),
-    }
-}
-
-/// Reads the setting `formats`, which says whether the keyword `format` is checked. Adds a fault if the value is wrong.
-fn read_formats(value: &Value<'_>, read: &mut ReadSettings) -> Result<(), AllocError> {
-    match set_in(value, "formats") {
-        None => Ok(()),
-        Some(Value::Bool(has_formats)) => {
-            read.all.options.has_formats = *has_formats;
-            Ok(())
-        }
-        Some(_) => push_fault(&mut read.faults, "`formats` must be true or false"),
-    }
-}
+/// The names of the settings, each with what is wrong with another value.
+const SETTINGS: [(&str, &str); 6] = [
+    ("width", "`width` must be an integer from 0 to 65535"),
+    ("toml", "`toml` must be \"1.0\", \"1.1\" or \"auto\""),
+    ("formats", "`formats` must be true or false"),
+    ("schema", "`schema` must be a path or a URL"),
+    ("catalog", "`catalog` must be a path"),
+    (
+        "schemaMap",
+        "`schemaMap` must be an object that maps URLs to paths",
+    ),
+];
 
 /// Returns `address` unchanged if it is empty or a URL. Otherwise, it is a path, and the result is that of `rooted`.
 pub(crate) fn rooted_address(
@@ -217,55 +166,45 @@ pub(crate) fn rooted_options(
     Ok(made)
 }
 
-/// Reads the settings `schema`, the path or the URL of the schema of all files, and `catalog`, the path of a catalog.
-/// Adds a fault for each wrong value.
-fn read_paths(alloc: Global, value: &Value<'_>, read: &mut ReadSettings) -> Result<(), AllocError> {
-    match set_in(value, "schema") {
-        None => {}
-        Some(Value::String(schema)) => {
-            read.all.options.schema = String::from_str(alloc, *schema)?;
-            read.all.settings.has_schema = !schema.is_empty();
+impl AllSettings {
+    /// Stores the setting `name` with this value. Returns whether the value is right. Uses the local copies of
+    /// `schemaMap` before the first path that is not a string.
+    fn set(&mut self, alloc: Global, name: &str, value: &Value<'_>) -> Result<bool, AllocError> {
+        match (name, value) {
+            ("width", _) => match value.as_u64() {
+                Some(width) if width <= 65_535 => self.settings.width = Some(width as usize),
+                _ => return Ok(false),
+            },
+            ("toml", Value::String("auto")) => self.settings.version = Version::Auto,
+            ("toml", Value::String("1.0")) => self.settings.version = Version::Toml10,
+            ("toml", Value::String("1.1")) => self.settings.version = Version::Toml11,
+            ("formats", Value::Bool(has_formats)) => self.options.has_formats = *has_formats,
+            ("schema", Value::String(schema)) => {
+                self.options.schema = String::from_str(alloc, *schema)?;
+                self.settings.has_schema = !schema.is_empty();
+            }
+            ("catalog", Value::String(catalog)) => {
+                self.options.catalog = String::from_str(alloc, *catalog)?;
+            }
+            ("schemaMap", Value::Object(members)) => {
+                for member in members.as_slice() {
+                    let Some(path) = member.1.as_str() else {
+                        return Ok(false);
+                    };
+                    self.options.copies.push(LocalCopy {
+                        address: String::from_str(alloc, member.0)?,
+                        path: String::from_str(alloc, path)?,
+                    })?;
+                }
+            }
+            _ => return Ok(false),
         }
-        Some(_) => push_fault(&mut read.faults, "`schema` must be a path or a URL")?,
+        Ok(true)
     }
-    match set_in(value, "catalog") {
-        None => Ok(()),
-        Some(Value::String("")) => Ok(()),
-        Some(Value::String(catalog)) => {
-            read.all.options.catalog = String::from_str(alloc, *catalog)?;
-            Ok(())
-        }
-        Some(_) => push_fault(&mut read.faults, "`catalog` must be a path"),
-    }
-}
-
-/// Reads the setting `schemaMap`, an object that maps the URL of a schema to the path of a local copy. Adds a fault if
-/// the value is not an object, or at the first path that is not a string. Uses the copies before that path.
-fn read_copies(
-    alloc: Global,
-    value: &Value<'_>,
-    read: &mut ReadSettings,
-) -> Result<(), AllocError> {
-    let fault = "`schemaMap` must be an object that maps URLs to paths";
-    let members = match set_in(value, "schemaMap") {
-        None => return Ok(()),
-        Some(Value::Object(members)) => members,
-        Some(_) => return push_fault(&mut read.faults, fault),
-    };
-    for member in members.as_slice() {
-        let Some(path) = member.1.as_str() else {
-            return push_fault(&mut read.faults, fault);
-        };
-        read.all.options.copies.push(LocalCopy {
-            address: String::from_str(alloc, member.0)?,
-            path: String::from_str(alloc, path)?,
-        })?;
-    }
-    Ok(())
 }
 
 /// Reads the settings in `value`. A setting that is missing, null or wrong has its default value, but a wrong
-/// `schemaMap` may be used in part (see `read_copies`). Ignores unknown settings. Paths stay as they are written.
+/// `schemaMap` may be used in part (see `set`). Ignores unknown settings. Paths stay as they are written.
 pub(crate) fn read_settings(alloc: Global, value: &Value<'_>) -> Result<ReadSettings, AllocError> {
     let mut read = ReadSettings {
         all: AllSettings::usual(alloc),
@@ -274,11 +213,15 @@ pub(crate) fn read_settings(alloc: Global, value: &Value<'_>) -> Result<ReadSett
     match value {
         Value::Null => {}
         Value::Object(_) => {
-            read_width(value, &mut read)?;
-            read_version(value, &mut read)?;
-            read_formats(value, &mut read)?;
-            read_paths(alloc, value, &mut read)?;
-            read_copies(alloc, value, &mut read)?;
+            for (name, fault) in &SETTINGS {
+                let is_right = match value.get(*name) {
+                    None | Some(Value::Null) => true,
+                    Some(found) => read.all.set(alloc, *name, found)?,
+                };
+                if !is_right {
+                    push_fault(&mut read.faults, *fault)?;
+                }
+            }
         }
         _ => push_fault(&mut read.faults, "the settings must be an object")?,
     }

@@ -3,9 +3,11 @@ ghost use Rattle.std.specs.Prelude.{◌≡◌, ◌+◌, ◌%◌, ◌^◌};
 ghost use Rattle.toml_span_lsp.specs.Phases as spec;
 ghost use Rattle.toml_span_lsp.specs.declared.state.Phase.TheVariants.{New};
 
+use crate::capabilities::client_of;
 use crate::folders::Folders;
 use crate::projects::Projects;
 use crate::settings::{AllSettings, Settings};
+use json::Value;
 use std::alloc::Global;
 use std::collections::BTreeMap;
 use toml_span_editor::diagnostics::Diagnostic;
@@ -14,7 +16,7 @@ use toml_span_lookup::options::Options;
 use toml_span_report::Report;
 
 /// The phases of a server, from start to end.
-#[derive(Clone, Copy, Debug, PartialEq, Eq)]
+#[derive(Clone, Copy, PartialEq, Eq)]
 pub(crate) enum Phase {
     /// Before `initialize`.
     New,
@@ -27,7 +29,7 @@ pub(crate) enum Phase {
 }
 
 /// The capabilities of the client.
-#[derive(Clone, Copy, Debug, PartialEq, Eq)]
+#[derive(Clone, Copy)]
 pub(crate) struct Client {
     /// Whether the client requests diagnostics itself. The server then sends none on its own.
     pub asks_diagnostics: bool,
@@ -53,24 +55,6 @@ pub(crate) struct Client {
     pub has_versioned_edits: bool,
     /// Whether the client reports changes of files when the server asks it to.
     pub registers_files: bool,
-}
-
-impl Client {
-    /// A client with none of these capabilities.
-    pub(crate) const PLAIN: Client = Client {
-        asks_diagnostics: false,
-        refreshes_diagnostics: false,
-        has_settings: false,
-        registers_settings: false,
-        has_snippets: false,
-        has_literals: false,
-        has_markdown_hovers: false,
-        has_markdown_items: false,
-        has_nested_symbols: false,
-        has_related: false,
-        has_versioned_edits: false,
-        registers_files: false,
-    };
 }
 
 /// The semantic tokens that were sent last for a document.
@@ -114,29 +98,11 @@ pub(crate) struct Open {
     pub address: String,
     /// Whether the text has changed since the diagnostics were sent.
     pub is_pending: bool,
-    /// What the last check of the text found, or `None` if it has not been checked.
-    pub found: Option<Findings>,
-    /// The number `State::schemas_read` at that check.
-    pub schemas_read: u64,
+    /// What `check_once` found last, nothing at first.
+    pub found: Findings,
+    /// The number `State::schemas_read` at that check, or `None` if this text has not been checked.
+    pub checked_with: Option<u64>,
     pub tokens: Option<SentTokens>,
-}
-
-impl Open {
-    /// Returns the diagnostics that the last check of the text found, none if it has not been checked.
-    pub(crate) fn diagnostics(&self) -> &[Diagnostic] {
-        match &self.found {
-            Some(found) => found.diagnostics.as_slice(),
-            None => &[],
-        }
-    }
-
-    /// Returns the reports that the last check of the text found, none if it has not been checked.
-    pub(crate) fn reports(&self) -> &[Report] {
-        match &self.found {
-            Some(found) => found.reports.as_slice(),
-            None => &[],
-        }
-    }
 }
 
 /// What the server knows: the capabilities of the client, the settings, the schemas and the open documents.
@@ -173,7 +139,7 @@ impl State {
     fn new(alloc: Global) -> Self {
         State {
             encoding: Encoding::Utf16,
-            client: Client::PLAIN,
+            client: client_of(&Value::Null),
             roots: Vec::new(alloc),
             settings: Settings::USUAL,
             options: AllSettings::usual(alloc).options,
@@ -186,15 +152,6 @@ impl State {
             schemas_read: 0,
             has_pending: false,
             documents: BTreeMap::new(alloc),
-        }
-    }
-
-    /// Returns the path of the folder that is open in the editor, or of the first of several folders, with a slash at
-    /// the end. Returns an empty text if no folder is open.
-    pub(crate) fn root(&self) -> &str {
-        match self.roots.first() {
-            Some(path) => path.as_str(),
-            None => "",
         }
     }
 

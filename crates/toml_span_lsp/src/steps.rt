@@ -1,57 +1,34 @@
 //! One step of the server: takes a message, and returns the messages to send.
-ghost use Rattle.std.specs.Prelude.{◌≡◌, ℕ, IfOk, List, map, option_map};
+ghost use Rattle.std.specs.Prelude.{◌≡◌, IfOk, map, option_map};
 ghost use Rattle.toml_span_lsp.specs.Messages as spec;
 ghost use Rattle.toml_span_lsp.specs.Messages.{Answers, IsAnswer, IsResponse, Responds};
 ghost use Rattle.toml_span_lsp.specs.Phases as phases;
 ghost use Rattle.toml_span_lsp.specs.Phases.{AfterContent, AfterMessage, AfterNotification, AfterRequest, AfterText};
-ghost use Rattle.toml_span_lsp.specs.declared.state.Phase.TheVariants.{Running};
 
 use crate::capabilities::{store_client, write_capabilities};
 use crate::configuration::{
     check_all, folders_changed, initialized, settings_came, settings_changed,
 };
+use crate::frames::{Framed, frame};
 use crate::incoming::{Call, Id, Message, message_of};
 use crate::methods::method_named;
-use crate::outgoing::{Json, Outbox, error_response, response, show_message};
+use crate::outgoing::{Json, Outbox, error_response, response, warning};
 use crate::reading::{Around, Reading};
 use crate::refusal::{
     INVALID_REQUEST, METHOD_NOT_FOUND, NOT_INITIALIZED, PARSE_ERROR, REQUEST_CANCELLED, Refusal,
-    refusal_with, refused,
+    refused,
 };
 use crate::requests::write_result;
 use crate::schemas::{follow, settle};
 use crate::state::{Phase, Server, State};
 use crate::surrogates::without_lone;
 use crate::sync::{change, close, open, save};
-use crate::waiting::{has_frame, is_cancelled};
+use crate::waiting::is_cancelled;
 use json::{Error, Scratch, Value};
 use std::alloc::{AllocError, Global};
 use std::mem;
 use toml_span_lex::stop::Stop;
 use toml_span_lookup::disk::Disk;
-
-/// Writes the result of a request between `initialize` and `shutdown`. `known` is as for `write_result`. Fails with a
-/// `Refusal` if the request is refused.
-fn write_request(
-    alloc: Global,
-    server: &mut Server,
-    call: Call<'_, '_>,
-    known: Option<&Reading<'_>>,
-    out: &mut Json,
-) -> Result<(), Stop<Refusal>>
-    requires { server.old.phase ≡ Running }
-    ensures { AfterRequest call.entry.method.now server.old.phase server.new.phase }
-{
-    if call.method == "shutdown" {
-        server.phase = Phase::Shut;
-        out.null();
-        return Ok(());
-    }
-    match method_named(call.method) {
-        Some(method) => { write_result(alloc, &mut server.state, method, call.params, known, out) }
-        None => Err(refused(alloc, METHOD_NOT_FOUND, "the method is not known")),
-    }
-}
 
 /// Writes the result of a request. `known` is as for `write_result`. Fails with a `Refusal` if the request is refused,
 /// for example in the wrong phase.
@@ -67,7 +44,7 @@ fn write_phased(
     match (server.phase, call.method) {
         (Phase::New, "initialize") => {
             store_client(alloc, &mut server.state, call.params)?;
-            write_capabilities(out, server.state.encoding);
+            write_capabilities(alloc, server.state.encoding, out);
             server.phase = Phase::Running;
             Ok(())
         }
@@ -75,30 +52,19 @@ fn write_phased(
         (Phase::Running, "initialize") => {
             Err(refused(alloc, INVALID_REQUEST, "`initialize` must not be repeated"))
         }
-        (Phase::Running, _) => write_request(alloc, server, call, known, out),
+        (Phase::Running, "shutdown") => {
+            server.phase = Phase::Shut;
+            out.null();
+            Ok(())
+        }
+        (Phase::Running, name) => match method_named(name) {
+            Some(method) => {
+                write_result(alloc, &mut server.state, method, call.params, known, out)
+            }
+            None => Err(refused(alloc, METHOD_NOT_FOUND, "the method is not known")),
+        },
         (Phase::Shut | Phase::Ended { .. }, _) => {
             Err(refused(alloc, INVALID_REQUEST, "the server is shut down"))
-        }
-    }
-}
-
-/// Returns the response to a request. `known` is as for `write_result`.
-fn answered(
-    alloc: Global,
-    server: &mut Server,
-    id: Id<'_>,
-    call: Call<'_, '_>,
-    known: Option<&Reading<'_>>,
-) -> Result<Vec<u8>, AllocError>
-    ensures response { IfOk result (λ message. IsResponse (spec.id_token id.entry) message.items) }
-    ensures phase { AfterRequest call.entry.method.now server.old.phase server.new.phase }
-{
-    let mut value = Json::new(alloc);
-    match write_phased(alloc, server, call, known, &mut value) {
-        Ok(()) => response(alloc, id, value),
-        Err(stop) => {
-            let refusal = stop.fault()?;
-            error_response(alloc, id, &refusal)
         }
     }
 }
@@ -114,7 +80,7 @@ fn note_running<D: Disk>(
 ) -> Result<(), AllocError> {
     match call.method {
         "initialized" => {
-            initialized(alloc, state, out);
+            initialized(alloc, state.client, out);
             Ok(())
         }
         "workspace/didChangeConfiguration" => {
@@ -169,19 +135,6 @@ fn note<D: Disk>(
     Ok(())
 }
 
-/// Returns the response that refuses a message.
-pub(crate) fn refuse(
-    alloc: Global,
-    id: Id<'_>,
-    code: i64,
-    message: &str,
-) -> Result<Vec<u8>, AllocError>
-    ensures { IfOk result (λ message. IsResponse (spec.id_token id.entry) message.items) }
-{
-    let refusal = refusal_with(alloc, code, message)?;
-    error_response(alloc, id, &refusal)
-}
-
 /// Returns the response to a request. Refuses the request if a message in `around` cancels it. Otherwise, reads the
 /// schemas that changed documents name before it answers.
 fn taken<D: Disk>(
@@ -196,10 +149,17 @@ fn taken<D: Disk>(
     ensures phase { AfterRequest call.entry.method.now server.old.phase server.new.phase }
 {
     if is_cancelled(alloc, around.waiting, id)? {
-        return refuse(alloc, id, REQUEST_CANCELLED, "the request was cancelled");
+        return error_response(alloc, id, REQUEST_CANCELLED, "the request was cancelled");
     }
     follow(alloc, &mut server.state, disk)?;
-    answered(alloc, server, id, call, around.reading)
+    let mut value = Json::new(alloc);
+    match write_phased(alloc, server, call, around.reading, &mut value) {
+        Ok(()) => response(alloc, id, value),
+        Err(stop) => {
+            let refusal = stop.fault()?;
+            error_response(alloc, id, refusal.code, refusal.message.as_str())
+        }
+    }
 }
 
 /// Carries out a message, and appends the notifications and requests to send. Returns the response to a request, or
@@ -224,7 +184,8 @@ fn take<D: Disk>(
             Ok(None)
         }
         Message::Invalid(id) => {
-            let response = refuse(alloc, id, INVALID_REQUEST, "not a message of JSON-RPC 2.0")?;
+            let message = "not a message of JSON-RPC 2.0";
+            let response = error_response(alloc, id, INVALID_REQUEST, message)?;
             Ok(Some(response))
         }
         Message::Call(call) => match call.id {
@@ -256,25 +217,11 @@ fn take_text<D: Disk>(
         Ok(value) => take(alloc, server, disk, message_of(&value), around, out),
         Err(Error::OutOfMemory) => Err(AllocError),
         Err(_) => {
-            let response = refuse(alloc, Id::Null, PARSE_ERROR, "the content is not JSON")?;
+            let message = "the content is not JSON";
+            let response = error_response(alloc, Id::Null, PARSE_ERROR, message)?;
             Ok(Some(response))
         }
     }
-}
-
-/// Carries out the message in `content`, which is not JSON, as `take_text` does, as if it had no lone surrogates.
-fn take_repaired<D: Disk>(
-    alloc: Global,
-    server: &mut Server,
-    disk: &mut D,
-    content: &[u8],
-    around: Around<'_, '_, '_>,
-    out: &mut Outbox,
-) -> Result<Option<Vec<u8>>, AllocError>
-    ensures { IfOk result (λ _. (text : List ℕ) × AfterText text server.old.phase server.new.phase) }
-{
-    let repaired = without_lone(alloc, content)?;
-    take_text(alloc, server, disk, repaired.as_slice(), around, out)
 }
 
 /// Carries out the message in `content`, and appends the notifications and requests to send. Returns the response, if
@@ -294,7 +241,10 @@ fn respond<D: Disk>(
     match Value::from_slice(alloc, content, &mut scratch) {
         Ok(value) => take(alloc, server, disk, message_of(&value), around, out),
         Err(Error::OutOfMemory) => Err(AllocError),
-        Err(_) => take_repaired(alloc, server, disk, content, around, out),
+        Err(_) => {
+            let repaired = without_lone(alloc, content)?;
+            take_text(alloc, server, disk, repaired.as_slice(), around, out)
+        }
     }
 }
 
@@ -305,7 +255,7 @@ fn push_notices(alloc: Global, state: &mut State, out: &mut Outbox) {
     for line in notices.as_str().split('\n') {
         if !line.is_empty() {
             let message = line.strip_prefix("error: ").unwrap_or(line);
-            out.add(show_message(alloc, message));
+            out.add(warning(alloc, "window/showMessage", message));
         }
     }
 }
@@ -324,7 +274,7 @@ pub(crate) fn step_around<D: Disk>(
 {
     let mut out = Outbox::new(alloc);
     let response = respond(alloc, server, disk, content, around, &mut out)?;
-    if !has_frame(around.waiting) {
+    if !matches!(frame(around.waiting), Framed::Whole { .. }) {
         settle(alloc, &mut server.state, disk, &mut out)?;
     }
     push_notices(alloc, &mut server.state, &mut out);

@@ -25,21 +25,6 @@ fn rank_of(suggestion: &Suggestion) -> &'static str {
     }
 }
 
-/// Writes the documentation of a suggestion, as Markdown if the client supports it.
-fn write_documentation(
-    request: &Request<'_, '_, '_>,
-    documentation: &str,
-    out: &mut Json,
-) -> Result<(), AllocError> {
-    out.key("documentation");
-    write_markup(
-        request.alloc,
-        documentation,
-        request.client.has_markdown_items,
-        out,
-    )
-}
-
 /// Writes the range that a suggestion replaces, and the new text: the snippet if there is one and the client supports
 /// snippets, otherwise `suggestion.text`.
 fn write_edit(request: &Request<'_, '_, '_>, suggestion: &Suggestion, out: &mut Json) {
@@ -72,7 +57,14 @@ fn write_suggestion(
         out.text("detail", suggestion.detail.as_str());
     }
     if !suggestion.documentation.is_empty() {
-        write_documentation(request, suggestion.documentation.as_str(), out)?;
+        let is_markdown = request.client.has_markdown_items;
+        out.key("documentation");
+        write_markup(
+            request.alloc,
+            suggestion.documentation.as_str(),
+            is_markdown,
+            out,
+        )?;
     }
     if suggestion.is_deprecated {
         out.flag("deprecated", true);

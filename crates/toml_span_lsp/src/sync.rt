@@ -4,17 +4,20 @@ ghost use Rattle.toml_span_lsp.specs.Sync as spec;
 
 use crate::configuration::check_all;
 use crate::incoming::{member, range_of, text_in};
-use crate::outgoing::{Outbox, log_message};
+use crate::outgoing::{Outbox, warning};
 use crate::projects::is_configuration;
 use crate::publish::{publish, published};
 use crate::schemas::read_schema;
-use crate::state::{Open, State};
+use crate::state::{Findings, Open, State};
 use crate::uris::name_of;
 use json::Value;
 use std::alloc::{AllocError, Global};
 use toml_span_editor::changes::changed;
 use toml_span_editor::positions::{Encoding, Range};
 use toml_span_lookup::disk::Disk;
+
+/// The notification that adds a message to the client's log.
+const LOG: &str = "window/logMessage";
 
 /// A change of a text.
 #[derive(Clone, Copy)]
@@ -37,7 +40,9 @@ fn store(
     text: String,
     version: Option<i64>,
 ) -> Result<(), AllocError> {
-    let name = name_of(alloc, state.root(), uri)?;
+    // The path of the folder that is open in the editor, or of the first of several folders.
+    let root = state.roots.first().map_or("", |path| path.as_str());
+    let name = name_of(alloc, root, uri)?;
     let uri = String::from_str(alloc, uri)?;
     let revision = state.next_number();
     let open = Open {
@@ -51,25 +56,15 @@ fn store(
         schema_fault: String::new(alloc),
         address: String::new(alloc),
         is_pending: false,
-        found: None,
-        schemas_read: 0,
+        found: Findings {
+            diagnostics: Vec::new(alloc),
+            reports: Vec::new(alloc),
+        },
+        checked_with: None,
         tokens: None,
     };
     state.documents.insert(uri, open)?;
     Ok(())
-}
-
-/// Reads the schema of the open document `uri`, as `read_schema` does. Then appends the notification with the
-/// document's diagnostics, as `publish` does.
-fn check_and_publish<D: Disk>(
-    alloc: Global,
-    state: &mut State,
-    disk: &mut D,
-    uri: &str,
-    out: &mut Outbox,
-) -> Result<(), AllocError> {
-    read_schema(alloc, state, disk, uri)?;
-    publish(alloc, state, uri, out)
 }
 
 /// Opens a document, reads its schema, and appends the notification with its diagnostics, as `publish` does. If the
@@ -84,10 +79,8 @@ pub(crate) fn open<D: Disk>(
     let uri = text_in(params, &["textDocument", "uri"]);
     let text = text_in(params, &["textDocument", "text"]);
     let (Some(uri), Some(text)) = (uri, text) else {
-        out.add(log_message(
-            alloc,
-            "didOpen: `textDocument` must have a `uri` and a `text`",
-        ));
+        let message = "didOpen: `textDocument` must have a `uri` and a `text`";
+        out.add(warning(alloc, LOG, message));
         return Ok(());
     };
     store(
@@ -97,18 +90,8 @@ pub(crate) fn open<D: Disk>(
         String::from_str(alloc, text)?,
         version_of(params),
     )?;
-    check_and_publish(alloc, state, disk, uri, out)
-}
-
-/// Returns the range of a change, or `None` if the change replaces the whole text. Fails if the range is not valid.
-fn range_in(change: &Value<'_>) -> Result<Option<Range>, ()> {
-    match change.get("range") {
-        None | Some(Value::Null) => Ok(None),
-        Some(range) => match range_of(range) {
-            Some(range) => Ok(Some(range)),
-            None => Err(()),
-        },
-    }
+    read_schema(alloc, state, disk, uri)?;
+    publish(alloc, state, uri, out)
 }
 
 /// Reads changes. Returns `None` if one is not valid.
@@ -118,8 +101,15 @@ fn changes_in<'v>(
 ) -> Result<Option<Vec<TextChange<'v>>>, AllocError> {
     let mut read = Vec::new(alloc);
     for change in changes {
-        let (Some(text), Ok(range)) = (text_in(change, &["text"]), range_in(change)) else {
+        let Some(text) = text_in(change, &["text"]) else {
             return Ok(None);
+        };
+        let range = match change.get("range") {
+            None | Some(Value::Null) => None,
+            Some(range) => match range_of(range) {
+                Some(range) => Some(range),
+                None => return Ok(None),
+            },
         };
         read.push(TextChange { range, text })?;
     }
@@ -142,40 +132,6 @@ fn applied(
     Ok(made)
 }
 
-/// Returns `text` after `changes`, or `None` if a change is not valid.
-fn text_after(
-    alloc: Global,
-    encoding: Encoding,
-    text: &str,
-    changes: &[Value<'_>],
-) -> Result<Option<String>, AllocError> {
-    match changes_in(alloc, changes)? {
-        Some(read) => Ok(Some(applied(alloc, encoding, text, read.as_slice())?)),
-        None => Ok(None),
-    }
-}
-
-/// Returns the text of the open document `uri` after the changes in a notification. Returns `None` if the document is
-/// not open, or if the changes are missing or not valid.
-fn new_text(
-    alloc: Global,
-    state: &State,
-    uri: &str,
-    params: &Value<'_>,
-) -> Result<Option<String>, AllocError> {
-    match (state.documents.get(uri), params.get("contentChanges")) {
-        (Some(open), Some(Value::Array(changes))) => {
-            text_after(
-                alloc,
-                state.encoding,
-                open.text.as_str(),
-                changes.as_slice(),
-            )
-        }
-        _ => Ok(None),
-    }
-}
-
 /// Changes a document, whose diagnostics are then pending (see `settle`). If the document is not open or a change is
 /// not valid, changes nothing and appends a warning.
 pub(crate) fn change(
@@ -185,28 +141,38 @@ pub(crate) fn change(
     out: &mut Outbox,
 ) -> Result<(), AllocError> {
     let Some(uri) = text_in(params, &["textDocument", "uri"]) else {
-        out.add(log_message(alloc, "didChange: `textDocument` must have a `uri`"));
+        out.add(warning(alloc, LOG, "didChange: `textDocument` must have a `uri`"));
         return Ok(());
     };
-    let new = new_text(alloc, state, uri, params)?;
+    let changes = match params.get("contentChanges") {
+        Some(Value::Array(changes)) => changes_in(alloc, changes.as_slice())?,
+        _ => None,
+    };
+    let new = match (state.documents.get(uri), changes) {
+        (Some(open), Some(changes)) => {
+            let (encoding, text) = (state.encoding, open.text.as_str());
+            Some(applied(alloc, encoding, text, changes.as_slice())?)
+        }
+        _ => None,
+    };
     let revision = state.next_number();
     let (Some(open), Some(text)) = (state.documents.get_mut(uri), new) else {
         let message = "didChange: the document is not open, or a change is not valid";
-        out.add(log_message(alloc, message));
+        out.add(warning(alloc, LOG, message));
         return Ok(());
     };
     open.text = text;
     open.version = version_of(params);
     open.revision = revision;
-    open.found = None;
+    open.checked_with = None;
     open.is_pending = true;
     state.has_pending = true;
     Ok(())
 }
 
 /// Carries out the notification that a document was saved: reads its schema again if the schema has changed, and
-/// appends the notification with the document's diagnostics, as `publish` does. If the document is a configuration file,
-/// does so for all documents.
+/// appends the notification with the document's diagnostics, as `publish` does. If the document is a configuration
+/// file, does so for all documents.
 pub(crate) fn save<D: Disk>(
     alloc: Global,
     state: &mut State,
@@ -216,7 +182,10 @@ pub(crate) fn save<D: Disk>(
 ) -> Result<(), AllocError> {
     match text_in(params, &["textDocument", "uri"]) {
         Some(uri) if is_configuration(uri) => check_all(alloc, state, disk, out),
-        Some(uri) => check_and_publish(alloc, state, disk, uri, out),
+        Some(uri) => {
+            read_schema(alloc, state, disk, uri)?;
+            publish(alloc, state, uri, out)
+        }
         None => Ok(()),
     }
 }

@@ -132,24 +132,6 @@ fn write_changes(out: &mut Json, old: &[u32], new: &[u32]) {
     out.end_array();
 }
 
-/// Returns the semantic tokens of a document as numbers: those that were sent last, if the text is still the same.
-fn numbers_of(
-    request: &Request<'_, '_, '_>,
-    revision: u64,
-    sent: Option<&SentTokens>,
-) -> Result<Vec<u32>, AllocError> {
-    match sent {
-        Some(sent) if sent.revision == revision => sent.data.clone(),
-        _ => token_numbers(
-            request,
-            Span {
-                start: 0,
-                end: request.table.text.len(),
-            },
-        ),
-    }
-}
-
 /// Returns the tokens in `sent` if a request for changes refers to them.
 fn referred<'s>(
     request: &Request<'_, '_, '_>,
@@ -180,7 +162,13 @@ pub(crate) fn write_tokens(
         return Ok(());
     };
     let revision = open.revision;
-    let data = numbers_of(request, revision, open.tokens.as_ref())?;
+    let data = match &open.tokens {
+        Some(sent) if sent.revision == revision => sent.data.clone()?,
+        _ => {
+            let end = request.table.text.len();
+            token_numbers(request, Span { start: 0, end })?
+        }
+    };
     let shown = format!(in request.alloc; "{number}")?;
     out.begin_object();
     out.text("resultId", shown.as_str());

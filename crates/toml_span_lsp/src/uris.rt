@@ -37,11 +37,6 @@ pub(crate) fn uri_of_path(alloc: Global, path: &str) -> Result<String, AllocErro
     Ok(out)
 }
 
-/// Returns the part of a URI after its last slash, or the whole URI if it has no slash.
-fn last_part(uri: &str) -> &str {
-    uri.rsplit('/').next().unwrap_or(uri)
-}
-
 /// Returns `path` as a path in the folder `root`: without `./` at its start, after `root` or, if `root` is empty, after
 /// `./`. Returns an absolute path unchanged. `root` must end with a slash or be empty.
 pub(crate) fn rooted(alloc: Global, root: &str, path: &str) -> Result<String, AllocError> {
@@ -53,11 +48,11 @@ pub(crate) fn rooted(alloc: Global, root: &str, path: &str) -> Result<String, Al
     Ok(out)
 }
 
-/// Returns the path of the document at `uri`. If `path_of_uri` returns `None`, it is the last part of `uri`, as a path
-/// in the folder `root` (see `rooted`).
+/// Returns the path of the document at `uri`. If `path_of_uri` returns `None`, it is the part of `uri` after its last
+/// slash, as a path in the folder `root` (see `rooted`).
 pub(crate) fn name_of(alloc: Global, root: &str, uri: &str) -> Result<String, AllocError> {
     match path_of_uri(alloc, uri)? {
         Some(path) => Ok(path),
-        None => rooted(alloc, root, last_part(uri)),
+        None => rooted(alloc, root, uri.rsplit('/').next().unwrap_or(uri)),
     }
 }

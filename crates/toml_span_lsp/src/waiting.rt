@@ -3,7 +3,7 @@ use crate::frames::{Framed, frame};
 use crate::incoming::{Id, Message, message_of, text_in};
 use crate::methods::{Method, method_named};
 use crate::reading::{TextName, is_too_long};
-use crate::state::{Phase, Server, State};
+use crate::state::{Phase, Server};
 use json::{Error, Scratch, Value};
 use std::alloc::{AllocError, Global};
 
@@ -13,29 +13,6 @@ const CANCEL: &str = "$/cancelRequest";
 /// The length in bytes of the content of a message up to which `next_text` looks at it.
 const LONGEST_REQUEST: usize = 65_536;
 
-/// Returns whether `bytes` begin with a whole frame.
-pub(crate) fn has_frame(bytes: &[u8]) -> bool {
-    matches!(frame(bytes), Framed::Whole { .. })
-}
-
-/// Returns whether a value is this id.
-fn is_id(value: &Value<'_>, id: Id<'_>) -> bool {
-    match id {
-        Id::Null => false,
-        Id::Number(number) => value.as_i64() == Some(number),
-        Id::Text(text) => value.as_str() == Some(text),
-    }
-}
-
-/// Returns whether a message cancels the request `id`.
-fn cancels(message: Message<'_, '_>, id: Id<'_>) -> bool {
-    let Message::Call(call) = message else {
-        return false;
-    };
-    let asked = call.params.get("id");
-    call.id.is_none() && call.method == CANCEL && asked.map_or(false, |value| is_id(value, id))
-}
-
 /// Returns whether the message in `content` cancels the request `id`.
 fn is_cancellation(alloc: Global, content: &[u8], id: Id<'_>) -> Result<bool, AllocError> {
     let text = str::from_utf8(content).unwrap_or("");
@@ -43,11 +20,20 @@ fn is_cancellation(alloc: Global, content: &[u8], id: Id<'_>) -> Result<bool, Al
         return Ok(false);
     }
     let mut scratch = Scratch::new(alloc);
-    match Value::from_slice(alloc, content, &mut scratch) {
-        Ok(value) => Ok(cancels(message_of(&value), id)),
-        Err(Error::OutOfMemory) => Err(AllocError),
-        Err(_) => Ok(false),
-    }
+    let value = match Value::from_slice(alloc, content, &mut scratch) {
+        Ok(value) => value,
+        Err(Error::OutOfMemory) => return Err(AllocError),
+        Err(_) => return Ok(false),
+    };
+    let Message::Call(call) = message_of(&value) else {
+        return Ok(false);
+    };
+    let is_asked = match (id, call.params.get("id")) {
+        (Id::Number(number), Some(value)) => value.as_i64() == Some(number),
+        (Id::Text(text), Some(value)) => value.as_str() == Some(text),
+        _ => false,
+    };
+    Ok(call.id.is_none() && call.method == CANCEL && is_asked)
 }
 
 /// Returns whether a message in `waiting`, which are frames and maybe a part of one, cancels the request `id`.
@@ -65,31 +51,9 @@ pub(crate) fn is_cancelled(alloc: Global, waiting: &[u8], id: Id<'_>) -> Result<
     Ok(false)
 }
 
-/// Returns the text of the open document that a request is about. Returns `None` for other messages, and for a document
-/// that is too long to be read.
-fn text_asked(
-    alloc: Global,
-    state: &State,
-    message: Message<'_, '_>,
-) -> Result<Option<TextName>, AllocError> {
-    let Message::Call(call) = message else {
-        return Ok(None);
-    };
-    let uri = text_in(call.params, &["textDocument", "uri"]).unwrap_or("");
-    let is_read = method_named(call.method).map_or(false, |method| method != Method::Diagnose);
-    match state.documents.get(uri) {
-        Some(open) => {
-            if !is_read || is_too_long(open) {
-                return Ok(None);
-            }
-            Ok(Some(TextName::new(alloc, uri, open.revision)?))
-        }
-        None => Ok(None),
-    }
-}
-
 /// Returns the text of the open document that the request in the first frame of `bytes` is about and that has to be
-/// read for it. Returns `None` if there is no whole frame, or if the frame has another message or a very long one.
+/// read for it. Returns `None` if there is no whole frame, if the frame has another message or a very long one, or if
+/// the document is too long to be read.
 pub(crate) fn next_text(
     alloc: Global,
     server: &Server,
@@ -101,10 +65,22 @@ pub(crate) fn next_text(
     if server.phase != Phase::Running || end.saturating_sub(start) > LONGEST_REQUEST {
         return Ok(None);
     }
+    let content = bytes.get(start..end).unwrap_or(&[]);
     let mut scratch = Scratch::new(alloc);
-    match Value::from_slice(alloc, bytes.get(start..end).unwrap_or(&[]), &mut scratch) {
-        Ok(value) => text_asked(alloc, &server.state, message_of(&value)),
-        Err(Error::OutOfMemory) => Err(AllocError),
-        Err(_) => Ok(None),
+    let value = match Value::from_slice(alloc, content, &mut scratch) {
+        Ok(value) => value,
+        Err(Error::OutOfMemory) => return Err(AllocError),
+        Err(_) => return Ok(None),
+    };
+    let Message::Call(call) = message_of(&value) else {
+        return Ok(None);
+    };
+    let uri = text_in(call.params, &["textDocument", "uri"]).unwrap_or("");
+    let is_read = method_named(call.method).map_or(false, |method| method != Method::Diagnose);
+    match server.state.documents.get(uri) {
+        Some(open) if is_read && !is_too_long(open) => {
+            Ok(Some(TextName::new(alloc, uri, open.revision)?))
+        }
+        _ => Ok(None),
     }
 }

@@ -6,7 +6,7 @@ use Rattle.clap.specs.declared.error.Error.{Error}
 use Rattle.clap.specs.declared.parser.matches.ArgMatches.{ArgMatches}
 use Rattle.toml_span_check.specs.declared.answer.Task.{Task}
 use Rattle.toml_span_check.specs.declared.formats.Format.{Format}
-use Rattle.toml_span_commands.specs.Options.{Sets, asked, check, coloured, common, configured, faults, fixing, fixing_of, forms, get, is_given, kind_of, names_of, options, path_of, program, refusals, schemas}
+use Rattle.toml_span_commands.specs.Options.{Sets, asked, check, coloured, faults, fixing_of, get, is_given, kind_of, names_of, options, path_of, program, refusals}
 use Rattle.toml_span_commands.specs.declared.colours.Screen.{Screen}
 use Rattle.toml_span_commands.specs.declared.options.Mistake.{Mistake}
 use Rattle.toml_span_commands.specs.declared.options.Options.{Options}
@@ -16,12 +16,12 @@ use Rattle.toml_span_commands.proofs.Rows.{all-row, or-none}
 use Rattle.toml_span_commands.proofs.options.options_of.Goals as goal
 
 is-simple : (query : Query) → is_simple (program query) ≡ true
-unfolding common schemas fixing configured check forms get
+unfolding check get
 is-simple queries.Check = refl
 is-simple queries.Get = refl
 
 is-free : (query : Query) → is_simple_and_free (program query) ≡ true
-unfolding common schemas fixing configured check forms get
+unfolding check get
 is-free queries.Check = refl
 is-free queries.Get = refl
 

@@ -18,8 +18,14 @@ pub take_frame-requires-clause-frame : goal.take_frame-requires-clause-frame
 take_frame-requires-clause-frame g c =
     framed_as _ c.as_slice.result.now _ _ c.as_slice.ensures.value c.in-Whole.is c.frame.ensures.framed
 
-pub returns-in-Fault : goal.returns-in-Fault
-returns-in-Fault g c = ends_stay _ c.args.bytes.now.items [] _ _ _ _ _ _ _ (Consumes-nil _) (inr (inr (inl (
+pub returns-in-Fault-Headers : goal.returns-in-Fault-Headers
+returns-in-Fault-Headers g c = ends_stay _ c.args.bytes.now.items [] _ _ _ _ _ _ _ (Consumes-nil _) (inr (inr (inl (
   c.end_with.ensures,
-  no_frame_after _ [] _ (λ more. no_frame_fault _ c.as_slice.result.now more _ _ c.as_slice.ensures.value c.frame.ensures.frame c.in-Fault.is),
+  no_frame_after _ [] _ (λ more. no_frame_fault _ c.as_slice.result.now more _ _ c.as_slice.ensures.value c.frame.ensures.frame c.in-Fault-Headers.is),
+))))
+
+pub returns-in-Fault-Length : goal.returns-in-Fault-Length
+returns-in-Fault-Length g c = ends_stay _ c.args.bytes.now.items [] _ _ _ _ _ _ _ (Consumes-nil _) (inr (inr (inl (
+  c.end_with-in-Fault-Length.ensures,
+  no_frame_after _ [] _ (λ more. no_frame_fault _ c.as_slice.result.now more _ _ c.as_slice.ensures.value c.frame.ensures.frame c.in-Fault-Length.is),
 ))))
