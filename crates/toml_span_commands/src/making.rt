@@ -222,6 +222,17 @@ fn invalid(alloc: Global, text: &str) -> Result<String, AllocError> {
     Ok(message)
 }
 
+/// Returns whether the message about the edit that was refused with `error` names its path: unless it is about the new
+/// value, or may be about the new name or the target.
+fn names_path(list: &[Prepared<'_>], error: &EditError) -> bool {
+    match (&error.reason, list.get(error.edit)) {
+        (Reason::Nothing, _) => true,
+        (Reason::NoValue(_), _) => false,
+        (_, Some(prepared)) => !matches!(prepared.action, Action::Move(_) | Action::Rename(_)),
+        (_, None) => false,
+    }
+}
+
 /// Returns why an edit of `text` in `list` was refused. If there are several edits, the message begins with the number
 /// of the edit.
 fn refusal_of(
@@ -233,10 +244,15 @@ fn refusal_of(
     let mut message = String::new(alloc);
     if matches!(error.reason, Reason::InvalidDocument(_)) {
         message = invalid(alloc, text)?;
-    } else if list.len() > 1 {
-        write!(message, "edit {}: {error}", error.edit.saturating_add(1))?;
     } else {
-        write!(message, "{error}")?;
+        if list.len() > 1 {
+            write!(message, "edit {}: ", error.edit.saturating_add(1))?;
+        }
+        if names_path(list, error) {
+            write!(message, "{error}")?;
+        } else {
+            write!(message, "{}", error.reason)?;
+        }
     }
     Ok(Refusal {
         message,
