@@ -62,7 +62,7 @@ pub(crate) struct Arguments<'w> {
     /// Whether to use no configuration file.
     pub(crate) has_no_config: bool,
     /// The name of standard input.
-    stdin_name: &'w str,
+    pub(crate) stdin_name: &'w str,
     pub(crate) is_help: bool,
 }
 

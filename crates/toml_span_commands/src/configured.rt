@@ -72,15 +72,22 @@ fn push_file(
     Ok(())
 }
 
+/// The message for a name of standard input that is given for other files.
+pub(crate) const UNUSED_NAME: &str =
+    "error: '--stdin-name' can only be used with the file `-`, standard input\n";
+
 /// Returns the files that `wanted` names, and those found below directories that it names, except those that are
 /// excluded, with their settings. Fails with a message, for standard error, if a configuration file can't be read or is
-/// wrong.
+/// wrong, or if standard input has a name, but is not among the files.
 pub(crate) fn configured_files(
     alloc: Global,
     host: &mut Host,
     sources: &mut Sources,
     wanted: Wanted<'_>,
 ) -> Result<Vec<Configured>, Stop<String>> {
+    if wanted.stdin_name != "-" && !wanted.names.contains(&"-") {
+        return Err(Stop::Fault(String::from_str(alloc, UNUSED_NAME)?));
+    }
     let mut files = Vec::new(alloc);
     for name in wanted.names {
         let found = host.find(alloc, wanted.excludes, *name)?;

@@ -7,6 +7,7 @@ use crate::answers::{Answer, failed, helped, misuse, misused, printed, stopped};
 use crate::arguments::{Arguments, Show, arguments_asked};
 use crate::changes::{PathEdit, change_of, option_changes, script_changes};
 use crate::commands::Command;
+use crate::configured::UNUSED_NAME;
 use crate::files::unedited;
 use crate::making::{Refusal, Way, new_text};
 use crate::options::search_of;
@@ -122,17 +123,21 @@ fn write(
     }
 }
 
-/// Returns the version of TOML of the file `shown`, as the arguments and its configuration say. Fails with a message,
-/// for standard error, if the configuration file can't be read or is wrong.
+/// Returns the version of TOML of the file, as the arguments and its configuration say. Fails with a message, for
+/// standard error, if the configuration file can't be read or is wrong, or if standard input has a name, but is not the
+/// file.
 fn version_of(
     alloc: Global,
-    shown: &str,
+    file: &str,
     asked: &Arguments<'_>,
     host: &mut Host,
 ) -> Result<Version, Stop<String>> {
+    if file != "-" && asked.stdin_name != "-" {
+        return Err(Stop::Fault(String::from_str(alloc, UNUSED_NAME)?));
+    }
     let search = search_of(asked.config, asked.has_no_config);
     let mut sources = Sources::new(alloc, host, search, Layer::empty(), Style::Plain)?;
-    let found = sources.settings_for(alloc, host, shown)?;
+    let found = sources.settings_for(alloc, host, asked.shown(file))?;
     Ok(found.settings.toml.value)
 }
 
@@ -156,8 +161,7 @@ fn perform(
     asked: &Arguments<'_>,
     host: &mut Host,
 ) -> Result<Answer, AllocError> {
-    let name = asked.shown(file);
-    let version = match version_of(alloc, name, asked, host) {
+    let version = match version_of(alloc, file, asked, host) {
         Ok(version) => version,
         Err(stop) => return stopped(alloc, stop),
     };
@@ -165,7 +169,7 @@ fn perform(
         is_string: asked.is_string,
         replaces_tables: asked.replaces_tables,
         version,
-        name,
+        name: asked.shown(file),
     };
     if is_shown(file, asked.show) {
         show(alloc, file, changes, asked, way, host)

@@ -8,11 +8,12 @@ use std::borrow::CowStr;
 use std::fmt::Write;
 use toml_span::Stop;
 use toml_span_check::encoding::{not_utf8, not_utf8_text};
+use toml_span_check::every::check;
 use toml_span_check::newer::{Version, version_reports, with_older_forms};
 use toml_span_edit::{
     Change, Edit, EditError, Edits, Reason, path_segments, segment_names, string_text,
 };
-use toml_span_report::line_column;
+use toml_span_report::{Report, line_column};
 
 /// The text before a value that makes it a document.
 const PROBE: &str = "v = ";
@@ -201,19 +202,58 @@ fn sets_table(list: &[Prepared<'_>], error: &EditError) -> bool {
     }
 }
 
-/// Returns why an edit in `list` was refused. If there are several edits, the message begins with the number of the
-/// edit.
+/// Returns the offset at which the first primary label of a report begins, or 0 if there is none.
+fn main_start(report: &Report) -> usize {
+    for label in &report.labels {
+        if label.primary {
+            return label.span.start;
+        }
+    }
+    0
+}
+
+/// Returns that a text is not valid TOML, with its first error as `check` reports it.
+fn invalid(alloc: Global, text: &str) -> Result<String, AllocError> {
+    let mut message = String::from_str(alloc, "the file is not valid TOML")?;
+    if let Some(report) = check(alloc, text)?.first() {
+        let (line, column) = line_column(text, main_start(report));
+        write!(message, ": {line}:{column}: {}", report.message)?;
+    }
+    Ok(message)
+}
+
+/// Returns whether the message about the edit that was refused with `error` names its path: unless it is about the new
+/// value, or may be about the new name or the target.
+fn names_path(list: &[Prepared<'_>], error: &EditError) -> bool {
+    match (&error.reason, list.get(error.edit)) {
+        (Reason::Nothing, _) => true,
+        (Reason::NoValue(_), _) => false,
+        (_, Some(prepared)) => !matches!(prepared.action, Action::Move(_) | Action::Rename(_)),
+        (_, None) => false,
+    }
+}
+
+/// Returns why an edit of `text` in `list` was refused. If there are several edits, the message begins with the number
+/// of the edit.
 fn refusal_of(
     alloc: Global,
+    text: &str,
     list: &[Prepared<'_>],
     error: &EditError,
 ) -> Result<Refusal, AllocError> {
     let mut message = String::new(alloc);
-    if list.len() > 1 {
-        write!(message, "edit {}: ", error.edit.saturating_add(1))?;
+    if matches!(error.reason, Reason::InvalidDocument(_)) {
+        message = invalid(alloc, text)?;
+    } else {
+        if list.len() > 1 {
+            write!(message, "edit {}: ", error.edit.saturating_add(1))?;
+        }
+        if names_path(list, error) {
+            write!(message, "{error}")?;
+        } else {
+            write!(message, "{}", error.reason)?;
+        }
     }
-    message.push_str(error.reason.text())?;
-    message.push_str(error.reason.detail())?;
     Ok(Refusal {
         message,
         is_table: sets_table(list, error),
@@ -235,7 +275,7 @@ fn made(
             Err(stop) => stop.fault()?,
         };
         if !replaces_tables || !sets_table(list.as_slice(), &error) {
-            return Err(Stop::Fault(refusal_of(alloc, list.as_slice(), &error)?));
+            return Err(Stop::Fault(refusal_of(alloc, text, list.as_slice(), &error)?));
         }
         if let Some(prepared) = list.as_mut_slice().get_mut(error.edit) {
             prepared.is_forced = true;
@@ -245,7 +285,7 @@ fn made(
         Ok(new) => Ok(new),
         Err(stop) => {
             let error = stop.fault()?;
-            Err(Stop::Fault(refusal_of(alloc, list.as_slice(), &error)?))
+            Err(Stop::Fault(refusal_of(alloc, text, list.as_slice(), &error)?))
         }
     }
 }
