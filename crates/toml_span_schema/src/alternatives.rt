@@ -100,7 +100,7 @@ impl Schema {
         }
         tried.is_unlisted &= is_unlisted;
         tried.count = tried.count.saturating_add(1);
-        match self.distance(walk.alloc, found.as_slice(), level, node, part) {
+        match self.distance(found.as_slice(), level, node, part) {
             Ok(distance) => {
                 if distance < tried.least {
                     tried.least = distance;
@@ -145,19 +145,18 @@ impl Schema {
     /// alternative knows, and then missing and unknown keys.
     fn distance<'s>(
         &'s self,
-        alloc: Global,
         found: &[Violation<'s, '_, '_>],
         level: usize,
         node: usize,
         part: Part<'_, '_>,
     ) -> Result<usize, AllocError> {
-        let mut sum = if self.shares_key(alloc, node, part)? {
+        let mut sum = if self.shares_key(node, part)? {
             0usize
         } else {
             50
         };
         for one in found {
-            let is_meant = self.meant(alloc, one)?.is_some();
+            let is_meant = self.meant(one)?.is_some();
             let weight = match (
                 &one.at.placed.keyword,
                 one.cause,
@@ -179,14 +178,13 @@ impl Schema {
     /// Returns whether a value is not a table, or has a key of `properties` in the schema at index `node`.
     fn shares_key(
         &self,
-        alloc: Global,
         node: usize,
         part: Part<'_, '_>,
     ) -> Result<bool, AllocError> {
         let Some(table) = part.value().as_table() else {
             return Ok(true);
         };
-        for known in self.known_keys(alloc, &[node])? {
+        for known in self.known_keys(&[node])? {
             for (key, _value) in table.iter() {
                 if key.name.as_ref() == known {
                     return Ok(true);

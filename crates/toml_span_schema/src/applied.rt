@@ -20,7 +20,6 @@ use toml_span_tree::{Table, Value, ValueInner};
 /// Returns whether the regular expression at position `pattern` in `schema.patterns` matches somewhere in a text, or
 /// false if `pattern` is out of range.
 pub(crate) fn matches(
-    alloc: Global,
     schema: &Schema,
     pattern: usize,
     text: &str,
@@ -29,7 +28,7 @@ pub(crate) fn matches(
 {
     match schema.patterns.get(pattern) {
         Some(regex) => {
-            let mut matcher = regex.matcher(alloc)?;
+            let mut matcher = regex.matcher(schema.alloc())?;
             Ok(matcher.is_match(text))
         }
         None => Ok(false),
@@ -39,7 +38,6 @@ pub(crate) fn matches(
 /// Appends the subschemas of `patternProperties` whose regular expressions match `name`. `matching` pairs the position
 /// of each regular expression with the index of its subschema.
 fn push_matching(
-    alloc: Global,
     schema: &Schema,
     list: &mut Vec<usize>,
     matching: &[(usize, usize)],
@@ -48,7 +46,7 @@ fn push_matching(
     ensures { OnOk result (list.new.items ≡ list.old.items ++ matching_for schema.now matching.now name.now) }
 {
     for property in matching {
-        if matches(alloc, schema, property.0, name)? {
+        if matches(schema, property.0, name)? {
             list.push(property.1)?;
         }
     }
@@ -59,7 +57,6 @@ fn push_matching(
 /// (`patternProperties`) whose regular expressions match. If neither has one for `name`, returns `rest`
 /// (`additionalProperties`) or, without `rest`, an empty list.
 fn for_entry(
-    alloc: Global,
     schema: &Schema,
     named: &BTreeMap<String, usize>,
     matching: &[(usize, usize)],
@@ -69,11 +66,11 @@ fn for_entry(
     ensures { IfOk result (λ list. list.items ≡ otherwise
         (option_to_list (get_by_text named.now name.now) ++ matching_for schema.now matching.now name.now) rest) }
 {
-    let mut list = Vec::new(alloc);
+    let mut list = Vec::new(schema.alloc());
     if let Some(own) = named.get(name) {
         list.push(*own)?;
     }
-    push_matching(alloc, schema, &mut list, matching, name)?;
+    push_matching(schema, &mut list, matching, name)?;
     if list.is_empty() {
         if let Some(rest) = rest {
             list.push(rest)?;
@@ -108,20 +105,20 @@ fn for_element(
 /// is empty for all other pairs of a keyword and a part.
 #[tactic(auto, unfolding(crate::specs::Applied::schemas_for))]
 pub(crate) fn schemas_for(
-    alloc: Global,
     schema: &Schema,
     keyword: &Keyword,
     part: Part<'_, '_>,
 ) -> Result<Vec<usize>, AllocError>
     ensures { IfOk result (λ list. list.items ≡ schemas_for schema.now keyword.now (part_of part.entry)) }
 {
+    let alloc = schema.alloc();
     match (keyword, part) {
         (Keyword::Items(prefix, rest), Part::Element(at, _)) => {
             for_element(alloc, prefix.as_slice(), *rest, at)
         }
         (Keyword::Properties(named, matching, rest), Part::Member(key, _)) => {
             let name = key.name.as_ref();
-            for_entry(alloc, schema, named, matching.as_slice(), *rest, name)
+            for_entry(schema, named, matching.as_slice(), *rest, name)
         }
         _ => Ok(Vec::new(alloc)),
     }
@@ -186,7 +183,7 @@ fn push_inside<'v, 'de>(
 {
     let alloc = *list.allocator();
     for part in parts {
-        let nodes = schemas_for(alloc, schema, keyword, *part)?;
+        let nodes = schemas_for(schema, keyword, *part)?;
         push_each(list, nodes.as_slice(), *part)?;
     }
     Ok(())
@@ -197,13 +194,13 @@ fn push_inside<'v, 'de>(
 /// keywords without subschemas.
 #[tactic(auto, unfolding(crate::specs::Applied::applied))]
 pub(crate) fn applied<'v, 'de>(
-    alloc: Global,
     schema: &Schema,
     keyword: &Keyword,
     part: Part<'v, 'de>,
 ) -> Result<Vec<(usize, Part<'v, 'de>)>, AllocError>
     ensures { IfOk result (λ list. map applied_of list.items ≡ applied schema.now keyword.now (part_of part.entry)) }
 {
+    let alloc = schema.alloc();
     let mut list = Vec::new(alloc);
     match keyword {
         Keyword::AllOf(nodes) | Keyword::AnyOf(nodes) | Keyword::OneOf(nodes) => {

@@ -101,7 +101,6 @@ fn characters(text: &str) -> u64
 /// format `regex`, fails with `TooLong` if the string is a regular expression that is too large or nests too deep.
 #[tactic(auto, unfolding(crate::specs::Asserted::allows_text))]
 fn allows_text(
-    alloc: Global,
     schema: &Schema,
     keyword: &Keyword,
     text: &str,
@@ -111,15 +110,15 @@ fn allows_text(
     match keyword {
         Keyword::MinLength(least) => Ok(*least <= characters(text)),
         Keyword::MaxLength(most) => Ok(characters(text) <= *most),
-        Keyword::Pattern(pattern) => Ok(matches(alloc, schema, *pattern, text)?),
+        Keyword::Pattern(pattern) => Ok(matches(schema, *pattern, text)?),
         Keyword::Format(pattern, most, leap) => {
             if !schema.formats {
                 return Ok(true);
             }
-            let matched = matches(alloc, schema, *pattern, text)?;
+            let matched = matches(schema, *pattern, text)?;
             Ok(matched && characters(text) <= *most && (!*leap || fits_leap_second(text)))
         }
-        Keyword::RegexFormat => Ok(!schema.formats || is_pattern(alloc, text)?),
+        Keyword::RegexFormat => Ok(!schema.formats || is_pattern(schema.alloc(), text)?),
         _ => Ok(true),
     }
 }
@@ -184,13 +183,13 @@ fn allows_table(keyword: &Keyword, value: &Value<'_>, count: usize) -> bool
 /// string that must have the format `regex` is too large a regular expression or nests too deep.
 #[tactic(auto, unfolding(crate::specs::Asserted::allows_simple))]
 pub(crate) fn allows_simple(
-    alloc: Global,
     schema: &Schema,
     keyword: &Keyword,
     value: &Value<'_>,
 ) -> Result<bool, CheckError>
     ensures { IfOk result (λ r. r ≡ allows_simple schema.now keyword.now (view value.now)) }
 {
+    let alloc = schema.alloc();
     match keyword {
         Keyword::Never => Ok(false),
         Keyword::Type(types) => Ok(has_type(alloc, *types, value)?),
@@ -198,7 +197,7 @@ pub(crate) fn allows_simple(
             let text = canonical(alloc, value)?;
             Ok(values.contains(text.as_str()))
         }
-        _ => allows_kind(alloc, schema, keyword, value),
+        _ => allows_kind(schema, keyword, value),
     }
 }
 
@@ -206,21 +205,21 @@ pub(crate) fn allows_simple(
 /// Fails like `allows_simple`.
 #[tactic(auto, unfolding(crate::specs::Asserted::allows_kind))]
 fn allows_kind(
-    alloc: Global,
     schema: &Schema,
     keyword: &Keyword,
     value: &Value<'_>,
 ) -> Result<bool, CheckError>
     ensures { IfOk result (λ r. r ≡ allows_kind schema.now keyword.now (view value.now) (inner_of (view value.now))) }
 {
+    let alloc = schema.alloc();
     if value.is_taken() {
         return Ok(true);
     }
     match value.as_ref() {
-        ValueInner::String(text) => allows_text(alloc, schema, keyword, text.as_ref()),
+        ValueInner::String(text) => allows_text(schema, keyword, text.as_ref()),
         ValueInner::Datetime(date) => {
             let text = rfc3339(alloc, date.text())?;
-            allows_text(alloc, schema, keyword, text.as_str())
+            allows_text(schema, keyword, text.as_str())
         }
         ValueInner::Array(array) => allows_items(alloc, keyword, array.as_slice()),
         ValueInner::Table(table) => Ok(allows_table(keyword, value, table.len())),

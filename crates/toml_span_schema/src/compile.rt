@@ -13,7 +13,7 @@ use crate::formats::expanded;
 use crate::guide::Guide;
 use crate::keyword::{Node, Placed};
 use crate::notes::{Notes, read_notes};
-use crate::pointers::{push_step, with_step};
+use crate::pointers::with_step;
 use crate::schema::Schema;
 use crate::sources::{
     Dialect, Draft, MOST_SCHEMAS, Resource, Source, Sources, decoded, joined, push_flaw, too_many,
@@ -156,7 +156,7 @@ pub(crate) fn compile(
     let made = compile_all(alloc, &values, documents.as_slice(), names_root);
     drop(values);
     let guide = made?;
-    ensure_compiled(alloc, root.text, &guide.schema)?;
+    ensure_compiled(root.text, &guide.schema)?;
     Ok(guide)
 }
 
@@ -366,14 +366,13 @@ impl<'v, 'a> Compiler<'v, 'a> {
         pointer: &str,
         outer: usize,
     ) -> Result<Option<usize>, SchemaError> {
-        let Some(value) = self.sources.value_at(self.alloc, source, pointer)? else {
+        let Some(value) = self.sources.value_at(source, pointer)? else {
             return Ok(None);
         };
         let known = self.tasks.len();
         let node = self.node(value, source, pointer, outer, false)?;
         if node == known {
-            self.sources
-                .read_hidden(self.alloc, source, pointer, value)?;
+            self.sources.read_hidden(source, pointer, value)?;
         }
         Ok(Some(node))
     }
@@ -405,13 +404,10 @@ impl<'v, 'a> Compiler<'v, 'a> {
         message: &str,
         is_error: bool,
     ) -> Result<(), AllocError> {
-        let mut place = String::from_str(self.alloc, site.pointer.as_str())?;
-        for step in steps {
-            push_step(&mut place, *step)?;
-        }
+        let pointer = site.pointer.as_str();
         let flaw = self
             .sources
-            .flaw(self.alloc, site.source, place.as_str(), message)?;
+            .flaw(site.source, pointer, steps, message)?;
         if is_error {
             push_flaw(&mut self.sources.errors, flaw)
         } else {
@@ -568,11 +564,11 @@ impl<'v, 'a> Compiler<'v, 'a> {
         address: &str,
     ) -> Result<(), AllocError> {
         let alloc = self.alloc;
-        let place = with_step(alloc, site.pointer.as_str(), keyword)?;
+        let pointer = site.pointer.as_str();
         let message = format!(in alloc; "there is no `{reference}`")?;
         let mut flaw = self
             .sources
-            .flaw(alloc, site.source, place.as_str(), message.as_str())?;
+            .flaw(site.source, pointer, &[keyword], message.as_str())?;
         if self.sources.find(without_fragment(address)).is_none() {
             flaw.missing.push_str(address)?;
         }

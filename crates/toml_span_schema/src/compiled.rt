@@ -521,9 +521,10 @@ impl Schema {
 
 /// Fails with `Internal` if a schema lacks a keyword or a value of its JSON text, which is a bug. Fails with
 /// `OutOfMemory` if an allocation fails.
-pub(crate) fn ensure_compiled(alloc: Global, text: &str, schema: &Schema) -> Result<(), SchemaError>
+pub(crate) fn ensure_compiled( text: &str, schema: &Schema) -> Result<(), SchemaError>
     ensures { OnOk result (IsCompiled text.now schema.now) }
 {
+    let alloc = schema.alloc();
     let mut scratch = Scratch::new(alloc);
     let value = match Json::parse(alloc, text, &mut scratch) {
         Ok(value) => value,

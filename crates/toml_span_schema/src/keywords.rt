@@ -122,23 +122,13 @@ pub(crate) fn want_of(name: &str, draft: Draft) -> Option<Want> {
 }
 
 /// Returns whether a word is among `words`, which spaces separate.
-fn has_word(words: &str, word: &str) -> bool {
-    for other in words.split(' ') {
-        if other == word {
-            return true;
-        }
-    }
-    false
+pub(crate) fn has_word(words: &str, word: &str) -> bool {
+    words.split(' ').any(|other| other == word)
 }
 
 /// Returns whether a schema of any draft has the keyword `name`.
 pub(crate) fn is_keyword(name: &str) -> bool {
-    for row in KEYWORDS.iter() {
-        if has_word(row.0, name) {
-            return true;
-        }
-    }
-    false
+    KEYWORDS.iter().any(|row| has_word(row.0, name))
 }
 
 /// Returns what a value must be, if `want` leaves the choice between an array and another value.

@@ -409,12 +409,11 @@ impl Schema {
     /// Returns the types that a violation's keyword or alternatives name, and the constants.
     pub(crate) fn listed<'s>(
         &'s self,
-        alloc: Global,
         violation: &Violation<'s, '_, '_>,
     ) -> Result<Listed<'s>, AllocError> {
         let mut listed: Listed<'s> = Listed {
             types: Types::NONE,
-            constants: Vec::new(alloc),
+            constants: Vec::new(self.alloc()),
             is_refused: false,
         };
         match (&violation.at.placed.keyword, violation.cause) {
@@ -505,13 +504,12 @@ impl Schema {
     /// Fails like `is_valid`.
     fn refusing(
         &self,
-        alloc: Global,
         node: usize,
         value: &Value<'_>,
     ) -> Result<Option<&Placed>, CheckError> {
         let mut left = MOST_APPLIED;
         for placed in self.keywords(node) {
-            if !self.allows(alloc, &mut left, MOST_NESTED, &placed.keyword, value)? {
+            if !self.allows(&mut left, MOST_NESTED, &placed.keyword, value)? {
                 return Ok(Some(placed));
             }
         }
@@ -521,7 +519,6 @@ impl Schema {
     /// Appends the message on a violation. Fails like `is_valid`.
     pub(crate) fn push_message(
         &self,
-        alloc: Global,
         out: &mut Text,
         violation: &Violation<'_, '_, '_>,
         listed: &Listed<'_>,
@@ -536,7 +533,7 @@ impl Schema {
         let name = key.name.as_ref();
         let value = Value::with_span(ValueInner::String(CowStr::Borrowed(name)), key.span);
         out.push_all("key `", name, "` is not allowed");
-        if let Some(placed) = self.refusing(alloc, *node, &value)? {
+        if let Some(placed) = self.refusing(*node, &value)? {
             out.push(": ");
             self.push_keyword(out, placed, Cause::Refused, &value);
         }
@@ -618,11 +615,11 @@ impl Schema {
     /// around a number or boolean, or a table instead of an array of tables.
     pub(crate) fn push_help(
         &self,
-        alloc: Global,
         out: &mut Text,
         violation: &Violation<'_, '_, '_>,
         listed: &Listed<'_>,
     ) -> Result<(), AllocError> {
+        let alloc = self.alloc();
         if let Cause::Missing(name) = violation.cause {
             self.push_addition(out, violation.at.node, name);
         }

@@ -305,7 +305,7 @@ impl<'v, 'a> Compiler<'v, 'a> {
             other => {
                 let place = site.pointer.as_str();
                 self.sources
-                    .refuse_value(alloc, site.source, place, Want::Schema, other)?;
+                    .refuse_value(site.source, place, Want::Schema, other)?;
             }
         }
         let title = match text_of(site.value, "title") {

@@ -51,6 +51,11 @@ impl Schema {
         self.formats = on;
     }
 
+    /// Returns the allocator of the schema.
+    pub(crate) fn alloc(&self) -> Global {
+        *self.nodes.allocator()
+    }
+
     /// Returns the keywords of the schema at index `node`, or an empty slice if `node` is out of range.
     pub(crate) fn keywords(&self, node: usize) -> &[Placed]
         ensures { result.now ≡ keywords self.now node }

@@ -146,7 +146,7 @@ impl Guide {
     ) -> Result<Subschemas, AllocError> {
         let mut nodes = Indices::new(alloc);
         nodes.push(0);
-        self.schema.with_applied(alloc, nodes, value)
+        self.schema.with_applied(nodes, value)
     }
 
     /// Returns the subschemas that apply to an entry or element. `outer` has the subschemas of the table or array
@@ -174,11 +174,11 @@ impl Guide {
             Step::Key(_) => Part::Member(&key, &any),
             Step::Position(at) => Part::Element(at, &any),
         };
-        self.schema.push_inside(alloc, outer, part, &mut nodes)?;
+        self.schema.push_inside(outer, part, &mut nodes)?;
         if nodes.list.is_empty() {
             self.schema.push_unevaluated(outer, part, &mut nodes);
         }
-        self.schema.with_applied(alloc, nodes, value)
+        self.schema.with_applied(nodes, value)
     }
 
     /// Returns the notes of each of the subschemas. Fails if an allocation fails.
@@ -202,7 +202,7 @@ impl Guide {
         alloc: Global,
         subschemas: &Subschemas,
     ) -> Result<Vec<&'s str>, AllocError> {
-        let mut keys = self.schema.keys_in(alloc, subschemas.nodes.as_slice())?;
+        let mut keys = self.schema.keys_in(subschemas.nodes.as_slice())?;
         keys.sort()?;
         keys.dedup();
         Ok(keys)
@@ -249,8 +249,8 @@ impl Guide {
 
 impl Schema {
     /// Returns the keys in `properties` of the schemas at the indices `nodes`.
-    fn keys_in<'s>(&'s self, alloc: Global, nodes: &[usize]) -> Result<Vec<&'s str>, AllocError> {
-        let mut keys: Vec<&'s str> = Vec::new(alloc);
+    fn keys_in<'s>(&'s self, nodes: &[usize]) -> Result<Vec<&'s str>, AllocError> {
+        let mut keys: Vec<&'s str> = Vec::new(self.alloc());
         for node in nodes {
             for placed in self.keywords(*node) {
                 if let Keyword::Properties(named, _, _) = &placed.keyword {
@@ -267,9 +267,9 @@ impl Schema {
     /// to the same value.
     pub(crate) fn known_keys<'s>(
         &'s self,
-        alloc: Global,
         nodes: &[usize],
     ) -> Result<Vec<&'s str>, AllocError> {
+        let alloc = self.alloc();
         let mut all = Indices::new(alloc);
         all.push_all(nodes);
         for at in 0..MOST_SUBSCHEMAS {
@@ -282,14 +282,13 @@ impl Schema {
             }
         }
         let all = all.finish()?;
-        self.keys_in(alloc, all.as_slice())
+        self.keys_in(all.as_slice())
     }
 
     /// Returns the schemas at the indices `nodes`, and the schemas that they apply to the same value, such as those in
     /// `allOf`. Returns at most `MOST_SUBSCHEMAS` schemas. `value` is as for `subschemas`.
     fn with_applied(
         &self,
-        alloc: Global,
         mut nodes: Indices,
         value: Option<&Value<'_>>,
     ) -> Result<Subschemas, AllocError> {
@@ -299,7 +298,7 @@ impl Schema {
                 break;
             };
             for placed in self.keywords(node) {
-                self.push_applied(alloc, &mut left, &placed.keyword, value, &mut nodes);
+                self.push_applied(&mut left, &placed.keyword, value, &mut nodes);
             }
         }
         let nodes = nodes.finish()?;
@@ -311,7 +310,6 @@ impl Schema {
     /// both if `value` is `None`.
     fn push_applied(
         &self,
-        alloc: Global,
         left: &mut u64,
         keyword: &Keyword,
         value: Option<&Value<'_>>,
@@ -320,12 +318,12 @@ impl Schema {
         match keyword {
             Keyword::AllOf(list) => push_all(nodes, list.as_slice()),
             Keyword::AnyOf(list) | Keyword::OneOf(list) => {
-                self.push_fitting(alloc, left, list.as_slice(), value, nodes);
+                self.push_fitting(left, list.as_slice(), value, nodes);
             }
             Keyword::If(condition, yes, no) => {
                 let mut holds = true;
                 if let Some(value) = value {
-                    let found = self.is_valid(alloc, left, self.depth, *condition, value);
+                    let found = self.is_valid(left, self.depth, *condition, value);
                     holds = verdict(nodes, found);
                 }
                 if holds {
@@ -352,7 +350,6 @@ impl Schema {
     /// the limits. Appends the whole `list` if `may_fit` rejects the value for all of them, or if `value` is `None`.
     fn push_fitting(
         &self,
-        alloc: Global,
         left: &mut u64,
         list: &[usize],
         value: Option<&Value<'_>>,
@@ -361,7 +358,7 @@ impl Schema {
         let mut is_any = false;
         if let Some(value) = value {
             for node in list {
-                let found = self.may_fit(alloc, left, *node, value);
+                let found = self.may_fit(left, *node, value);
                 if verdict(nodes, found) {
                     push_node(nodes, *node);
                     is_any = true;
@@ -377,14 +374,13 @@ impl Schema {
     /// entry or element (see `schemas_for`).
     fn push_inside(
         &self,
-        alloc: Global,
         outer: &Subschemas,
         part: Part<'_, '_>,
         nodes: &mut Indices,
     ) -> Result<(), AllocError> {
         for node in outer.nodes.as_slice() {
             for placed in self.keywords(*node) {
-                let found = schemas_for(alloc, self, &placed.keyword, part)?;
+                let found = schemas_for(self, &placed.keyword, part)?;
                 push_all(nodes, found.as_slice());
             }
         }
@@ -411,12 +407,11 @@ impl Schema {
     /// type, constant or key is wrong. Fails like `is_valid`.
     fn may_fit<'s, 'v, 'de>(
         &'s self,
-        alloc: Global,
         left: &mut u64,
         node: usize,
         value: &'v Value<'de>,
     ) -> Result<bool, CheckError> {
-        let walk = self.walked(alloc, left, node, value)?;
+        let walk = self.walked(left, node, value)?;
         for one in walk.violations.as_slice() {
             if one.is_unlisted() || one.is_never() {
                 return Ok(false);

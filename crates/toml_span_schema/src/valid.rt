@@ -45,7 +45,6 @@ impl Schema {
     #[cycle(valid)]
     pub(crate) fn is_valid(
         &self,
-        alloc: Global,
         left: &mut u64,
         depth: usize,
         node: usize,
@@ -58,7 +57,7 @@ impl Schema {
             return Err(CheckError::TooDeep);
         }
         for placed in self.keywords(node) {
-            if !self.allows(alloc, left, depth - 1, &placed.keyword, value)? {
+            if !self.allows(left, depth - 1, &placed.keyword, value)? {
                 return Ok(false);
             }
         }
@@ -70,7 +69,6 @@ impl Schema {
     #[tactic(auto, unfolding(crate::specs::Valid::allows))]
     pub(crate) fn allows(
         &self,
-        alloc: Global,
         left: &mut u64,
         depth: usize,
         keyword: &Keyword,
@@ -83,27 +81,27 @@ impl Schema {
             | Keyword::DependentSchemas(_)
             | Keyword::Items(_, _)
             | Keyword::Properties(_, _, _) => {
-                let list = applied(alloc, self, keyword, Part::Whole(value))?;
-                self.all_valid(alloc, left, depth, list.as_slice())
+                let list = applied(self, keyword, Part::Whole(value))?;
+                self.all_valid(left, depth, list.as_slice())
             }
             Keyword::AnyOf(_) => {
-                let list = applied(alloc, self, keyword, Part::Whole(value))?;
-                self.any_valid(alloc, left, depth, list.as_slice())
+                let list = applied(self, keyword, Part::Whole(value))?;
+                self.any_valid(left, depth, list.as_slice())
             }
             Keyword::OneOf(_) => {
-                let list = applied(alloc, self, keyword, Part::Whole(value))?;
-                let count = self.count_valid(alloc, left, depth, list.as_slice())?;
+                let list = applied(self, keyword, Part::Whole(value))?;
+                let count = self.count_valid(left, depth, list.as_slice())?;
                 Ok(count == 1)
             }
-            Keyword::Not(node) => Ok(!self.is_valid(alloc, left, depth, *node, value)?),
+            Keyword::Not(node) => Ok(!self.is_valid(left, depth, *node, value)?),
             Keyword::If(condition, yes, no) => {
-                if self.is_valid(alloc, left, depth, *condition, value)? {
-                    self.maybe_allows(alloc, left, depth, *yes, value)
+                if self.is_valid(left, depth, *condition, value)? {
+                    self.maybe_allows(left, depth, *yes, value)
                 } else {
-                    self.maybe_allows(alloc, left, depth, *no, value)
+                    self.maybe_allows(left, depth, *no, value)
                 }
             }
-            _ => self.allows_other(alloc, left, depth, keyword, value),
+            _ => self.allows_other(left, depth, keyword, value),
         }
     }
 
@@ -113,7 +111,6 @@ impl Schema {
     #[tactic(auto, unfolding(crate::specs::Valid::allows_other))]
     fn allows_other(
         &self,
-        alloc: Global,
         left: &mut u64,
         depth: usize,
         keyword: &Keyword,
@@ -124,20 +121,20 @@ impl Schema {
     {
         match keyword {
             Keyword::PropertyNames(node) => {
-                let names = names(alloc, value)?;
-                self.allows_each(alloc, left, depth, *node, names.as_slice())
+                let names = names(self.alloc(), value)?;
+                self.allows_each(left, depth, *node, names.as_slice())
             }
             Keyword::Contains(_, least, most, _) => {
-                let list = applied(alloc, self, keyword, Part::Whole(value))?;
-                self.contains_enough(alloc, left, depth, list.as_slice(), (*least, *most), value)
+                let list = applied(self, keyword, Part::Whole(value))?;
+                self.contains_enough(left, depth, list.as_slice(), (*least, *most), value)
             }
             Keyword::UnevaluatedItems(others, node) => {
-                self.allows_unevaluated(alloc, left, depth, false, (*others, *node), value)
+                self.allows_unevaluated(left, depth, false, (*others, *node), value)
             }
             Keyword::UnevaluatedProperties(others, node) => {
-                self.allows_unevaluated(alloc, left, depth, true, (*others, *node), value)
+                self.allows_unevaluated(left, depth, true, (*others, *node), value)
             }
-            _ => allows_simple(alloc, self, keyword, value),
+            _ => allows_simple(self, keyword, value),
         }
     }
 
@@ -145,7 +142,6 @@ impl Schema {
     #[cycle(valid)]
     fn all_valid(
         &self,
-        alloc: Global,
         left: &mut u64,
         depth: usize,
         list: &[(usize, Part<'_, '_>)],
@@ -153,7 +149,7 @@ impl Schema {
         ensures { IfOk result (λ r. every (passes (judged self.now depth)) (map applied_of list.now) ≡ Some r) }
     {
         for pair in list {
-            if !self.is_valid(alloc, left, depth, pair.0, pair.1.value())? {
+            if !self.is_valid(left, depth, pair.0, pair.1.value())? {
                 return Ok(false);
             }
         }
@@ -164,7 +160,6 @@ impl Schema {
     #[cycle(valid)]
     fn any_valid(
         &self,
-        alloc: Global,
         left: &mut u64,
         depth: usize,
         list: &[(usize, Part<'_, '_>)],
@@ -172,7 +167,7 @@ impl Schema {
         ensures { IfOk result (λ r. any (passes (judged self.now depth)) (map applied_of list.now) ≡ Some r) }
     {
         for pair in list {
-            if self.is_valid(alloc, left, depth, pair.0, pair.1.value())? {
+            if self.is_valid(left, depth, pair.0, pair.1.value())? {
                 return Ok(true);
             }
         }
@@ -183,7 +178,6 @@ impl Schema {
     #[cycle(valid)]
     pub(crate) fn count_valid(
         &self,
-        alloc: Global,
         left: &mut u64,
         depth: usize,
         list: &[(usize, Part<'_, '_>)],
@@ -192,7 +186,7 @@ impl Schema {
     {
         let mut count = 0usize;
         for pair in list {
-            if self.is_valid(alloc, left, depth, pair.0, pair.1.value())? {
+            if self.is_valid(left, depth, pair.0, pair.1.value())? {
                 count += 1;
             }
         }
@@ -204,7 +198,6 @@ impl Schema {
     #[cycle(valid)]
     fn maybe_allows(
         &self,
-        alloc: Global,
         left: &mut u64,
         depth: usize,
         node: Option<usize>,
@@ -214,7 +207,7 @@ impl Schema {
             optional (λ k. (judged self.now depth).valid k (view value.now)) (Some true) node ≡ Some r) }
     {
         match node {
-            Some(node) => self.is_valid(alloc, left, depth, node, value),
+            Some(node) => self.is_valid(left, depth, node, value),
             None => Ok(true),
         }
     }
@@ -223,7 +216,6 @@ impl Schema {
     #[cycle(valid)]
     fn allows_each(
         &self,
-        alloc: Global,
         left: &mut u64,
         depth: usize,
         node: usize,
@@ -232,7 +224,7 @@ impl Schema {
         ensures { IfOk result (λ r. every (λ n. (judged self.now depth).valid node n) (map view values.now) ≡ Some r) }
     {
         for value in values {
-            if !self.is_valid(alloc, left, depth, node, value)? {
+            if !self.is_valid(left, depth, node, value)? {
                 return Ok(false);
             }
         }
@@ -245,7 +237,6 @@ impl Schema {
     #[cycle(valid)]
     fn contains_enough(
         &self,
-        alloc: Global,
         left: &mut u64,
         depth: usize,
         list: &[(usize, Part<'_, '_>)],
@@ -260,7 +251,7 @@ impl Schema {
         }
         match value.as_ref() {
             ValueInner::Array(_) => {
-                let count = self.count_valid(alloc, left, depth, list)?;
+                let count = self.count_valid(left, depth, list)?;
                 Ok(is_between(bounds.0, count as u64, bounds.1))
             }
             _ => Ok(true),
@@ -273,7 +264,6 @@ impl Schema {
     #[cycle(valid)]
     fn allows_unevaluated(
         &self,
-        alloc: Global,
         left: &mut u64,
         depth: usize,
         entries: bool,
@@ -283,11 +273,12 @@ impl Schema {
         ensures { IfOk result (λ r.
             unevaluated_allow (judged self.now depth) entries nodes.0 nodes.1 (view value.now) ≡ Some r) }
     {
+        let alloc = self.alloc();
         let parts = parts_of_kind(alloc, value, entries)?;
-        let rest = self.unevaluated(alloc, left, depth, nodes.0, value, parts.as_slice())?;
+        let rest = self.unevaluated(left, depth, nodes.0, value, parts.as_slice())?;
         let mut list = Vec::new(alloc);
         push_to_each(&mut list, nodes.1, rest.as_slice())?;
-        Ok(self.all_valid(alloc, left, depth, list.as_slice())?)
+        Ok(self.all_valid(left, depth, list.as_slice())?)
     }
 
     /// Returns those of `parts`, entries or elements of `value`, that the schema at index `node` does not evaluate.
@@ -295,7 +286,6 @@ impl Schema {
     #[cycle(valid)]
     pub(crate) fn unevaluated<'v, 'de>(
         &self,
-        alloc: Global,
         left: &mut u64,
         depth: usize,
         node: usize,
@@ -309,11 +299,9 @@ impl Schema {
         if depth == 0 {
             return Err(CheckError::TooDeep);
         }
-        let mut rest = Vec::from_slice(alloc, parts)?;
+        let mut rest = Vec::from_slice(self.alloc(), parts)?;
         for placed in self.keywords(node) {
-            rest = self.unreached(
-                alloc,
-                left,
+            rest = self.unreached(left,
                 depth - 1,
                 &placed.keyword,
                 value,
@@ -329,7 +317,6 @@ impl Schema {
     #[tactic(auto, unfolding(crate::specs::Valid::reaches))]
     fn unreached<'v, 'de>(
         &self,
-        alloc: Global,
         left: &mut u64,
         depth: usize,
         keyword: &Keyword,
@@ -344,23 +331,23 @@ impl Schema {
             | Keyword::AnyOf(_)
             | Keyword::OneOf(_)
             | Keyword::DependentSchemas(_) => {
-                let list = applied(alloc, self, keyword, Part::Whole(value))?;
-                Ok(self.uncovered(alloc, left, depth, list.as_slice(), parts)?)
+                let list = applied(self, keyword, Part::Whole(value))?;
+                Ok(self.uncovered(left, depth, list.as_slice(), parts)?)
             }
             Keyword::If(condition, yes, no) => {
-                if !self.is_valid(alloc, left, depth, *condition, value)? {
-                    return self.maybe_uncovered(alloc, left, depth, *no, value, parts);
+                if !self.is_valid(left, depth, *condition, value)? {
+                    return self.maybe_uncovered(left, depth, *no, value, parts);
                 }
-                let rest = self.unevaluated(alloc, left, depth, *condition, value, parts)?;
-                Ok(self.maybe_uncovered(alloc, left, depth, *yes, value, rest.as_slice())?)
+                let rest = self.unevaluated(left, depth, *condition, value, parts)?;
+                Ok(self.maybe_uncovered(left, depth, *yes, value, rest.as_slice())?)
             }
             Keyword::Contains(node, _, _, evaluates) => {
                 if *evaluates {
-                    return self.unmatched(alloc, left, depth, *node, parts);
+                    return self.unmatched(left, depth, *node, parts);
                 }
-                Ok(Vec::from_slice(alloc, parts)?)
+                Ok(Vec::from_slice(self.alloc(), parts)?)
             }
-            _ => Ok(simply_unreached(alloc, self, keyword, parts)?),
+            _ => Ok(simply_unreached(self, keyword, parts)?),
         }
     }
 
@@ -370,7 +357,6 @@ impl Schema {
     #[cycle(valid)]
     fn uncovered<'v, 'de>(
         &self,
-        alloc: Global,
         left: &mut u64,
         depth: usize,
         list: &[(usize, Part<'_, '_>)],
@@ -380,9 +366,9 @@ impl Schema {
             (λ p. any (covers (judged self.now depth) p) (map applied_of list.now))
             (map part_of parts.now) ≡ Some (map part_of rest.items)) }
     {
-        let mut rest = Vec::from_slice(alloc, parts)?;
+        let mut rest = Vec::from_slice(self.alloc(), parts)?;
         for pair in list {
-            rest = self.uncovered_by(alloc, left, depth, *pair, rest.as_slice())?;
+            rest = self.uncovered_by(left, depth, *pair, rest.as_slice())?;
         }
         Ok(rest)
     }
@@ -391,7 +377,6 @@ impl Schema {
     #[cycle(valid)]
     fn uncovered_by<'v, 'de>(
         &self,
-        alloc: Global,
         left: &mut u64,
         depth: usize,
         pair: (usize, Part<'_, '_>),
@@ -401,10 +386,10 @@ impl Schema {
             (map part_of parts.now) ≡ Some (map part_of rest.items)) }
     {
         let value = pair.1.value();
-        if self.is_valid(alloc, left, depth, pair.0, value)? {
-            self.unevaluated(alloc, left, depth, pair.0, value, parts)
+        if self.is_valid(left, depth, pair.0, value)? {
+            self.unevaluated(left, depth, pair.0, value, parts)
         } else {
-            Ok(Vec::from_slice(alloc, parts)?)
+            Ok(Vec::from_slice(self.alloc(), parts)?)
         }
     }
 
@@ -413,7 +398,6 @@ impl Schema {
     #[cycle(valid)]
     fn maybe_uncovered<'v, 'de>(
         &self,
-        alloc: Global,
         left: &mut u64,
         depth: usize,
         node: Option<usize>,
@@ -426,9 +410,9 @@ impl Schema {
     {
         match node {
             Some(node) => {
-                self.uncovered_by(alloc, left, depth, (node, Part::Whole(value)), parts)
+                self.uncovered_by(left, depth, (node, Part::Whole(value)), parts)
             }
-            None => Ok(Vec::from_slice(alloc, parts)?),
+            None => Ok(Vec::from_slice(self.alloc(), parts)?),
         }
     }
 
@@ -437,7 +421,6 @@ impl Schema {
     #[cycle(valid)]
     fn unmatched<'v, 'de>(
         &self,
-        alloc: Global,
         left: &mut u64,
         depth: usize,
         node: usize,
@@ -446,9 +429,9 @@ impl Schema {
         ensures { IfOk result (λ rest. refused (is_evaluated_element (judged self.now depth) node)
             (map part_of parts.now) ≡ Some (map part_of rest.items)) }
     {
-        let mut rest = Vec::new(alloc);
+        let mut rest = Vec::new(self.alloc());
         for part in parts {
-            if !self.element_is_valid(alloc, left, depth, node, *part)? {
+            if !self.element_is_valid(left, depth, node, *part)? {
                 rest.push(*part)?;
             }
         }
@@ -459,7 +442,6 @@ impl Schema {
     #[cycle(valid)]
     fn element_is_valid(
         &self,
-        alloc: Global,
         left: &mut u64,
         depth: usize,
         node: usize,
@@ -468,7 +450,7 @@ impl Schema {
         ensures { IfOk result (λ r. is_evaluated_element (judged self.now depth) node (part_of part.entry) ≡ Some r) }
     {
         match part {
-            Part::Element(_, element) => self.is_valid(alloc, left, depth, node, element),
+            Part::Element(_, element) => self.is_valid(left, depth, node, element),
             Part::Member(_, _) | Part::Whole(_) => Ok(false),
         }
     }
@@ -477,7 +459,6 @@ impl Schema {
 /// Returns whether a keyword that needs no verdicts evaluates `part`, an entry or element.
 #[tactic(auto, unfolding(crate::specs::Valid::reaches_simply))]
 fn reaches_simply(
-    alloc: Global,
     schema: &Schema,
     keyword: &Keyword,
     part: Part<'_, '_>,
@@ -486,7 +467,7 @@ fn reaches_simply(
 {
     match keyword {
         Keyword::Items(_, _) | Keyword::Properties(_, _, _) => {
-            Ok(!schemas_for(alloc, schema, keyword, part)?.is_empty())
+            Ok(!schemas_for(schema, keyword, part)?.is_empty())
         }
         Keyword::UnevaluatedItems(_, _) => Ok(!part.is_entry()),
         Keyword::UnevaluatedProperties(_, _) => Ok(part.is_entry()),
@@ -496,7 +477,6 @@ fn reaches_simply(
 
 /// Returns those of `parts` that a keyword does not evaluate. The keyword must be one that needs no verdicts.
 fn simply_unreached<'v, 'de>(
-    alloc: Global,
     schema: &Schema,
     keyword: &Keyword,
     parts: &[Part<'v, 'de>],
@@ -504,9 +484,9 @@ fn simply_unreached<'v, 'de>(
     ensures { IfOk result (λ rest. refused (λ p. Some (reaches_simply schema.now keyword.now p))
         (map part_of parts.now) ≡ Some (map part_of rest.items)) }
 {
-    let mut rest = Vec::new(alloc);
+    let mut rest = Vec::new(schema.alloc());
     for part in parts {
-        if !reaches_simply(alloc, schema, keyword, *part)? {
+        if !reaches_simply(schema, keyword, *part)? {
             rest.push(*part)?;
         }
     }
