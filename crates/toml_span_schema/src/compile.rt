@@ -6,17 +6,17 @@ ghost use Rattle.toml_span_schema.specs.Compiled.{IsCompiled};
 
 use crate::canonical::LEVELS;
 use crate::compiled::ensure_compiled;
-use crate::cycles::{Longest, longest_chain};
+use crate::cycles::longest_chain;
 use crate::documents::Document;
 use crate::error::SchemaError;
 use crate::formats::expanded;
 use crate::guide::Guide;
 use crate::keyword::{Node, Placed};
 use crate::notes::{Notes, read_notes};
-use crate::pointers::with_step;
+use crate::pointers::push_step;
 use crate::schema::Schema;
 use crate::sources::{
-    Dialect, Draft, MOST_SCHEMAS, Resource, Source, Sources, decoded, joined, push_flaw, too_many,
+    Dialect, MOST_SCHEMAS, Resource, Source, Sources, decoded, joined, push_flaw, too_many,
     without_fragment,
 };
 use json::{Scratch, Value as Json, is_valid};
@@ -87,16 +87,6 @@ pub(crate) struct Compiler<'v, 'a> {
     names_root: bool,
 }
 
-/// Returns the position of the set `scope` in `scopes`, or `None` if `scopes` does not have it.
-fn scope_among(scopes: &[Vec<usize>], scope: &[usize]) -> Option<usize> {
-    for (i, other) in scopes.iter().enumerate() {
-        if other.as_slice() == scope {
-            return Some(i);
-        }
-    }
-    None
-}
-
 /// Returns the text of a JSON array of the documents. Fails with `Json` if a text is not JSON or nests more than 128
 /// levels deep.
 fn joined_texts(alloc: Global, documents: &[Document<'_>]) -> Result<String, SchemaError> {
@@ -114,22 +104,6 @@ fn joined_texts(alloc: Global, documents: &[Document<'_>]) -> Result<String, Sch
     }
     out.push(']')?;
     Ok(out)
-}
-
-/// Returns each document in the JSON array `values` with its address.
-fn with_addresses<'v, 'a>(
-    alloc: Global,
-    values: &'v Json<'a>,
-    documents: &[Document<'_>],
-) -> Result<Vec<Source<'v, 'a>>, AllocError> {
-    let mut sources = Vec::new(alloc);
-    for (i, document) in documents.iter().enumerate() {
-        if let Some(value) = values.at(i) {
-            let address = String::from_str(alloc, document.address)?;
-            sources.push(Source { address, value })?;
-        }
-    }
-    Ok(sources)
 }
 
 /// Compiles the schema in the document `root`, with its notes for people. References in the schema may name `others`.
@@ -183,7 +157,13 @@ fn compile_all<'v, 'a>(
     documents: &[Document<'_>],
     names_root: bool,
 ) -> Result<Guide, SchemaError> {
-    let sources = with_addresses(alloc, values, documents)?;
+    let mut sources = Vec::new(alloc);
+    for (i, document) in documents.iter().enumerate() {
+        if let Some(value) = values.at(i) {
+            let address = String::from_str(alloc, document.address)?;
+            sources.push(Source { address, value })?;
+        }
+    }
     compile_sources(alloc, Sources::new(alloc, sources)?, names_root)
 }
 
@@ -207,9 +187,9 @@ fn compile_sources(
     compiler.scopes.push(Vec::new(alloc))?;
     let _root = compiler.node_at(0, "", 0)?;
     let nodes = compiler.nodes()?;
-    let longest = longest_chain(alloc, nodes.as_slice())?;
-    if longest.length > LONGEST {
-        compiler.refuse_chain(&longest)?;
+    let (length, start) = longest_chain(alloc, nodes.as_slice())?;
+    if length > LONGEST {
+        compiler.refuse_chain(length, start)?;
     }
     if !compiler.sources.errors.is_empty() {
         let flaws = mem::replace(&mut compiler.sources.errors, Vec::new(alloc));
@@ -226,7 +206,7 @@ fn compile_sources(
     let schema = Schema {
         nodes,
         patterns,
-        depth: longest.length.saturating_add(2).saturating_mul(LEVELS),
+        depth: length.saturating_add(2).saturating_mul(LEVELS),
         formats: true,
     };
     Ok(Guide {
@@ -292,7 +272,7 @@ impl<'v, 'a> Compiler<'v, 'a> {
         match self.resource(source, pointer) {
             Some(resource) => resource.dialect,
             None => Dialect {
-                draft: Draft::Of2020,
+                draft: 20,
                 validates: true,
             },
         }
@@ -311,7 +291,7 @@ impl<'v, 'a> Compiler<'v, 'a> {
     /// Returns the index of the compiled form of the schema `value` at a place. Adds a task for the schema, unless it
     /// already has one. `outer` is the scope in which the place is reached. `without_unevaluated` is as in `Site`.
     /// Fails with `TooLarge` if `work` exceeds `MOST_WORK`.
-    fn node(
+    pub(crate) fn node(
         &mut self,
         value: &'v Json<'a>,
         source: usize,
@@ -320,7 +300,17 @@ impl<'v, 'a> Compiler<'v, 'a> {
         without_unevaluated: bool,
     ) -> Result<usize, SchemaError> {
         let alloc = self.alloc;
-        self.spend()?;
+        let (resources, anchors) = (self.sources.resources.len(), self.sources.dynamic.len());
+        self.work = self
+            .work
+            .saturating_add(resources)
+            .saturating_add(anchors)
+            .saturating_add(self.scopes.len());
+        if self.work > MOST_WORK {
+            return Err(SchemaError::TooLarge {
+                limit: "finding its addresses takes more than 20,000,000 steps",
+            });
+        }
         let scope = self.scope_in(source, pointer, outer)?;
         let key = format!(in alloc; "{source} {scope} {without_unevaluated} {pointer}")?;
         if let Some(at) = self.known.get(key.as_str()) {
@@ -338,29 +328,9 @@ impl<'v, 'a> Compiler<'v, 'a> {
         Ok(at)
     }
 
-    /// Adds to `work` the steps for finding the resource and the scope of one place. Fails with `TooLarge` if `work`
-    /// exceeds `MOST_WORK`.
-    fn spend(&mut self) -> Result<(), SchemaError> {
-        let more = self
-            .sources
-            .resources
-            .len()
-            .saturating_add(self.sources.dynamic.len());
-        self.work = self
-            .work
-            .saturating_add(more)
-            .saturating_add(self.scopes.len());
-        if self.work > MOST_WORK {
-            return Err(SchemaError::TooLarge {
-                limit: "finding its addresses takes more than 20,000,000 steps",
-            });
-        }
-        Ok(())
-    }
-
     /// Returns the index of the compiled form of the schema at a place that is reached in the scope `outer`, or `None`
     /// if the place does not exist. Fails like `node`.
-    fn node_at(
+    pub(crate) fn node_at(
         &mut self,
         source: usize,
         pointer: &str,
@@ -377,18 +347,13 @@ impl<'v, 'a> Compiler<'v, 'a> {
         Ok(Some(node))
     }
 
-    /// Returns the index of the schema that allows every value, for a keyword that is not checked.
-    pub(crate) fn anything(&mut self) -> Result<usize, SchemaError> {
-        let source = self.sources.documents.len().saturating_sub(1);
-        Ok(self.node_at(source, "", 0)?.unwrap_or(0))
-    }
-
-    /// Adds the error that a chain of schemas that apply to the same value is a cycle or too long.
-    fn refuse_chain(&mut self, chain: &Longest) -> Result<(), SchemaError> {
-        let Some(site) = self.site(chain.start)? else {
+    /// Adds the error that a chain of schemas that apply to the same value is a cycle or too long. The arguments are as
+    /// `longest_chain` returns them.
+    fn refuse_chain(&mut self, length: usize, start: usize) -> Result<(), SchemaError> {
+        let Some(site) = self.site(start)? else {
             return Ok(());
         };
-        let message = if chain.is_cycle {
+        let message = if length == usize::MAX {
             "this reference leads back to itself"
         } else {
             "more than 64 references and combinations, such as `allOf`, apply to the same value"
@@ -423,7 +388,8 @@ impl<'v, 'a> Compiler<'v, 'a> {
         outer: usize,
     ) -> Result<usize, SchemaError> {
         let all = self.bound_in(source, pointer, outer)?;
-        if let Some(found) = scope_among(self.scopes.as_slice(), all.as_slice()) {
+        let scopes = self.scopes.as_slice();
+        if let Some(found) = scopes.iter().position(|other| other.as_slice() == all.as_slice()) {
             return Ok(found);
         }
         let made = self.scopes.len();
@@ -482,54 +448,19 @@ impl<'v, 'a> Compiler<'v, 'a> {
         Ok(at)
     }
 
-    /// Returns the index of the compiled form of `value`, the subschema that is the value of a keyword in the schema
-    /// `site`. Fails like `node`.
+    /// Returns the index of the compiled form of `value`, the subschema to which `steps` lead from the schema `site`.
+    /// Fails like `node`.
     pub(crate) fn under(
         &mut self,
         site: &Site<'v, 'a>,
-        keyword: &str,
+        steps: &[&str],
         value: &'v Json<'a>,
     ) -> Result<usize, SchemaError> {
-        let pointer = with_step(self.alloc, site.pointer.as_str(), keyword)?;
+        let mut pointer = String::from_str(self.alloc, site.pointer.as_str())?;
+        for step in steps {
+            push_step(&mut pointer, *step)?;
+        }
         self.node(value, site.source, pointer.as_str(), site.scope, false)
-    }
-
-    /// Returns the index of the compiled form of `value`, the subschema with this name or position in the object or
-    /// array that is the value of a keyword in the schema `site`. Fails like `node`.
-    pub(crate) fn inside(
-        &mut self,
-        site: &Site<'v, 'a>,
-        keyword: &str,
-        name: &str,
-        value: &'v Json<'a>,
-    ) -> Result<usize, SchemaError> {
-        let outer = with_step(self.alloc, site.pointer.as_str(), keyword)?;
-        let pointer = with_step(self.alloc, outer.as_str(), name)?;
-        self.node(value, site.source, pointer.as_str(), site.scope, false)
-    }
-
-    /// Returns the index of the compiled form of the schema `site` without `unevaluatedItems` and
-    /// `unevaluatedProperties`. Fails like `node`.
-    pub(crate) fn without_unevaluated(
-        &mut self,
-        site: &Site<'v, 'a>,
-    ) -> Result<usize, SchemaError> {
-        self.node(
-            site.value,
-            site.source,
-            site.pointer.as_str(),
-            site.scope,
-            true,
-        )
-    }
-
-    /// Resolves a reference in the schema `site`, as `joined` does.
-    fn resolved(&self, site: &Site<'v, 'a>, reference: &str) -> Result<Option<Url>, AllocError> {
-        let base = match self.resource(site.source, site.pointer.as_str()) {
-            Some(resource) => resource.address.as_str(),
-            None => "",
-        };
-        joined(self.alloc, base, reference)
     }
 
     /// Returns the place that a reference in the schema `site` names. Returns `None` and adds an error if the reference
@@ -541,7 +472,10 @@ impl<'v, 'a> Compiler<'v, 'a> {
         reference: &str,
     ) -> Result<Option<Target>, SchemaError> {
         let alloc = self.alloc;
-        let Some(url) = self.resolved(site, reference)? else {
+        let base = self
+            .resource(site.source, site.pointer.as_str())
+            .map_or("", |resource| resource.address.as_str());
+        let Some(url) = joined(alloc, base, reference)? else {
             self.complain(site, &[keyword], "this is not a URL", true)?;
             return Ok(None);
         };
@@ -550,29 +484,16 @@ impl<'v, 'a> Compiler<'v, 'a> {
         if let Some(target) = self.target_in(address, fragment.as_str())? {
             return Ok(Some(target));
         }
-        self.refuse_missing(site, keyword, reference, url.as_str())?;
-        Ok(None)
-    }
-
-    /// Adds the error that `reference`, the value of `keyword` in the schema `site`, names `address`, which does not
-    /// exist.
-    fn refuse_missing(
-        &mut self,
-        site: &Site<'v, 'a>,
-        keyword: &str,
-        reference: &str,
-        address: &str,
-    ) -> Result<(), AllocError> {
-        let alloc = self.alloc;
-        let pointer = site.pointer.as_str();
         let message = format!(in alloc; "there is no `{reference}`")?;
+        let pointer = site.pointer.as_str();
         let mut flaw = self
             .sources
             .flaw(site.source, pointer, &[keyword], message.as_str())?;
-        if self.sources.find(without_fragment(address)).is_none() {
-            flaw.missing.push_str(address)?;
+        if self.sources.find(address).is_none() {
+            flaw.missing.push_str(url.as_str())?;
         }
-        push_flaw(&mut self.sources.errors, flaw)
+        push_flaw(&mut self.sources.errors, flaw)?;
+        Ok(None)
     }
 
     /// Returns the place that `fragment`, a JSON pointer or the name of an anchor, names in the resource at `address`.

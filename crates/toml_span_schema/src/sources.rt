@@ -32,20 +32,11 @@ const ANCHORS: [(&str, bool); 5] = [
     ("$recursiveAnchor", true),
 ];
 
-/// A version of JSON Schema.
-#[derive(Clone, Copy, PartialEq, Eq, PartialOrd, Ord)]
-pub(crate) enum Draft {
-    Four,
-    Six,
-    Seven,
-    Of2019,
-    Of2020,
-}
-
 /// The rules by which the keywords of a schema are read.
 #[derive(Clone, Copy)]
 pub(crate) struct Dialect {
-    pub(crate) draft: Draft,
+    /// The number of the draft or, for a draft that is named by its year, the end of the year: 4, 6, 7, 19 or 20.
+    pub(crate) draft: u8,
     /// Whether the keywords of the validation vocabulary are used.
     pub(crate) validates: bool,
 }
@@ -121,13 +112,13 @@ fn without_scheme(address: &str) -> &str {
 }
 
 /// Returns the draft that `address`, the value of `$schema`, names, or `None` if the draft is unknown.
-fn draft_of(address: &str) -> Option<Draft> {
+fn draft_of(address: &str) -> Option<u8> {
     match without_scheme(address) {
-        "json-schema.org/draft-04/schema" => Some(Draft::Four),
-        "json-schema.org/draft-06/schema" => Some(Draft::Six),
-        "json-schema.org/draft-07/schema" => Some(Draft::Seven),
-        "json-schema.org/draft/2019-09/schema" => Some(Draft::Of2019),
-        "json-schema.org/draft/2020-12/schema" => Some(Draft::Of2020),
+        "json-schema.org/draft-04/schema" => Some(4),
+        "json-schema.org/draft-06/schema" => Some(6),
+        "json-schema.org/draft-07/schema" => Some(7),
+        "json-schema.org/draft/2019-09/schema" => Some(19),
+        "json-schema.org/draft/2020-12/schema" => Some(20),
         _ => None,
     }
 }
@@ -298,7 +289,7 @@ impl<'v, 'a> Sources<'v, 'a> {
         let value = document.value;
         let address = String::from_str(self.alloc, document.address.as_str())?;
         let first = Dialect {
-            draft: Draft::Of2020,
+            draft: 20,
             validates: true,
         };
         let dialect = self.dialect(source, "", value, first)?;
@@ -339,10 +330,10 @@ impl<'v, 'a> Sources<'v, 'a> {
     }
 
     /// Returns the draft of a resource.
-    fn draft_in(&self, resource: usize) -> Draft {
+    fn draft_in(&self, resource: usize) -> u8 {
         self.resources
             .get(resource)
-            .map_or(Draft::Of2020, |resource| resource.dialect.draft)
+            .map_or(20, |resource| resource.dialect.draft)
     }
 
     /// Visits a schema and the values inside it, as `visit` does. The parameters are as in `Visit`. Fails like `new`.
@@ -382,7 +373,7 @@ impl<'v, 'a> Sources<'v, 'a> {
         let (alloc, value) = (self.alloc, visit.value);
         match value {
             Json::Object(members) => {
-                let is_schema = visit.want == Want::Schema;
+                let is_schema = matches!(visit.want, Want::Schema);
                 if is_schema && visit.has_names {
                     let (source, pointer) = (visit.source, visit.pointer.as_str());
                     let key = format!(in alloc; "{source} {pointer}")?;
@@ -426,7 +417,7 @@ impl<'v, 'a> Sources<'v, 'a> {
         };
         let want = chosen(want, value);
         let is_right = fits(self.alloc, want, value)?;
-        if is_right && want != Want::Schema && part_of(want).is_none() {
+        if is_right && !matches!(want, Want::Schema) && part_of(want).is_none() {
             return Ok(());
         }
         let pointer = with_step(self.alloc, outer.pointer.as_str(), step)?;
@@ -480,7 +471,7 @@ impl<'v, 'a> Sources<'v, 'a> {
         }
         let (alloc, draft) = (self.alloc, self.draft_in(visit.resource));
         let want = want_of(name, draft);
-        let is_old = name == "dependencies" && draft >= Draft::Of2019;
+        let is_old = name == "dependencies" && draft >= 19;
         let is_unused = (want.is_none() || is_old) && is_keyword(name);
         if is_unused && has_word(ASSERTING, name) && self.unknown.insert(String::from_str(alloc, name)?)? {
             let message = format!(in alloc; "not checked: this draft has no keyword `{name}`")?;
@@ -525,11 +516,11 @@ impl<'v, 'a> Sources<'v, 'a> {
         };
         let (alloc, source, pointer) = (self.alloc, visit.source, visit.pointer.as_str());
         let (draft, other) = (outer.dialect.draft, outer.dialect);
-        let keyword = if draft == Draft::Four { "id" } else { "$id" };
+        let keyword = if draft == 4 { "id" } else { "$id" };
         let Some(id) = text_of(visit.value, keyword) else {
             return Ok(visit.resource);
         };
-        if draft <= Draft::Seven && (id.starts_with("#") || visit.value.get("$ref").is_some()) {
+        if draft <= 7 && (id.starts_with("#") || visit.value.get("$ref").is_some()) {
             return Ok(visit.resource);
         }
         let Some(url) = joined(alloc, outer.address.as_str(), id)? else {
@@ -649,14 +640,14 @@ pub(crate) fn is_true(value: &Json<'_>, name: &str) -> bool
 
 /// Returns the name of the anchor that `keyword` of a schema defines in this draft, or `None` if it defines no anchor.
 /// The name is empty for `$recursiveAnchor`.
-fn anchor_in<'v, 'a>(draft: Draft, keyword: &str, schema: &'v Json<'a>) -> Option<&'a str> {
+fn anchor_in<'v, 'a>(draft: u8, keyword: &str, schema: &'v Json<'a>) -> Option<&'a str> {
     let text = text_of(schema, keyword);
     match keyword {
-        "id" if draft == Draft::Four => text?.strip_prefix("#"),
-        "$id" if draft > Draft::Four && draft <= Draft::Seven => text?.strip_prefix("#"),
-        "$anchor" if draft >= Draft::Of2019 => text,
-        "$dynamicAnchor" if draft == Draft::Of2020 => text,
-        "$recursiveAnchor" if draft == Draft::Of2019 && is_true(schema, keyword) => Some(""),
+        "id" if draft == 4 => text?.strip_prefix("#"),
+        "$id" if draft > 4 && draft <= 7 => text?.strip_prefix("#"),
+        "$anchor" if draft >= 19 => text,
+        "$dynamicAnchor" if draft == 20 => text,
+        "$recursiveAnchor" if draft == 19 && is_true(schema, keyword) => Some(""),
         _ => None,
     }
 }
