@@ -3,14 +3,11 @@
 use crate::error::CheckError;
 use crate::keyword::Keyword;
 use crate::listed::Part;
-use crate::messages::Listed;
+use crate::messages::{Listed, MOST_NESTED};
 use crate::schema::Schema;
 use crate::walk::{Cause, Place, Violation, Walk};
 use std::alloc::{AllocError, Global};
 use std::mem::replace;
-
-/// The number of schemas that may be nested in an alternative to say which types and constants it names.
-const MOST_NESTED: usize = 65;
 
 /// What is known of the alternatives that have been tried so far, of which the value matches none or, for `oneOf`, too
 /// many.
@@ -207,10 +204,14 @@ impl Schema {
             return;
         }
         for node in nodes {
-            for placed in self.keywords(*node) {
+            let keywords = self.keywords(*node);
+            let is_listed = keywords
+                .iter()
+                .any(|placed| matches!(&placed.keyword, Keyword::Enum(_, _)));
+            for placed in keywords {
                 match &placed.keyword {
                     Keyword::Enum(_, shown) => listed.push_all(shown.as_slice()),
-                    Keyword::Type(more) if !self.is_listed(*node) => listed.types.add(*more),
+                    Keyword::Type(more) if !is_listed => listed.types.add(*more),
                     Keyword::AllOf(inner) | Keyword::AnyOf(inner) | Keyword::OneOf(inner) => {
                         self.push_listed(depth - 1, inner.as_slice(), listed);
                     }
@@ -218,16 +219,6 @@ impl Schema {
                 }
             }
         }
-    }
-
-    /// Returns whether the schema at index `node` lists constants.
-    fn is_listed(&self, node: usize) -> bool {
-        for placed in self.keywords(node) {
-            if let Keyword::Enum(_, _) = &placed.keyword {
-                return true;
-            }
-        }
-        false
     }
 }
 

@@ -58,13 +58,6 @@ fn is_present(value: &Json<'_>, name: &str) -> bool
     value.get(name).is_some()
 }
 
-/// Returns whether a schema has `unevaluatedItems` or `unevaluatedProperties`.
-fn is_unevaluated(value: &Json<'_>) -> bool
-    ensures { result ≡ spec.is_unevaluated (value_view value.now) }
-{
-    is_present(value, "unevaluatedItems") || is_present(value, "unevaluatedProperties")
-}
-
 /// Returns `node` if `here` is true.
 fn only(here: bool, node: Option<usize>) -> Option<usize>
     ensures { result ≡ spec.only here node }
@@ -250,7 +243,9 @@ impl Schema {
                 if draft < 19 && matches!(value.get("$ref"), Some(Json::String(_))) {
                     return Ok(has(keywords, "$ref"));
                 }
-                if draft > 18 && is_unevaluated(value) {
+                let is_last = is_present(value, "unevaluatedItems")
+                    || is_present(value, "unevaluatedProperties");
+                if draft > 18 && is_last {
                     return self.is_around(draft, left, keywords, value);
                 }
                 self.keeps_all(draft, left, keywords, value)

@@ -15,7 +15,7 @@ use toml_span_report::visible::push_quoted;
 use toml_span_tree::{FloatText, Value, ValueInner};
 
 /// The number of schemas that may be nested to say which types and constants they name, and to check a key.
-const MOST_NESTED: usize = 65;
+pub(crate) const MOST_NESTED: usize = 65;
 
 /// The maximum number of subschemas that are applied to say why a key is not allowed.
 const MOST_APPLIED: u64 = 10_000;
@@ -110,16 +110,6 @@ pub(crate) fn push_code(out: &mut Text, violation: &Violation<'_, '_, '_>) {
     }
 }
 
-/// Returns whether one of `words` is `word`.
-pub(crate) fn is_among(words: &[&str], word: &str) -> bool {
-    for other in words {
-        if *other == word {
-            return true;
-        }
-    }
-    false
-}
-
 /// Appends the article of a word.
 fn push_article(out: &mut Text, word: &str) {
     out.push(if word.starts_with("i") || word.starts_with("a") {
@@ -153,26 +143,14 @@ fn push_separator(out: &mut Text, at: usize, count: usize, last: &str) {
     }
 }
 
-/// Returns whether `table`, if it is given, lacks a key.
-fn is_missing(table: Option<&Value<'_>>, name: &str) -> bool {
-    match table {
-        Some(table) => !has_key(table, name),
-        None => true,
-    }
-}
-
 /// Appends the names of keys, each in backticks, separated by commas and `and`. Leaves out the keys in `table`, if it is
 /// given.
 fn push_keys(out: &mut Text, names: &[String], table: Option<&Value<'_>>) {
-    let mut count = 0usize;
-    for name in names {
-        if is_missing(table, name.as_str()) {
-            count = count.saturating_add(1);
-        }
-    }
+    let is_missing = |name: &String| table.map_or(true, |table| !has_key(table, name.as_str()));
+    let count = names.iter().filter(|name| is_missing(*name)).count();
     let mut at = 0usize;
     for name in names {
-        if is_missing(table, name.as_str()) {
+        if is_missing(name) {
             push_separator(out, at, count, " and ");
             out.push_all("`", name.as_str(), "`");
             at = at.saturating_add(1);
@@ -190,12 +168,7 @@ fn push_types(out: &mut Text, types: &Types) {
         (types.array, "array"),
         (types.object, "table"),
     ];
-    let mut count = 0usize;
-    for named in all.iter() {
-        if named.0 {
-            count = count.saturating_add(1);
-        }
-    }
+    let count = all.iter().filter(|named| named.0).count();
     let mut at = 0usize;
     for (is_named, word) in all {
         if is_named {
@@ -264,12 +237,7 @@ fn push_unlisted(out: &mut Text, listed: &Listed<'_>, value: &Value<'_>) {
         out.push(if shown.len() > 1 { ", or " } else { " or " });
     }
     push_types(out, &listed.types);
-    let mut strings = 0usize;
-    for one in shown {
-        if one.starts_with("`\"") {
-            strings = strings.saturating_add(1);
-        }
-    }
+    let strings = shown.iter().filter(|one| one.starts_with("`\"")).count();
     let most = if value.as_str().is_some() {
         0
     } else {
@@ -348,14 +316,10 @@ fn counted(keyword: &Keyword) -> &'static str {
 
 /// Returns whether one of the constants, as messages show them, is `text` between `front` and `back`.
 fn has_shown(constants: &[&str], front: &str, text: &str, back: &str) -> bool {
-    for constant in constants {
-        if let Some(rest) = constant.strip_prefix(front) {
-            if rest.strip_suffix(back) == Some(text) {
-                return true;
-            }
-        }
-    }
-    false
+    constants.iter().any(|constant| {
+        let inside = constant.strip_prefix(front).and_then(|rest| rest.strip_suffix(back));
+        inside == Some(text)
+    })
 }
 
 /// Returns an integer, boolean or finite float as TOML, or an empty text for any other value.
@@ -421,7 +385,7 @@ impl Schema {
             (Keyword::Enum(_, shown), _) => {
                 listed.push_all(shown.as_slice());
                 for other in violation.others.as_slice() {
-                    if !is_among(listed.constants.as_slice(), *other) {
+                    if !listed.constants.contains(other) {
                         listed.push(*other);
                     }
                 }

@@ -53,13 +53,6 @@ fn push_escaped(out: &mut String, c: char) -> Result<(), AllocError>
     out.push(c)
 }
 
-/// Returns whether a character must be escaped inside brackets.
-fn is_special(c: char) -> bool
-    ensures { result ≡ (c == 91 || c == 38 || c == 126) }
-{
-    c == '[' || c == '&' || c == '~'
-}
-
 /// Appends the translation of a character that is not escaped. Appends nothing for a backslash, which escapes the next
 /// character. `in_class` says whether the character is inside brackets. In ECMA-262, `.` matches no end of a line.
 fn push_plain(out: &mut String, in_class: bool, c: char) -> Result<(), AllocError>
@@ -67,7 +60,7 @@ fn push_plain(out: &mut String, in_class: bool, c: char) -> Result<(), AllocErro
 {
     if c == '\\' {
         Ok(())
-    } else if in_class && is_special(c) {
+    } else if in_class && (c == '[' || c == '&' || c == '~') {
         push_escaped(out, c)
     } else if !in_class && c == '.' {
         out.push_str("[^\\n\\r\\x{2028}\\x{2029}]")

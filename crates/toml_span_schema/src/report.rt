@@ -8,7 +8,7 @@ use crate::canonical::canonical;
 use crate::error::CheckError;
 use crate::keyword::{Keyword, Node};
 use crate::listed::Part;
-use crate::messages::{Listed, Text, is_among, push_code};
+use crate::messages::{Listed, Text, push_code};
 use crate::schema::Schema;
 use crate::valid::MOST_STEPS;
 use crate::walk::{Cause, MOST, Violation, is_plain};
@@ -16,7 +16,7 @@ use std::alloc::{AllocError, Global};
 use std::collections::BTreeMap;
 use toml_span_lex::span::Span;
 use toml_span_report::{Report, nearest};
-use toml_span_tree::{Table, Value};
+use toml_span_tree::Value;
 
 impl Schema {
     /// Checks a value. Returns a report for each violation of the schema, in the order of the text, and one more if
@@ -99,26 +99,20 @@ impl Schema {
     /// `contains` and `propertyNames` cause no warnings. Fails like `check`.
     pub fn warnings(&self, alloc: Global, value: &Value<'_>) -> Result<Vec<Report>, CheckError> {
         let mut reports = Vec::new(alloc);
-        if !self.has_deprecated() {
+        if !self.nodes.iter().any(|node| node.deprecated) {
             return Ok(reports);
         }
         let mut left = MOST_STEPS;
         for (node, part) in self.walked(&mut left, 0, value)?.deprecated {
             let report = Report::warning(alloc, "schema-deprecated", "this is deprecated")?;
-            let report = report.primary(key_span(part), "")?;
+            let span = match part {
+                Part::Member(key, _) => key.span,
+                Part::Element(_, value) | Part::Whole(value) => value.span,
+            };
+            let report = report.primary(span, "")?;
             reports.push(self.with_title(report, node)?)?;
         }
         Ok(in_order(reports)?)
-    }
-
-    /// Returns whether a compiled schema says `deprecated: true`.
-    fn has_deprecated(&self) -> bool {
-        for node in self.nodes.as_slice() {
-            if node.deprecated {
-                return true;
-            }
-        }
-        false
     }
 
     /// Returns whether the key `name` is missing since it is misspelled: `others` has an unknown key in the same table
@@ -134,7 +128,8 @@ impl Schema {
         };
         for other in others {
             if let (Cause::Never, Part::Member(key, _)) = (other.cause, other.part) {
-                let is_here = other.level == violation.level && has_key_at(table, key.span);
+                let is_here = other.level == violation.level
+                    && table.iter().any(|entry| entry.0.span == key.span);
                 if is_here && self.meant(other)? == Some(name) {
                     return Ok(true);
                 }
@@ -143,27 +138,8 @@ impl Schema {
         Ok(false)
     }
 
-    /// Returns whether the schema at index `node`, which `unevaluatedProperties` is in, knows a key but does not allow
-    /// its table, so that `others` has violations of other keywords.
-    fn is_consequence(
-        &self,
-        node: usize,
-        key: &str,
-        others: &[Violation<'_, '_, '_>],
-    ) -> Result<bool, AllocError> {
-        for other in others {
-            if !matches!(
-                &other.at.placed.keyword,
-                Keyword::UnevaluatedProperties(_, _)
-            ) {
-                let known = self.known_keys(&[node])?;
-                return Ok(is_among(known.as_slice(), key));
-            }
-        }
-        Ok(false)
-    }
-
-    /// Returns whether a violation needs no report, since another one in `others` has one that says more.
+    /// Returns whether a violation needs no report, since another one in `others` has one that says more. A key that
+    /// the schema of `unevaluatedProperties` knows is only unevaluated since other keywords do not allow its table.
     fn is_implied<'s>(
         &'s self,
         violation: &Violation<'s, '_, '_>,
@@ -176,7 +152,13 @@ impl Schema {
         ) {
             (Cause::Missing(name), _, _) => self.is_misspelled(name, violation, others),
             (_, Keyword::UnevaluatedProperties(node, _), Part::Member(key, _)) => {
-                self.is_consequence(*node, key.name.as_ref(), others)
+                let is_other = others.iter().any(|other| {
+                    !matches!(
+                        &other.at.placed.keyword,
+                        Keyword::UnevaluatedProperties(_, _)
+                    )
+                });
+                Ok(is_other && self.known_keys(&[*node])?.contains(&key.name.as_ref()))
             }
             _ => Ok(false),
         }
@@ -376,7 +358,11 @@ fn push_error(reports: &mut Vec<Report>, report: Report) -> Result<(), AllocErro
 fn push_new(reports: &mut Vec<Report>, report: Report) -> Result<(), AllocError>
     ensures { All IsError reports.old.items → IsError report → OnOk result (All IsError reports.new.items) }
 {
-    if is_reported(reports.as_slice(), &report) {
+    let is_reported = reports.iter().any(|other| {
+        start_of(other) == start_of(&report)
+            && other.message.as_str() == report.message.as_str()
+    });
+    if is_reported {
         return Ok(());
     }
     push_error(reports, report)
@@ -431,40 +417,7 @@ fn with_meant(
 
 /// Returns the byte offset at which the first label of a report begins, or 0 if the report has no label.
 fn start_of(report: &Report) -> usize {
-    match report.labels.first() {
-        Some(label) => label.span.start,
-        None => 0,
-    }
-}
-
-/// Returns whether one of `reports` says the same of the same place as `report`.
-fn is_reported(reports: &[Report], report: &Report) -> bool {
-    for other in reports {
-        if start_of(other) == start_of(report)
-            && other.message.as_str() == report.message.as_str()
-        {
-            return true;
-        }
-    }
-    false
-}
-
-/// Returns whether a table has a key at `span`.
-fn has_key_at(table: &Table<'_>, span: Span) -> bool {
-    for (key, _value) in table.iter() {
-        if key.span == span {
-            return true;
-        }
-    }
-    false
-}
-
-/// Returns the span of the key of an entry, or otherwise that of the value.
-fn key_span(part: Part<'_, '_>) -> Span {
-    match part {
-        Part::Member(key, _) => key.span,
-        Part::Element(_, value) | Part::Whole(value) => value.span,
-    }
+    report.labels.first().map_or(0, |label| label.span.start)
 }
 
 /// Returns the spans of the first element that is equal to an earlier one, after the span of the earlier one, or `None`
@@ -490,7 +443,7 @@ fn same_or_nearest<'s>(
     word: &str,
     known: &[&'s str],
 ) -> Result<Option<&'s str>, AllocError> {
-    if is_among(known, word) {
+    if known.contains(&word) {
         return Ok(None);
     }
     for name in known {

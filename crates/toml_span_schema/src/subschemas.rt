@@ -94,30 +94,14 @@ impl Kinds {
             _ => self.string = true,
         }
     }
-
-    /// Adds the kinds of value that `keyword` is about: those that `Type` lists, tables for `Required` and
-    /// `Properties`, arrays for `Items`, and none for any other keyword.
-    fn add_keyword(&mut self, keyword: &Keyword) {
-        match keyword {
-            Keyword::Type(types) => self.add_types(types),
-            Keyword::Properties(_, _, _) | Keyword::Required(_) => self.table = true,
-            Keyword::Items(_, _) => self.array = true,
-            _ => {}
-        }
-    }
 }
 
-/// Appends the index of a compiled schema, unless `nodes` has it or has `MOST_SUBSCHEMAS` indices.
-fn push_node(nodes: &mut Indices, node: usize) {
-    if nodes.list.len() < MOST_SUBSCHEMAS && !nodes.list.contains(&node) {
-        nodes.push(node);
-    }
-}
-
-/// Appends the indices of compiled schemas, as `push_node` does.
+/// Appends the indices of compiled schemas, except for those that `nodes` has already, until it has `MOST_SUBSCHEMAS`.
 fn push_all(nodes: &mut Indices, more: &[usize]) {
     for node in more {
-        push_node(nodes, *node);
+        if nodes.list.len() < MOST_SUBSCHEMAS && !nodes.list.contains(node) {
+            nodes.push(*node);
+        }
     }
 }
 
@@ -160,7 +144,6 @@ impl Guide {
         step: Step<'_>,
         value: Option<&Value<'_>>,
     ) -> Result<Subschemas, AllocError> {
-        let mut nodes = Indices::new(alloc);
         let any = Value::new(ValueInner::Boolean(true));
         let name = match step {
             Step::Key(name) => name,
@@ -174,10 +157,7 @@ impl Guide {
             Step::Key(_) => Part::Member(&key, &any),
             Step::Position(at) => Part::Element(at, &any),
         };
-        self.schema.push_inside(outer, part, &mut nodes)?;
-        if nodes.list.is_empty() {
-            self.schema.push_unevaluated(outer, part, &mut nodes);
-        }
+        let nodes = self.schema.inside(outer, part)?;
         self.schema.with_applied(nodes, value)
     }
 
@@ -213,10 +193,8 @@ impl Guide {
         for node in subschemas.nodes.as_slice() {
             for placed in self.schema.keywords(*node) {
                 if let Keyword::Required(names) = &placed.keyword {
-                    for other in names.as_slice() {
-                        if other.as_str() == name {
-                            return true;
-                        }
+                    if names.iter().any(|other| other.as_str() == name) {
+                        return true;
                     }
                 }
             }
@@ -232,10 +210,12 @@ impl Guide {
         let mut implied = Kinds::NONE;
         for node in subschemas.nodes.as_slice() {
             for placed in self.schema.keywords(*node) {
-                if let Keyword::Type(types) = &placed.keyword {
-                    named.add_types(types);
+                match &placed.keyword {
+                    Keyword::Type(types) => named.add_types(types),
+                    Keyword::Properties(_, _, _) | Keyword::Required(_) => implied.table = true,
+                    Keyword::Items(_, _) => implied.array = true,
+                    _ => {}
                 }
-                implied.add_keyword(&placed.keyword);
             }
             if let Some(note) = self.notes.get(*node) {
                 for value in &note.values {
@@ -337,7 +317,7 @@ impl Schema {
                 if let Some(value) = value {
                     for entry in entries.as_slice() {
                         if has_key(value, entry.0.as_str()) {
-                            push_node(nodes, entry.1);
+                            push_all(nodes, &[entry.1]);
                         }
                     }
                 }
@@ -360,7 +340,7 @@ impl Schema {
             for node in list {
                 let found = self.may_fit(left, *node, value);
                 if verdict(nodes, found) {
-                    push_node(nodes, *node);
+                    push_all(nodes, &[*node]);
                     is_any = true;
                 }
             }
@@ -370,37 +350,26 @@ impl Schema {
         }
     }
 
-    /// Appends to `nodes` the indices of the subschemas that the keywords of the schemas `outer` apply to `part`, an
-    /// entry or element (see `schemas_for`).
-    fn push_inside(
-        &self,
-        outer: &Subschemas,
-        part: Part<'_, '_>,
-        nodes: &mut Indices,
-    ) -> Result<(), AllocError> {
+    /// Returns the subschemas that the keywords of the schemas `outer` apply to `part`, an entry or element (see
+    /// `schemas_for`). If there are none, returns those of `unevaluatedProperties` or, for an element, of
+    /// `unevaluatedItems`.
+    fn inside(&self, outer: &Subschemas, part: Part<'_, '_>) -> Result<Indices, AllocError> {
+        let mut nodes = Indices::new(self.alloc());
+        let mut unevaluated = Indices::new(self.alloc());
         for node in outer.nodes.as_slice() {
             for placed in self.keywords(*node) {
                 let found = schemas_for(self, &placed.keyword, part)?;
-                push_all(nodes, found.as_slice());
-            }
-        }
-        Ok(())
-    }
-
-    /// Appends to `nodes` the indices of the subschemas of `unevaluatedProperties` in the schemas `outer` or, if `part`
-    /// is an element, of `unevaluatedItems`.
-    fn push_unevaluated(&self, outer: &Subschemas, part: Part<'_, '_>, nodes: &mut Indices) {
-        for node in outer.nodes.as_slice() {
-            for placed in self.keywords(*node) {
+                push_all(&mut nodes, found.as_slice());
                 match (&placed.keyword, part) {
                     (Keyword::UnevaluatedProperties(_, node), Part::Member(_, _))
                     | (Keyword::UnevaluatedItems(_, node), Part::Element(_, _)) => {
-                        push_node(nodes, *node);
+                        push_all(&mut unevaluated, &[*node]);
                     }
                     _ => {}
                 }
             }
         }
+        Ok(if nodes.list.is_empty() { unevaluated } else { nodes })
     }
 
     /// Returns whether a value may become valid against the schema at index `node` if more keys are added to it: no
@@ -412,11 +381,7 @@ impl Schema {
         value: &'v Value<'de>,
     ) -> Result<bool, CheckError> {
         let walk = self.walked(left, node, value)?;
-        for one in walk.violations.as_slice() {
-            if one.is_unlisted() || one.is_never() {
-                return Ok(false);
-            }
-        }
-        Ok(true)
+        let mut violations = walk.violations.iter();
+        Ok(!violations.any(|one| one.is_unlisted() || one.is_never()))
     }
 }

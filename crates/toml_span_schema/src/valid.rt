@@ -3,7 +3,7 @@
 ghost use Rattle.std.specs.Prelude.{◌≡◌, ◌&&◌, nat_le, IfOk, Some, None, false, true, map, ℕ};
 ghost use Rattle.toml_span_tree.specs.Value.{inner_of, view};
 ghost use Rattle.toml_span_schema.specs.Applied.{applied_of};
-ghost use Rattle.toml_span_schema.specs.Parts.{is_entry, part_of, value_of, whole};
+ghost use Rattle.toml_span_schema.specs.Parts.{part_of, whole};
 ghost use Rattle.toml_span_schema.specs.Valid.{allows, allows_other, any, both, contains_enough, count, covers, every};
 ghost use Rattle.toml_span_schema.specs.Valid.{is_evaluated_element, judged, optional, passes, reaches, reaches_simply};
 ghost use Rattle.toml_span_schema.specs.Valid.{refused, unevaluated_allow};
@@ -469,8 +469,8 @@ fn reaches_simply(
         Keyword::Items(_, _) | Keyword::Properties(_, _, _) => {
             Ok(!schemas_for(schema, keyword, part)?.is_empty())
         }
-        Keyword::UnevaluatedItems(_, _) => Ok(!part.is_entry()),
-        Keyword::UnevaluatedProperties(_, _) => Ok(part.is_entry()),
+        Keyword::UnevaluatedItems(_, _) => Ok(!matches!(part, Part::Member(_, _))),
+        Keyword::UnevaluatedProperties(_, _) => Ok(matches!(part, Part::Member(_, _))),
         _ => Ok(false),
     }
 }

@@ -217,7 +217,8 @@ impl Schema {
         if depth == 0 {
             return walk.fail(CheckError::TooDeep);
         }
-        if self.is_deprecated(node) && walk.deprecated.push((node, part)).is_err() {
+        let is_deprecated = self.nodes.get(node).map_or(false, |node| node.deprecated);
+        if is_deprecated && walk.deprecated.push((node, part)).is_err() {
             walk.fail(CheckError::OutOfMemory);
         }
         for placed in self.keywords(node) {
@@ -441,14 +442,6 @@ impl Schema {
             _ => false,
         }
     }
-
-    /// Returns `deprecated` of the compiled schema at index `node`, or false if `node` is out of range.
-    fn is_deprecated(&self, node: usize) -> bool {
-        match self.nodes.get(node) {
-            Some(node) => node.deprecated,
-            None => false,
-        }
-    }
 }
 
 /// Returns whether `part` is an element after one that the schema at index `node` does not allow either. An array with
@@ -464,10 +457,6 @@ fn is_counted(walk: &Walk<'_, '_, '_>, node: usize, part: Part<'_, '_>) -> bool 
 
 /// Returns whether a word can be written as a bare key.
 pub(crate) fn is_plain(word: &str) -> bool {
-    for c in word.chars() {
-        if !c.is_ascii_alphanumeric() && c != '-' && c != '_' {
-            return false;
-        }
-    }
-    !word.is_empty()
+    let is_bare = |c: char| c.is_ascii_alphanumeric() || c == '-' || c == '_';
+    !word.is_empty() && word.chars().all(is_bare)
 }
