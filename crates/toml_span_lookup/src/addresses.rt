@@ -66,13 +66,6 @@ pub(crate) fn folder_of(path: &str) -> &str
     }
 }
 
-/// Returns whether a text begins with a slash.
-fn begins_with_slash(text: &str) -> bool
-    ensures { result ≡ spec.begins_with_slash text.now }
-{
-    text.as_bytes().starts_with(b"/")
-}
-
 /// Returns whether a text ends with a slash.
 pub(crate) fn ends_with_slash(text: &str) -> bool
     ensures { result ≡ spec.ends_with_slash text.now }
@@ -86,7 +79,7 @@ pub(crate) fn joined(alloc: Global, folder: &str, path: &str) -> Result<String, 
     ensures { IfOk result (λ out. string_bytes out ≡ spec.joined folder.now path.now) }
 {
     let path = without("./", path);
-    if begins_with_slash(path) {
+    if path.as_bytes().starts_with(b"/") {
         return String::from_str(alloc, path);
     }
     let mut out = String::from_str(alloc, folder)?;
@@ -155,10 +148,7 @@ pub(crate) fn path_of_address(
 /// Returns the address of the schema at a path: `HERE` and the name of the file. In the name, `~` replaces each
 /// character other than ASCII letters, digits, `.`, `-` and `_`.
 pub(crate) fn address_of(alloc: Global, path: &str) -> Result<String, AllocError> {
-    let name = match path.rsplit_once('/') {
-        Some((_, name)) => name,
-        None => path,
-    };
+    let name = path.rsplit_once('/').map_or(path, |parts| parts.1);
     let mut out = String::from_str(alloc, HERE)?;
     for c in name.chars() {
         let is_plain = c.is_ascii_alphanumeric() || c == '.' || c == '-' || c == '_';

@@ -5,11 +5,12 @@ ghost use Rattle.toml_span_schema.specs.Compiled.{IsCompiled};
 use crate::addresses::{
     address_of, folder_of, is_remote, path_of_address, push_decoded, without_fragment,
 };
+use crate::catalog::json_reason;
 use crate::disk::{Disk, Stamp};
 use crate::metaschemas::metaschema;
 use crate::options::{LocalCopy, Options};
 use crate::places::place_in;
-use crate::reasons::{complain, flaw_reason, json_reason, remote_reason};
+use crate::reasons::{complain, flaw_reason, remote_reason};
 use std::alloc::{AllocError, Global};
 use toml_span_report::Report;
 use toml_span_schema::{Document, Flaw, Guide, SchemaError};
@@ -120,12 +121,9 @@ pub fn text_of<D: Disk>(
 
 /// Returns the document at `address`, or `None` if `documents` has none.
 fn at_address<'d>(documents: &'d [Loaded], address: &str) -> Option<&'d Loaded> {
-    for document in documents {
-        if document.address.as_str() == address {
-            return Some(document);
-        }
-    }
-    None
+    documents
+        .iter()
+        .find(|document| document.address.as_str() == address)
 }
 
 /// Returns the path of the document at `address`, which `flaw` reports as missing, or of its local copy: the one that
@@ -160,28 +158,6 @@ fn path_for<D: Disk>(
     Ok(if is_there { Some(path) } else { None })
 }
 
-/// Adds an error to `complaint` that says why the document at `address` can't be parsed (see `json_reason`). Does
-/// nothing if `documents` has no document at `address`.
-fn refuse_text(
-    alloc: Global,
-    complaint: &mut String,
-    documents: &[Loaded],
-    address: &str,
-) -> Result<(), AllocError> {
-    for document in documents {
-        if document.address.as_str() == address {
-            let reason = json_reason(alloc, document.text.as_str())?;
-            complain(
-                complaint,
-                "use the schema",
-                document.path.as_str(),
-                reason.as_str(),
-            )?;
-        }
-    }
-    Ok(())
-}
-
 /// Adds an error to `complaint` for each reason why the schema at `path` can't be compiled.
 fn refuse(
     alloc: Global,
@@ -193,7 +169,12 @@ fn refuse(
 ) -> Result<(), AllocError> {
     match error {
         SchemaError::Json { address } => {
-            refuse_text(alloc, complaint, documents, address.as_str())
+            let Some(document) = at_address(documents, address.as_str()) else {
+                return Ok(());
+            };
+            let (path, text) = (document.path.as_str(), document.text.as_str());
+            let reason = json_reason(alloc, text, "it is not valid JSON")?;
+            complain(complaint, "use the schema", path, reason.as_str())
         }
         SchemaError::Wrong { flaws, .. } => {
             let flaws = flaws.as_slice();

@@ -10,13 +10,13 @@ ghost use Rattle.toml_span_report.specs.Report.{report_content};
 ghost use Rattle.toml_span_tree.specs.Value.{view};
 
 use crate::addresses::{after, folder_of, is_remote, joined, push_decoded};
-use crate::catalog::{Catalog, catalog_of};
+use crate::catalog::{Catalog, catalog_of, json_reason};
 use crate::compiling::{Used, base_of, text_of, used_from};
 use crate::directive::{Directive, directive_of, names_schema};
 use crate::disk::{Disk, Stamp};
 use crate::findings::{findings, not_fetched, push_warnings};
 use crate::options::{LocalCopy, Options, Place};
-use crate::reasons::{catalog_reason, complain, copy_help, remote_message};
+use crate::reasons::{complain, copy_help, remote_message};
 use std::alloc::{AllocError, Global};
 use std::mem;
 use toml_span::{Span, Value};
@@ -46,7 +46,7 @@ pub struct Lookup {
     catalog: Option<Catalog>,
     /// The stamp of the catalog before it was read.
     stamp: Option<Stamp>,
-    /// Whether `prepare` has already read the catalog, tried to read it, or found that the options name no catalog.
+    /// Whether `prepare` has already read the catalog, or tried to read it.
     is_ready: bool,
     used: Vec<Used>,
     /// Error lines that have not been returned yet. They say why catalogs or schemas can't be used, or why documents
@@ -191,35 +191,25 @@ impl Lookup {
         Ok(matches!(self.choice(alloc, name, text)?, Choice::None))
     }
 
-    /// Reads the catalog that the options name, if any. If the catalog can't be used, adds an error to `complaint`.
-    fn read_catalog<D: Disk>(&mut self, alloc: Global, disk: &mut D) -> Result<(), AllocError>
+    /// Reads the catalog that the options name, if any, unless `is_ready` is set. If the catalog can't be used, adds an
+    /// error to `complaint`.
+    fn prepare<D: Disk>(&mut self, alloc: Global, disk: &mut D) -> Result<(), AllocError>
         ensures { self.new.options ≡ self.old.options }
     {
         let path = self.options.catalog.as_str();
-        if path.is_empty() {
+        if self.is_ready || path.is_empty() {
             return Ok(());
         }
         self.stamp = disk.stamp(path);
         let complaint = &mut self.complaint;
-        let Some(text) = text_of(alloc, disk, complaint, "read the catalog", path)? else {
-            return Ok(());
-        };
-        self.catalog = catalog_of(alloc, text.as_str())?;
-        if self.catalog.is_none() {
-            let reason = catalog_reason(alloc, text.as_str())?;
-            complain(complaint, "use the catalog", path, reason.as_str())?;
+        if let Some(text) = text_of(alloc, disk, complaint, "read the catalog", path)? {
+            self.catalog = catalog_of(alloc, text.as_str())?;
+            if self.catalog.is_none() {
+                let reason = json_reason(alloc, text.as_str(), "it has no array `schemas`")?;
+                complain(complaint, "use the catalog", path, reason.as_str())?;
+            }
         }
-        Ok(())
-    }
-
-    /// Calls `read_catalog` and sets `is_ready`, unless `is_ready` is set already.
-    fn prepare<D: Disk>(&mut self, alloc: Global, disk: &mut D) -> Result<(), AllocError>
-        ensures { self.new.options ≡ self.old.options }
-    {
-        if !self.is_ready {
-            self.read_catalog(alloc, disk)?;
-            self.is_ready = true;
-        }
+        self.is_ready = true;
         Ok(())
     }
 
@@ -284,11 +274,9 @@ impl Lookup {
 
     /// Drops the catalog if its file has changed since it was read. `prepare` then reads the catalog again.
     fn forget_catalog<D: Disk>(&mut self, disk: &mut D) {
-        if self.is_ready && !self.options.catalog.is_empty() {
-            if disk.stamp(self.options.catalog.as_str()) != self.stamp {
-                self.is_ready = false;
-                self.catalog = None;
-            }
+        if self.is_ready && disk.stamp(self.options.catalog.as_str()) != self.stamp {
+            self.is_ready = false;
+            self.catalog = None;
         }
     }
 
