@@ -311,12 +311,16 @@ fn document_at<D: Disk>(
         Some(path) => disk.stamp(path.as_str()).is_some(),
         None => false,
     };
-    if let (false, Some(text)) = (is_there, metaschema(address)) {
-        return Ok(Some(Loaded {
-            path: String::from_str(alloc, address)?,
-            address: String::from_str(alloc, address)?,
-            text: String::from_str(alloc, text)?,
-        }));
+    if !is_there {
+        if let Some(text) = metaschema(alloc, address)? {
+            let path = String::from_str(alloc, address)?;
+            let address = path.clone()?;
+            return Ok(Some(Loaded {
+                path,
+                address,
+                text,
+            }));
+        }
     }
     let Some(path) = path else {
         return Ok(None);
