@@ -205,9 +205,10 @@ impl Schema {
         }
         for node in nodes {
             let keywords = self.keywords(*node);
-            let is_listed = keywords
-                .iter()
-                .any(|placed| matches!(&placed.keyword, Keyword::Enum(_, _)));
+            let mut is_listed = false;
+            for placed in keywords {
+                is_listed |= matches!(&placed.keyword, Keyword::Enum(_, _));
+            }
             for placed in keywords {
                 match &placed.keyword {
                     Keyword::Enum(_, shown) => listed.push_all(shown.as_slice()),

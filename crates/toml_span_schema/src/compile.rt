@@ -13,7 +13,7 @@ use crate::formats::expanded;
 use crate::guide::Guide;
 use crate::keyword::{Node, Placed};
 use crate::notes::{Notes, read_notes};
-use crate::pointers::push_step;
+use crate::pointers::{push_step, with_step};
 use crate::schema::Schema;
 use crate::sources::{
     Dialect, MOST_SCHEMAS, Resource, Source, Sources, decoded, joined, push_flaw, too_many,
@@ -254,7 +254,10 @@ impl<'v, 'a> Compiler<'v, 'a> {
         match self.sources.documents.get(site.source) {
             Some(document) if self.names_root || site.source > 0 => {
                 let address = document.address.as_str();
-                let name = address.rsplit_once("/").map_or(address, |parts| parts.1);
+                let name = match address.rsplit_once("/") {
+                    Some((_, name)) => name,
+                    None => address,
+                };
                 format!(in alloc; "{name}#{pointer}")
             }
             _ => String::from_str(alloc, pointer),
@@ -388,9 +391,10 @@ impl<'v, 'a> Compiler<'v, 'a> {
         outer: usize,
     ) -> Result<usize, SchemaError> {
         let all = self.bound_in(source, pointer, outer)?;
-        let scopes = self.scopes.as_slice();
-        if let Some(found) = scopes.iter().position(|other| other.as_slice() == all.as_slice()) {
-            return Ok(found);
+        for (i, other) in self.scopes.as_slice().iter().enumerate() {
+            if other.as_slice() == all.as_slice() {
+                return Ok(i);
+            }
         }
         let made = self.scopes.len();
         self.scopes.push(all)?;
@@ -448,17 +452,18 @@ impl<'v, 'a> Compiler<'v, 'a> {
         Ok(at)
     }
 
-    /// Returns the index of the compiled form of `value`, the subschema to which `steps` lead from the schema `site`.
-    /// Fails like `node`.
+    /// Returns the index of the compiled form of `value`, the subschema that is the value of `keyword` in the schema
+    /// `site`, or that has the name or position `step` in this value. Fails like `node`.
     pub(crate) fn under(
         &mut self,
         site: &Site<'v, 'a>,
-        steps: &[&str],
+        keyword: &str,
+        step: Option<&str>,
         value: &'v Json<'a>,
     ) -> Result<usize, SchemaError> {
-        let mut pointer = String::from_str(self.alloc, site.pointer.as_str())?;
-        for step in steps {
-            push_step(&mut pointer, *step)?;
+        let mut pointer = with_step(self.alloc, site.pointer.as_str(), keyword)?;
+        if let Some(step) = step {
+            push_step(&mut pointer, step)?;
         }
         self.node(value, site.source, pointer.as_str(), site.scope, false)
     }
@@ -472,9 +477,10 @@ impl<'v, 'a> Compiler<'v, 'a> {
         reference: &str,
     ) -> Result<Option<Target>, SchemaError> {
         let alloc = self.alloc;
-        let base = self
-            .resource(site.source, site.pointer.as_str())
-            .map_or("", |resource| resource.address.as_str());
+        let base = match self.resource(site.source, site.pointer.as_str()) {
+            Some(resource) => resource.address.as_str(),
+            None => "",
+        };
         let Some(url) = joined(alloc, base, reference)? else {
             self.complain(site, &[keyword], "this is not a URL", true)?;
             return Ok(None);
@@ -523,7 +529,10 @@ impl<'v, 'a> Compiler<'v, 'a> {
 
     /// Returns the place of the anchor at the position `at`, or `None` if `at` is `None` or too large.
     fn anchored(&self, at: Option<usize>) -> Result<Option<Target>, SchemaError> {
-        let Some(anchor) = at.and_then(|at| self.sources.anchors.get(at)) else {
+        let Some(position) = at else {
+            return Ok(None);
+        };
+        let Some(anchor) = self.sources.anchors.get(position) else {
             return Ok(None);
         };
         Ok(Some(Target {

@@ -110,12 +110,22 @@ pub(crate) fn want_of(name: &str, draft: u8) -> Option<Want> {
 
 /// Returns whether a word is among `words`, which spaces separate.
 pub(crate) fn has_word(words: &str, word: &str) -> bool {
-    words.split(' ').any(|other| other == word)
+    for other in words.split(' ') {
+        if other == word {
+            return true;
+        }
+    }
+    false
 }
 
 /// Returns whether a schema of any draft has the keyword `name`.
 pub(crate) fn is_keyword(name: &str) -> bool {
-    KEYWORDS.iter().any(|row| has_word(row.0, name))
+    for row in KEYWORDS.iter() {
+        if has_word(row.0, name) {
+            return true;
+        }
+    }
+    false
 }
 
 /// Returns what a value must be, if `want` leaves the choice between an array and another value.

@@ -143,14 +143,26 @@ fn push_separator(out: &mut Text, at: usize, count: usize, last: &str) {
     }
 }
 
+/// Returns whether `table`, if it is given, lacks a key.
+fn is_missing(table: Option<&Value<'_>>, name: &str) -> bool {
+    match table {
+        Some(table) => !has_key(table, name),
+        None => true,
+    }
+}
+
 /// Appends the names of keys, each in backticks, separated by commas and `and`. Leaves out the keys in `table`, if it is
 /// given.
 fn push_keys(out: &mut Text, names: &[String], table: Option<&Value<'_>>) {
-    let is_missing = |name: &String| table.map_or(true, |table| !has_key(table, name.as_str()));
-    let count = names.iter().filter(|name| is_missing(*name)).count();
+    let mut count = 0usize;
+    for name in names {
+        if is_missing(table, name.as_str()) {
+            count = count.saturating_add(1);
+        }
+    }
     let mut at = 0usize;
     for name in names {
-        if is_missing(name) {
+        if is_missing(table, name.as_str()) {
             push_separator(out, at, count, " and ");
             out.push_all("`", name.as_str(), "`");
             at = at.saturating_add(1);
@@ -168,7 +180,10 @@ fn push_types(out: &mut Text, types: &Types) {
         (types.array, "array"),
         (types.object, "table"),
     ];
-    let count = all.iter().filter(|named| named.0).count();
+    let mut count = 0usize;
+    for named in all.iter() {
+        count = count.saturating_add(usize::from(named.0));
+    }
     let mut at = 0usize;
     for (is_named, word) in all {
         if is_named {
@@ -237,7 +252,10 @@ fn push_unlisted(out: &mut Text, listed: &Listed<'_>, value: &Value<'_>) {
         out.push(if shown.len() > 1 { ", or " } else { " or " });
     }
     push_types(out, &listed.types);
-    let strings = shown.iter().filter(|one| one.starts_with("`\"")).count();
+    let mut strings = 0usize;
+    for one in shown {
+        strings = strings.saturating_add(usize::from(one.starts_with("`\"")));
+    }
     let most = if value.as_str().is_some() {
         0
     } else {
@@ -316,10 +334,14 @@ fn counted(keyword: &Keyword) -> &'static str {
 
 /// Returns whether one of the constants, as messages show them, is `text` between `front` and `back`.
 fn has_shown(constants: &[&str], front: &str, text: &str, back: &str) -> bool {
-    constants.iter().any(|constant| {
-        let inside = constant.strip_prefix(front).and_then(|rest| rest.strip_suffix(back));
-        inside == Some(text)
-    })
+    for constant in constants {
+        if let Some(rest) = constant.strip_prefix(front) {
+            if rest.strip_suffix(back) == Some(text) {
+                return true;
+            }
+        }
+    }
+    false
 }
 
 /// Returns an integer, boolean or finite float as TOML, or an empty text for any other value.

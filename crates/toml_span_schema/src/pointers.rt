@@ -59,18 +59,30 @@ fn inside<'v, 'a>(
     }
 }
 
+/// Returns the value that the steps of a pointer name inside `value`, or `None` if it does not exist.
+fn walked<'v, 'a>(
+    alloc: Global,
+    value: &'v Json<'a>,
+    steps: &[&str],
+) -> Result<Option<&'v Json<'a>>, AllocError> {
+    let [step, rest @ ..] = steps else {
+        return Ok(Some(value));
+    };
+    match inside(alloc, value, *step)? {
+        Some(next) => walked(alloc, next, rest),
+        None => Ok(None),
+    }
+}
+
 /// Returns the value that a pointer names inside `root`, or `None` if it does not exist.
 pub(crate) fn pointed<'v, 'a>(
     alloc: Global,
     root: &'v Json<'a>,
     pointer: &str,
 ) -> Result<Option<&'v Json<'a>>, AllocError> {
-    let mut value = root;
+    let mut steps = Vec::new(alloc);
     for step in pointer.split('/').skip(1) {
-        match inside(alloc, value, step)? {
-            Some(next) => value = next,
-            None => return Ok(None),
-        }
+        steps.push(step)?;
     }
-    Ok(Some(value))
+    walked(alloc, root, steps.as_slice())
 }

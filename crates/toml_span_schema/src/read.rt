@@ -476,7 +476,7 @@ impl<'v, 'a> Compiler<'v, 'a> {
         let mut nodes = Vec::new(self.alloc);
         for (at, value) in items.as_slice().iter().enumerate() {
             let at_text = format!(in self.alloc; "{at}")?;
-            nodes.push(self.under(site, &[name, at_text.as_str()], value)?)?;
+            nodes.push(self.under(site, name, Some(at_text.as_str()), value)?)?;
         }
         Ok(Some(nodes))
     }
@@ -489,7 +489,7 @@ impl<'v, 'a> Compiler<'v, 'a> {
         name: &'static str,
     ) -> Result<Option<usize>, SchemaError> {
         match site.value.get(name) {
-            Some(value) => Ok(Some(self.under(site, &[name], value)?)),
+            Some(value) => Ok(Some(self.under(site, name, None, value)?)),
             None => Ok(None),
         }
     }
@@ -570,7 +570,7 @@ impl<'v, 'a> Compiler<'v, 'a> {
         if let Some(Json::Object(members)) = site.value.get("patternProperties") {
             for member in members.as_slice() {
                 let steps = &["patternProperties", member.0];
-                let mut node = self.under(site, steps, &member.1)?;
+                let mut node = self.under(site, "patternProperties", Some(member.0), &member.1)?;
                 let pattern = match self.add_pattern(site, steps, member.0)? {
                     Some(pattern) => pattern,
                     None => {
@@ -591,7 +591,7 @@ impl<'v, 'a> Compiler<'v, 'a> {
         let mut named = BTreeMap::new(self.alloc);
         if let Some(Json::Object(members)) = site.value.get("properties") {
             for member in members.as_slice() {
-                let node = self.under(site, &["properties", member.0], &member.1)?;
+                let node = self.under(site, "properties", Some(member.0), &member.1)?;
                 let _earlier = named.insert(String::from_str(self.alloc, member.0)?, node)?;
             }
         }
@@ -632,9 +632,11 @@ impl<'v, 'a> Compiler<'v, 'a> {
         let mut schemas = Vec::new(alloc);
         for member in members.as_slice() {
             let key = String::from_str(alloc, member.0)?;
-            match &member.1 {
-                Json::Array(_) if is_old => names.push((key, texts(alloc, &member.1)?))?,
-                value => schemas.push((key, self.under(site, &[name, member.0], value)?))?,
+            if is_old && matches!(&member.1, Json::Array(_)) {
+                names.push((key, texts(alloc, &member.1)?))?;
+            } else {
+                let node = self.under(site, name, Some(member.0), &member.1)?;
+                schemas.push((key, node))?;
             }
         }
         if is_old && site.dialect.validates {

@@ -16,7 +16,7 @@ use std::alloc::{AllocError, Global};
 use std::collections::BTreeMap;
 use toml_span_lex::span::Span;
 use toml_span_report::{Report, nearest};
-use toml_span_tree::Value;
+use toml_span_tree::{Table, Value};
 
 impl Schema {
     /// Checks a value. Returns a report for each violation of the schema, in the order of the text, and one more if
@@ -99,7 +99,7 @@ impl Schema {
     /// `contains` and `propertyNames` cause no warnings. Fails like `check`.
     pub fn warnings(&self, alloc: Global, value: &Value<'_>) -> Result<Vec<Report>, CheckError> {
         let mut reports = Vec::new(alloc);
-        if !self.nodes.iter().any(|node| node.deprecated) {
+        if !self.has_deprecated() {
             return Ok(reports);
         }
         let mut left = MOST_STEPS;
@@ -115,6 +115,16 @@ impl Schema {
         Ok(in_order(reports)?)
     }
 
+    /// Returns whether a compiled schema says `deprecated: true`.
+    fn has_deprecated(&self) -> bool {
+        for node in self.nodes.as_slice() {
+            if node.deprecated {
+                return true;
+            }
+        }
+        false
+    }
+
     /// Returns whether the key `name` is missing since it is misspelled: `others` has an unknown key in the same table
     /// that is near to it. `violation` is the one for the missing key.
     fn is_misspelled<'s>(
@@ -128,8 +138,7 @@ impl Schema {
         };
         for other in others {
             if let (Cause::Never, Part::Member(key, _)) = (other.cause, other.part) {
-                let is_here = other.level == violation.level
-                    && table.iter().any(|entry| entry.0.span == key.span);
+                let is_here = other.level == violation.level && has_key_at(table, key.span);
                 if is_here && self.meant(other)? == Some(name) {
                     return Ok(true);
                 }
@@ -152,13 +161,15 @@ impl Schema {
         ) {
             (Cause::Missing(name), _, _) => self.is_misspelled(name, violation, others),
             (_, Keyword::UnevaluatedProperties(node, _), Part::Member(key, _)) => {
-                let is_other = others.iter().any(|other| {
-                    !matches!(
+                for other in others {
+                    if !matches!(
                         &other.at.placed.keyword,
                         Keyword::UnevaluatedProperties(_, _)
-                    )
-                });
-                Ok(is_other && self.known_keys(&[*node])?.contains(&key.name.as_ref()))
+                    ) {
+                        return Ok(self.known_keys(&[*node])?.contains(&key.name.as_ref()));
+                    }
+                }
+                Ok(false)
             }
             _ => Ok(false),
         }
@@ -358,11 +369,7 @@ fn push_error(reports: &mut Vec<Report>, report: Report) -> Result<(), AllocErro
 fn push_new(reports: &mut Vec<Report>, report: Report) -> Result<(), AllocError>
     ensures { All IsError reports.old.items → IsError report → OnOk result (All IsError reports.new.items) }
 {
-    let is_reported = reports.iter().any(|other| {
-        start_of(other) == start_of(&report)
-            && other.message.as_str() == report.message.as_str()
-    });
-    if is_reported {
+    if is_reported(reports.as_slice(), &report) {
         return Ok(());
     }
     push_error(reports, report)
@@ -417,7 +424,31 @@ fn with_meant(
 
 /// Returns the byte offset at which the first label of a report begins, or 0 if the report has no label.
 fn start_of(report: &Report) -> usize {
-    report.labels.first().map_or(0, |label| label.span.start)
+    match report.labels.first() {
+        Some(label) => label.span.start,
+        None => 0,
+    }
+}
+
+/// Returns whether one of `reports` says the same of the same place as `report`.
+fn is_reported(reports: &[Report], report: &Report) -> bool {
+    for other in reports {
+        let is_here = start_of(other) == start_of(report);
+        if is_here && other.message.as_str() == report.message.as_str() {
+            return true;
+        }
+    }
+    false
+}
+
+/// Returns whether a table has a key at `span`.
+fn has_key_at(table: &Table<'_>, span: Span) -> bool {
+    for (key, _value) in table.iter() {
+        if key.span == span {
+            return true;
+        }
+    }
+    false
 }
 
 /// Returns the spans of the first element that is equal to an earlier one, after the span of the earlier one, or `None`
@@ -443,7 +474,7 @@ fn same_or_nearest<'s>(
     word: &str,
     known: &[&'s str],
 ) -> Result<Option<&'s str>, AllocError> {
-    if known.contains(&word) {
+    if (&*known).contains(&word) {
         return Ok(None);
     }
     for name in known {

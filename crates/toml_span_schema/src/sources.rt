@@ -164,7 +164,7 @@ pub(crate) fn decoded(alloc: Global, fragment: &str) -> Result<String, AllocErro
 
 /// Returns the string in the member `name`, or `None` if the member is missing or not a string.
 pub(crate) fn text_of<'v, 'a>(value: &'v Json<'a>, name: &str) -> Option<&'a str> {
-    value.get(name).and_then(|member| member.as_str())
+    value.get(name)?.as_str()
 }
 
 /// Adds a flaw, unless there is one at the same place or there are too many.
@@ -225,12 +225,14 @@ impl<'v, 'a> Sources<'v, 'a> {
         for step in steps {
             push_step(&mut place, *step)?;
         }
-        let document = self
-            .documents
-            .get(source)
-            .map_or("", |document| document.address.as_str());
-        let resource = self.resources.get(self.resource_at(source, place.as_str()));
-        let base = resource.map_or("", |resource| resource.address.as_str());
+        let document = match self.documents.get(source) {
+            Some(document) => document.address.as_str(),
+            None => "",
+        };
+        let base = match self.resources.get(self.resource_at(source, place.as_str())) {
+            Some(resource) => resource.address.as_str(),
+            None => "",
+        };
         Ok(Flaw {
             document: String::from_str(alloc, document)?,
             base: String::from_str(alloc, base)?,
@@ -331,9 +333,10 @@ impl<'v, 'a> Sources<'v, 'a> {
 
     /// Returns the draft of a resource.
     fn draft_in(&self, resource: usize) -> u8 {
-        self.resources
-            .get(resource)
-            .map_or(20, |resource| resource.dialect.draft)
+        match self.resources.get(resource) {
+            Some(resource) => resource.dialect.draft,
+            None => 20,
+        }
     }
 
     /// Visits a schema and the values inside it, as `visit` does. The parameters are as in `Visit`. Fails like `new`.
@@ -663,9 +666,10 @@ fn is_within(pointer: &str, outer: &str) -> bool {
 /// Returns the dialect that a metaschema describes. The draft is that of `other` if the metaschema names no known
 /// draft.
 fn own_dialect(metaschema: &Json<'_>, other: Dialect) -> Dialect {
-    let draft = text_of(metaschema, "$schema")
-        .and_then(|address| draft_of(address))
-        .unwrap_or(other.draft);
+    let draft = match text_of(metaschema, "$schema") {
+        Some(address) => draft_of(address).unwrap_or(other.draft),
+        None => other.draft,
+    };
     let validates = match metaschema.get("$vocabulary") {
         Some(vocabulary) => {
             vocabulary

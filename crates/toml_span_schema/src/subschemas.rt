@@ -193,8 +193,10 @@ impl Guide {
         for node in subschemas.nodes.as_slice() {
             for placed in self.schema.keywords(*node) {
                 if let Keyword::Required(names) = &placed.keyword {
-                    if names.iter().any(|other| other.as_str() == name) {
-                        return true;
+                    for other in names.as_slice() {
+                        if other.as_str() == name {
+                            return true;
+                        }
                     }
                 }
             }
@@ -381,7 +383,11 @@ impl Schema {
         value: &'v Value<'de>,
     ) -> Result<bool, CheckError> {
         let walk = self.walked(left, node, value)?;
-        let mut violations = walk.violations.iter();
-        Ok(!violations.any(|one| one.is_unlisted() || one.is_never()))
+        for one in walk.violations.as_slice() {
+            if one.is_unlisted() || one.is_never() {
+                return Ok(false);
+            }
+        }
+        Ok(true)
     }
 }

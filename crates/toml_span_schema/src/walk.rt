@@ -217,7 +217,10 @@ impl Schema {
         if depth == 0 {
             return walk.fail(CheckError::TooDeep);
         }
-        let is_deprecated = self.nodes.get(node).map_or(false, |node| node.deprecated);
+        let is_deprecated = match self.nodes.get(node) {
+            Some(node) => node.deprecated,
+            None => false,
+        };
         if is_deprecated && walk.deprecated.push((node, part)).is_err() {
             walk.fail(CheckError::OutOfMemory);
         }
@@ -457,6 +460,10 @@ fn is_counted(walk: &Walk<'_, '_, '_>, node: usize, part: Part<'_, '_>) -> bool 
 
 /// Returns whether a word can be written as a bare key.
 pub(crate) fn is_plain(word: &str) -> bool {
-    let is_bare = |c: char| c.is_ascii_alphanumeric() || c == '-' || c == '_';
-    !word.is_empty() && word.chars().all(is_bare)
+    for c in word.chars() {
+        if !c.is_ascii_alphanumeric() && c != '-' && c != '_' {
+            return false;
+        }
+    }
+    !word.is_empty()
 }
