@@ -148,7 +148,10 @@ pub(crate) fn path_of_address(
 /// Returns the address of the schema at a path: `HERE` and the name of the file. In the name, `~` replaces each
 /// character other than ASCII letters, digits, `.`, `-` and `_`.
 pub(crate) fn address_of(alloc: Global, path: &str) -> Result<String, AllocError> {
-    let name = path.rsplit_once('/').map_or(path, |parts| parts.1);
+    let name = match path.rsplit_once('/') {
+        Some((_, name)) => name,
+        None => path,
+    };
     let mut out = String::from_str(alloc, HERE)?;
     for c in name.chars() {
         let is_plain = c.is_ascii_alphanumeric() || c == '.' || c == '-' || c == '_';

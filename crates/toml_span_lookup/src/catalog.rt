@@ -114,8 +114,8 @@ fn push_globs(alloc: Global, text: &str, patterns: &mut Vec<Pattern>) -> Result<
 /// Parses an entry of a catalog, and leaves out patterns that are not strings or not supported. Returns `None` if `url`
 /// is not a string or `fileMatch` is missing.
 fn entry_of(alloc: Global, entry: &Json<'_>) -> Result<Option<Listed>, AllocError> {
-    let url = entry.get("url").and_then(|url| url.as_str());
-    let (Some(address), Some(globs)) = (url, entry.get("fileMatch")) else {
+    let members = (entry.get("url"), entry.get("fileMatch"));
+    let (Some(Json::String(address)), Some(globs)) = members else {
         return Ok(None);
     };
     let globs = match globs {
@@ -130,7 +130,7 @@ fn entry_of(alloc: Global, entry: &Json<'_>) -> Result<Option<Listed>, AllocErro
     }
     Ok(Some(Listed {
         patterns,
-        address: String::from_str(alloc, address)?,
+        address: String::from_str(alloc, *address)?,
     }))
 }
 

@@ -121,9 +121,12 @@ pub fn text_of<D: Disk>(
 
 /// Returns the document at `address`, or `None` if `documents` has none.
 fn at_address<'d>(documents: &'d [Loaded], address: &str) -> Option<&'d Loaded> {
-    documents
-        .iter()
-        .find(|document| document.address.as_str() == address)
+    for document in documents {
+        if document.address.as_str() == address {
+            return Some(document);
+        }
+    }
+    None
 }
 
 /// Returns the path of the document at `address`, which `flaw` reports as missing, or of its local copy: the one that
@@ -140,9 +143,10 @@ fn path_for<D: Disk>(
     if let Some(file) = options.copy_of(alloc, address)? {
         return Ok(Some(file));
     }
-    let first = documents
-        .first()
-        .map_or("", |document| document.path.as_str());
+    let first = match documents.first() {
+        Some(document) => document.path.as_str(),
+        None => "",
+    };
     if let Some(path) = path_of_address(alloc, folder_of(first), address)? {
         return Ok(Some(path));
     }

@@ -286,9 +286,10 @@ impl Lookup {
         let Some(at) = self.position_of(path) else {
             return;
         };
-        let is_stale = self.used.get(at).map_or(false, |used| used.is_stale(disk));
-        if is_stale && at < self.used.len() {
-            drop(self.used.remove(at));
+        if let Some(used) = self.used.get(at) {
+            if used.is_stale(disk) {
+                drop(self.used.remove(at));
+            }
         }
     }
 

@@ -86,7 +86,7 @@ pub(crate) fn remote_reason(
     let mut urls: Vec<&str> = Vec::new(alloc);
     for flaw in flaws {
         let url = without_fragment(flaw.missing.as_str());
-        if is_remote(url) && !urls.iter().any(|other| *other == url) {
+        if is_remote(url) && !urls.contains(&url) {
             urls.push(url)?;
         }
     }

@@ -15,7 +15,7 @@ use crate::schema::Schema;
 use std::alloc::{AllocError, Global};
 use std::borrow::CowStr;
 use std::collections::BTreeMap;
-use toml_span_tree::{Table, Value, ValueInner};
+use toml_span_tree::{Value, ValueInner};
 
 /// Returns whether the regular expression at position `pattern` in `schema.patterns` matches somewhere in a text, or
 /// false if `pattern` is out of range.
@@ -79,28 +79,6 @@ fn for_entry(
     Ok(list)
 }
 
-/// Returns a list with the subschema for the element at position `at`: `prefix[at]` or, if `prefix` is shorter, `rest`.
-/// The list is empty if neither exists.
-fn for_element(
-    alloc: Global,
-    prefix: &[usize],
-    rest: Option<usize>,
-    at: usize,
-) -> Result<Vec<usize>, AllocError>
-    ensures { IfOk result (λ list. list.items ≡ at_or_rest (slice_get prefix.now at) rest) }
-{
-    let mut list = Vec::new(alloc);
-    match prefix.get(at) {
-        Some(own) => list.push(*own)?,
-        None => {
-            if let Some(rest) = rest {
-                list.push(rest)?;
-            }
-        }
-    }
-    Ok(list)
-}
-
 /// Returns the subschemas that `Keyword::Properties` applies to an entry, or `Keyword::Items` to an element. The list
 /// is empty for all other pairs of a keyword and a part.
 #[tactic(auto, unfolding(crate::specs::Applied::schemas_for))]
@@ -114,7 +92,15 @@ pub(crate) fn schemas_for(
     let alloc = schema.alloc();
     match (keyword, part) {
         (Keyword::Items(prefix, rest), Part::Element(at, _)) => {
-            for_element(alloc, prefix.as_slice(), *rest, at)
+            let node = match prefix.get(at) {
+                Some(own) => Some(*own),
+                None => *rest,
+            };
+            let mut list = Vec::new(alloc);
+            if let Some(node) = node {
+                list.push(node)?;
+            }
+            Ok(list)
         }
         (Keyword::Properties(named, matching, rest), Part::Member(key, _)) => {
             let name = key.name.as_ref();
@@ -228,42 +214,27 @@ pub(crate) fn names<'v>(alloc: Global, value: &'v Value<'_>) -> Result<Vec<Value
     ensures { IfOk result (λ list. map view list.items ≡ names_of (view value.now)) }
 {
     let mut list = Vec::new(alloc);
-    if let Some(table) = value.as_table() {
-        push_names(&mut list, table)?;
-    }
-    Ok(list)
-}
-
-/// Appends the keys of a table as strings, with their spans.
-fn push_names<'v>(list: &mut Vec<Value<'v>>, table: &'v Table<'_>) -> Result<(), AllocError>
-    ensures { OnOk result (map view list.new.items
-        ≡ map view list.old.items ++ name_values (members_view table.now.entries)) }
-{
+    let Some(table) = value.as_table() else {
+        return Ok(list);
+    };
     for (key, _value) in table.iter() {
         let name = ValueInner::String(CowStr::Borrowed(key.name.as_ref()));
         list.push(Value::with_span(name, key.span))?;
     }
-    Ok(())
-}
-
-/// Returns whether a table has this key.
-fn has_entry(table: &Table<'_>, name: &str) -> bool
-    ensures { result ≡ has_name name.now (members_view table.now.entries) }
-{
-    for (key, _value) in table.iter() {
-        if key.name.as_ref() == name {
-            return true;
-        }
-    }
-    false
+    Ok(list)
 }
 
 /// Returns whether a value is a table with this key.
 pub(crate) fn has_key(value: &Value<'_>, name: &str) -> bool
     ensures { result ≡ has_key (view value.now) name.now }
 {
-    match value.as_table() {
-        Some(table) => has_entry(table, name),
-        None => false,
+    let Some(table) = value.as_table() else {
+        return false;
+    };
+    for (key, _value) in table.iter() {
+        if key.name.as_ref() == name {
+            return true;
+        }
     }
+    false
 }

@@ -43,20 +43,7 @@ pub(crate) fn push_decimal(out: &mut String, number: &Decimal) -> Result<(), All
     out.push_str(end.as_str())
 }
 
-/// Appends the canonical text of a number: `<` for negative infinity, `>` for infinity, `?` for NaN, otherwise the text
-/// of `push_decimal`.
-fn push_number(out: &mut String, number: &Number) -> Result<(), AllocError>
-    ensures { OnOk result (string_bytes out.new ≡ string_bytes out.old ++ quantity_form (quantity number.now)) }
-{
-    match number {
-        Number::Finite(number) => push_decimal(out, number),
-        Number::Infinite(true) => out.push('<'),
-        Number::Infinite(false) => out.push('>'),
-        Number::NotANumber => out.push('?'),
-    }
-}
-
-/// Appends the canonical text of a value. Fails with `TooDeep` if the value nests `depth` or more levels deep or
+/// Appends the canonical text of a value: of infinity `>` or, if it is negative, `<`, and of NaN `?`. Fails with `TooDeep` if the value nests `depth` or more levels deep or
 /// contains a taken value. After a failure, `out` may contain a part of the text.
 #[cycle(canonical)]
 fn push_canonical(out: &mut String, depth: usize, value: &Value<'_>) -> Result<(), CheckError>
@@ -84,7 +71,12 @@ fn push_canonical(out: &mut String, depth: usize, value: &Value<'_>) -> Result<(
         }
         _ => {
             if let Some(number) = number_in(*out.allocator(), value)? {
-                push_number(out, &number)?;
+                match number {
+                    Number::Finite(number) => push_decimal(out, &number)?,
+                    Number::Infinite(true) => out.push('<')?,
+                    Number::Infinite(false) => out.push('>')?,
+                    Number::NotANumber => out.push('?')?,
+                }
             }
         }
     }

@@ -338,28 +338,13 @@ impl Schema {
         ensures { IfOk result (λ r. r ≡ spec.keeps_members (below self.now draft left) draft keywords.now
             (value_view value.now)) }
     {
+        let (patterns, schemas) = (("patternProperties", true), ("dependentSchemas", true));
         Ok(
-            self.member_led(draft, left, "properties", keywords, value)?
-                && self.member_led(draft, left, "patternProperties", keywords, value)?
+            self.is_led(draft, left, ("properties", true), keywords, value.get("properties"))?
+                && self.is_led(draft, left, patterns, keywords, value.get("patternProperties"))?
                 && (draft < 19
-                    || self.member_led(draft, left, "dependentSchemas", keywords, value)?),
+                    || self.is_led(draft, left, schemas, keywords, value.get("dependentSchemas"))?),
         )
-    }
-
-    /// Returns whether the subschemas in an object that the keyword `name` has are compiled.
-    #[cycle(compiled)]
-    fn member_led(
-        &self,
-        draft: u8,
-        left: usize,
-        name: &str,
-        keywords: &[Placed],
-        value: &Json<'_>,
-    ) -> Result<bool, AllocError>
-        ensures { IfOk result (λ r. r ≡ spec.is_led (below self.now draft left) name.now true keywords.now
-            (get name.now (value_view value.now))) }
-    {
-        self.is_led(draft, left, (name, true), keywords, value.get(name))
     }
 
     /// Returns whether the subschemas of `items`, `prefixItems` and `additionalItems` are compiled.

@@ -34,17 +34,6 @@ fn push_escape(out: &mut String, c: char) -> Result<(), AllocError>
     }
 }
 
-/// Appends the translation of the character after `\c`: the control character of a letter. `regex` rejects the rest.
-fn push_control(out: &mut String, c: char) -> Result<(), AllocError>
-    ensures { OnOk result (string_bytes out.new ≡ string_bytes out.old ++ control c) }
-{
-    if c.is_ascii_alphabetic() {
-        out.push(char::from((u32::from(c) % 32) as u8))
-    } else {
-        out.push_str("(?!)")
-    }
-}
-
 /// Appends a backslash and a character.
 fn push_escaped(out: &mut String, c: char) -> Result<(), AllocError>
     ensures { OnOk result (string_bytes out.new ≡ string_bytes out.old ++ (92 ∷ [] ++ encode_utf8 c)) }
@@ -70,7 +59,7 @@ fn push_plain(out: &mut String, in_class: bool, c: char) -> Result<(), AllocErro
 }
 
 /// Appends the translation of a character. `state` is 0, 1 after a backslash, and 2 after `\c`. `in_class` says whether
-/// the character is inside brackets.
+/// the character is inside brackets. After `\c`, a letter becomes its control character. `regex` rejects the rest.
 fn push_character(out: &mut String, state: u8, in_class: bool, c: char) -> Result<(), AllocError>
     ensures { OnOk result (string_bytes out.new ≡ string_bytes out.old ++ character state in_class c) }
 {
@@ -78,8 +67,10 @@ fn push_character(out: &mut String, state: u8, in_class: bool, c: char) -> Resul
         push_plain(out, in_class, c)
     } else if state == 1 {
         push_escape(out, c)
+    } else if c.is_ascii_alphabetic() {
+        out.push(char::from((u32::from(c) % 32) as u8))
     } else {
-        push_control(out, c)
+        out.push_str("(?!)")
     }
 }
 

@@ -1,6 +1,6 @@
 //! Decides whether a value is valid. In all functions, `depth` is the number of subschemas that may still be nested,
 //! and `left` the number that may still be applied.
-ghost use Rattle.std.specs.Prelude.{◌≡◌, ◌&&◌, nat_le, IfOk, Some, None, false, true, map, ℕ};
+ghost use Rattle.std.specs.Prelude.{◌≡◌, IfOk, Some, None, false, true, map, ℕ};
 ghost use Rattle.toml_span_tree.specs.Value.{inner_of, view};
 ghost use Rattle.toml_span_schema.specs.Applied.{applied_of};
 ghost use Rattle.toml_span_schema.specs.Parts.{part_of, whole};
@@ -28,13 +28,6 @@ pub(crate) fn spend(left: &mut u64) -> Result<(), CheckError> {
     }
     *left -= 1;
     Ok(())
-}
-
-/// Returns whether `count` is at least `least` and at most `most`.
-fn is_between(least: u64, count: u64, most: u64) -> bool
-    ensures { result ≡ (nat_le least count && nat_le count most) }
-{
-    least <= count && count <= most
 }
 
 impl Schema {
@@ -95,10 +88,10 @@ impl Schema {
             }
             Keyword::Not(node) => Ok(!self.is_valid(left, depth, *node, value)?),
             Keyword::If(condition, yes, no) => {
-                if self.is_valid(left, depth, *condition, value)? {
-                    self.maybe_allows(left, depth, *yes, value)
-                } else {
-                    self.maybe_allows(left, depth, *no, value)
+                let holds = self.is_valid(left, depth, *condition, value)?;
+                match if holds { *yes } else { *no } {
+                    Some(next) => self.is_valid(left, depth, next, value),
+                    None => Ok(true),
                 }
             }
             _ => self.allows_other(left, depth, keyword, value),
@@ -193,25 +186,6 @@ impl Schema {
         Ok(count)
     }
 
-    /// Returns whether a value is valid against the subschema at index `node`, or true if `node` is `None`. Fails like
-    /// `is_valid`.
-    #[cycle(valid)]
-    fn maybe_allows(
-        &self,
-        left: &mut u64,
-        depth: usize,
-        node: Option<usize>,
-        value: &Value<'_>,
-    ) -> Result<bool, CheckError>
-        ensures { IfOk result (λ r.
-            optional (λ k. (judged self.now depth).valid k (view value.now)) (Some true) node ≡ Some r) }
-    {
-        match node {
-            Some(node) => self.is_valid(left, depth, node, value),
-            None => Ok(true),
-        }
-    }
-
     /// Returns whether all of `values` are valid against the subschema at index `node`. Fails like `is_valid`.
     #[cycle(valid)]
     fn allows_each(
@@ -252,7 +226,7 @@ impl Schema {
         match value.as_ref() {
             ValueInner::Array(_) => {
                 let count = self.count_valid(left, depth, list)?;
-                Ok(is_between(bounds.0, count as u64, bounds.1))
+                Ok(bounds.0 <= count as u64 && count as u64 <= bounds.1)
             }
             _ => Ok(true),
         }
@@ -431,28 +405,15 @@ impl Schema {
     {
         let mut rest = Vec::new(self.alloc());
         for part in parts {
-            if !self.element_is_valid(left, depth, node, *part)? {
+            let is_matched = match part {
+                Part::Element(_, element) => self.is_valid(left, depth, node, *element)?,
+                Part::Member(_, _) | Part::Whole(_) => false,
+            };
+            if !is_matched {
                 rest.push(*part)?;
             }
         }
         Ok(rest)
-    }
-
-    /// Returns whether `part` is an element, and is valid against the subschema at index `node`. Fails like `is_valid`.
-    #[cycle(valid)]
-    fn element_is_valid(
-        &self,
-        left: &mut u64,
-        depth: usize,
-        node: usize,
-        part: Part<'_, '_>,
-    ) -> Result<bool, CheckError>
-        ensures { IfOk result (λ r. is_evaluated_element (judged self.now depth) node (part_of part.entry) ≡ Some r) }
-    {
-        match part {
-            Part::Element(_, element) => self.is_valid(left, depth, node, element),
-            Part::Member(_, _) | Part::Whole(_) => Ok(false),
-        }
     }
 }
 
