@@ -176,7 +176,8 @@ const SIX: &str = r##"{"$schema":"http://json-schema.org/draft-0@/schema#",
 "$ref":"#/definitions/schemaArray"},"not":{"$ref":"#"}"##;
 
 /// The keywords of draft 7 that draft 6 does not have.
-const SEVEN: &str = r##","$comment":{"type":"string"},"readOnly":{"type":"boolean"},"contentMediaType":{
+const SEVEN: &str =
+    r##","$comment":{"type":"string"},"readOnly":{"type":"boolean"},"contentMediaType":{
 "type":"string"},"contentEncoding":{"type":"string"},"if":{"$ref":"#"},"then":{"$ref":"#"},"else":{"$ref":"#"}"##;
 
 /// Returns `front`, then `text` with `word` in place of each `@`, then `back`.

@@ -173,11 +173,7 @@ impl Schema {
     }
 
     /// Returns whether a value is not a table, or has a key of `properties` in the schema at index `node`.
-    fn shares_key(
-        &self,
-        node: usize,
-        part: Part<'_, '_>,
-    ) -> Result<bool, AllocError> {
+    fn shares_key(&self, node: usize, part: Part<'_, '_>) -> Result<bool, AllocError> {
         let Some(table) = part.value().as_table() else {
             return Ok(true);
         };

@@ -19,11 +19,7 @@ use toml_span_tree::{Value, ValueInner};
 
 /// Returns whether the regular expression at position `pattern` in `schema.patterns` matches somewhere in a text, or
 /// false if `pattern` is out of range.
-pub(crate) fn matches(
-    schema: &Schema,
-    pattern: usize,
-    text: &str,
-) -> Result<bool, AllocError>
+pub(crate) fn matches(schema: &Schema, pattern: usize, text: &str) -> Result<bool, AllocError>
     ensures { IfOk result (λ r. r ≡ matches schema.now pattern text.now) }
 {
     match schema.patterns.get(pattern) {

@@ -48,13 +48,15 @@ fn allows_number(keyword: &Keyword, number: &Number) -> Result<bool, CheckError>
     ensures { IfOk result (λ r. r ≡ allows_number keyword.now (quantity number.now)) }
 {
     match keyword {
-        Keyword::Minimum(limit) => Ok(
-            matches!(number.compare(limit), Some(Ordering::Greater | Ordering::Equal)),
-        ),
+        Keyword::Minimum(limit) => Ok(matches!(
+            number.compare(limit),
+            Some(Ordering::Greater | Ordering::Equal)
+        )),
         Keyword::ExclusiveMinimum(limit) => Ok(number.compare(limit) == Some(Ordering::Greater)),
-        Keyword::Maximum(limit) => Ok(
-            matches!(number.compare(limit), Some(Ordering::Less | Ordering::Equal)),
-        ),
+        Keyword::Maximum(limit) => Ok(matches!(
+            number.compare(limit),
+            Some(Ordering::Less | Ordering::Equal)
+        )),
         Keyword::ExclusiveMaximum(limit) => Ok(number.compare(limit) == Some(Ordering::Less)),
         Keyword::MultipleOf(size, power) => match number {
             Number::Finite(number) => number.is_multiple_of(*size, *power),
@@ -74,11 +76,7 @@ fn characters(text: &str) -> u64
 /// Returns whether a keyword for strings, such as `pattern`, allows a string. Other keywords allow any string. For the
 /// format `regex`, fails with `TooLong` if the string is a regular expression that is too large or nests too deep.
 #[tactic(auto, unfolding(crate::specs::Asserted::allows_text))]
-fn allows_text(
-    schema: &Schema,
-    keyword: &Keyword,
-    text: &str,
-) -> Result<bool, CheckError>
+fn allows_text(schema: &Schema, keyword: &Keyword, text: &str) -> Result<bool, CheckError>
     ensures { IfOk result (λ r. r ≡ allows_text schema.now keyword.now text.now) }
 {
     match keyword {
@@ -178,11 +176,7 @@ pub(crate) fn allows_simple(
 /// Returns whether a keyword for one type, such as `minimum`, allows a value. All values of other types are allowed.
 /// Fails like `allows_simple`.
 #[tactic(auto, unfolding(crate::specs::Asserted::allows_kind))]
-fn allows_kind(
-    schema: &Schema,
-    keyword: &Keyword,
-    value: &Value<'_>,
-) -> Result<bool, CheckError>
+fn allows_kind(schema: &Schema, keyword: &Keyword, value: &Value<'_>) -> Result<bool, CheckError>
     ensures { IfOk result (λ r. r ≡ allows_kind schema.now keyword.now (view value.now) (inner_of (view value.now))) }
 {
     let alloc = schema.alloc();

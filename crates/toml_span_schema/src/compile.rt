@@ -373,9 +373,7 @@ impl<'v, 'a> Compiler<'v, 'a> {
         is_error: bool,
     ) -> Result<(), AllocError> {
         let pointer = site.pointer.as_str();
-        let flaw = self
-            .sources
-            .flaw(site.source, pointer, steps, message)?;
+        let flaw = self.sources.flaw(site.source, pointer, steps, message)?;
         if is_error {
             push_flaw(&mut self.sources.errors, flaw)
         } else {

@@ -340,10 +340,26 @@ impl Schema {
     {
         let (patterns, schemas) = (("patternProperties", true), ("dependentSchemas", true));
         Ok(
-            self.is_led(draft, left, ("properties", true), keywords, value.get("properties"))?
-                && self.is_led(draft, left, patterns, keywords, value.get("patternProperties"))?
-                && (draft < 19
-                    || self.is_led(draft, left, schemas, keywords, value.get("dependentSchemas"))?),
+            self.is_led(
+                draft,
+                left,
+                ("properties", true),
+                keywords,
+                value.get("properties"),
+            )? && self.is_led(
+                draft,
+                left,
+                patterns,
+                keywords,
+                value.get("patternProperties"),
+            )? && (draft < 19
+                || self.is_led(
+                    draft,
+                    left,
+                    schemas,
+                    keywords,
+                    value.get("dependentSchemas"),
+                )?),
         )
     }
 
@@ -501,7 +517,7 @@ impl Schema {
 
 /// Fails with `Internal` if a schema lacks a keyword or a value of its JSON text, which is a bug. Fails with
 /// `OutOfMemory` if an allocation fails.
-pub(crate) fn ensure_compiled( text: &str, schema: &Schema) -> Result<(), SchemaError>
+pub(crate) fn ensure_compiled(text: &str, schema: &Schema) -> Result<(), SchemaError>
     ensures { OnOk result (IsCompiled text.now schema.now) }
 {
     let alloc = schema.alloc();

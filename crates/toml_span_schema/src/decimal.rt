@@ -259,7 +259,9 @@ pub(crate) fn number_in(alloc: Global, value: &Value<'_>) -> Result<Option<Numbe
         return Ok(Some(Number::Finite(Decimal::parse(alloc, text.as_str())?)));
     }
     Ok(match value.as_float() {
-        Some(FloatText::Finite(text)) => { Some(Number::Finite(Decimal::parse(alloc, text.as_str())?)) }
+        Some(FloatText::Finite(text)) => {
+            Some(Number::Finite(Decimal::parse(alloc, text.as_str())?))
+        }
         Some(FloatText::Infinite { negative }) => Some(Number::Infinite(*negative)),
         Some(FloatText::NotANumber { negative: _ }) => Some(Number::NotANumber),
         None => None,

@@ -488,11 +488,7 @@ impl Schema {
 
     /// Returns the first keyword of the schema at index `node` that does not allow a value, or `None` if all allow it.
     /// Fails like `is_valid`.
-    fn refusing(
-        &self,
-        node: usize,
-        value: &Value<'_>,
-    ) -> Result<Option<&Placed>, CheckError> {
+    fn refusing(&self, node: usize, value: &Value<'_>) -> Result<Option<&Placed>, CheckError> {
         let mut left = MOST_APPLIED;
         for placed in self.keywords(node) {
             if !self.allows(&mut left, MOST_NESTED, &placed.keyword, value)? {

@@ -22,7 +22,11 @@ pub struct Notes {
 }
 
 /// Returns a copy of the string in the member `name`, or `None` if the member is missing or not a string.
-pub(crate) fn text_in(alloc: Global, value: &Json<'_>, name: &str) -> Result<Option<String>, AllocError> {
+pub(crate) fn text_in(
+    alloc: Global,
+    value: &Json<'_>,
+    name: &str,
+) -> Result<Option<String>, AllocError> {
     match text_of(value, name) {
         Some(text) => Ok(Some(String::from_str(alloc, text)?)),
         None => Ok(None),
@@ -42,11 +46,7 @@ fn push_value(
 }
 
 /// Returns the notes in a schema of the given draft.
-pub(crate) fn read_notes(
-    alloc: Global,
-    value: &Json<'_>,
-    draft: u8,
-) -> Result<Notes, AllocError> {
+pub(crate) fn read_notes(alloc: Global, value: &Json<'_>, draft: u8) -> Result<Notes, AllocError> {
     let mut notes = Notes {
         title: text_in(alloc, value, "title")?,
         description: None,

@@ -8,9 +8,9 @@ use crate::error::SchemaError;
 use crate::formats::format_of;
 use crate::keyword::{Keyword, Node, Placed, Types};
 use crate::keywords::{Want, want_of};
+use crate::notes::text_in;
 use crate::numbers::Decimal;
 use crate::patterns::{compile_pattern, unsupported};
-use crate::notes::text_in;
 use crate::sources::{is_true, text_of};
 use json::Value as Json;
 use regex::Error;
@@ -309,7 +309,11 @@ impl<'v, 'a> Compiler<'v, 'a> {
     fn read_unevaluated(&mut self, site: &mut Site<'v, 'a>) -> Result<(), SchemaError> {
         let pointer = site.pointer.as_str();
         let others = self.node(site.value, site.source, pointer, site.scope, true)?;
-        site.put("allOf", "allOf", Keyword::AllOf(vec![in self.alloc; others]?))?;
+        site.put(
+            "allOf",
+            "allOf",
+            Keyword::AllOf(vec![in self.alloc; others]?),
+        )?;
         for name in ["unevaluatedItems", "unevaluatedProperties"] {
             if let Some(schema) = self.one(site, name)? {
                 let keyword = if name == "unevaluatedItems" {

@@ -42,7 +42,11 @@ impl Schema {
         if !reports.is_empty() {
             return Ok(reports);
         }
-        let report = Report::error(self.alloc(), "schema", "the value does not match the schema")?;
+        let report = Report::error(
+            self.alloc(),
+            "schema",
+            "the value does not match the schema",
+        )?;
         reports.push(report.primary(value.span, "")?)?;
         Ok(reports)
     }
@@ -204,10 +208,7 @@ impl Schema {
 
     /// Returns the span that the report on a violation marks: a key that is not allowed, the key of a table that lacks
     /// a key, or otherwise the value.
-    fn span_of<'s>(
-        &'s self,
-        violation: &Violation<'s, '_, '_>,
-    ) -> Result<Span, CheckError> {
+    fn span_of<'s>(&'s self, violation: &Violation<'s, '_, '_>) -> Result<Span, CheckError> {
         let part = violation.part;
         let name = match (violation.cause, &violation.at.placed.keyword, part) {
             (Cause::Missing(_) | Cause::Never | Cause::Name, _, Part::Member(key, _)) => {
@@ -268,9 +269,7 @@ impl Schema {
             (Keyword::UnevaluatedProperties(others, _), Cause::Never) => {
                 self.known_keys(&[*others])?
             }
-            (Keyword::Enum(_, _), _) | (_, Cause::Unlisted(_)) => {
-                self.words_listed(violation)?
-            }
+            (Keyword::Enum(_, _), _) | (_, Cause::Unlisted(_)) => { self.words_listed(violation)? }
             _ => return Ok(None),
         };
         same_or_nearest(self.alloc(), word, known.as_slice())

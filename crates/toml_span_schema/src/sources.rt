@@ -476,7 +476,10 @@ impl<'v, 'a> Sources<'v, 'a> {
         let want = want_of(name, draft);
         let is_old = name == "dependencies" && draft >= 19;
         let is_unused = (want.is_none() || is_old) && is_keyword(name);
-        if is_unused && has_word(ASSERTING, name) && self.unknown.insert(String::from_str(alloc, name)?)? {
+        if is_unused
+            && has_word(ASSERTING, name)
+            && self.unknown.insert(String::from_str(alloc, name)?)?
+        {
             let message = format!(in alloc; "not checked: this draft has no keyword `{name}`")?;
             let pointer = visit.pointer.as_str();
             let flaw = self.flaw(visit.source, pointer, &[name], message.as_str())?;

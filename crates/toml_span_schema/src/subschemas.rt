@@ -247,10 +247,7 @@ impl Schema {
 
     /// Returns the keys in `properties` of the schemas at the indices `nodes`, and of all schemas that they may apply
     /// to the same value.
-    pub(crate) fn known_keys<'s>(
-        &'s self,
-        nodes: &[usize],
-    ) -> Result<Vec<&'s str>, AllocError> {
+    pub(crate) fn known_keys<'s>(&'s self, nodes: &[usize]) -> Result<Vec<&'s str>, AllocError> {
         let alloc = self.alloc();
         let mut all = Indices::new(alloc);
         all.push_all(nodes);
@@ -371,7 +368,11 @@ impl Schema {
                 }
             }
         }
-        Ok(if nodes.list.is_empty() { unevaluated } else { nodes })
+        Ok(if nodes.list.is_empty() {
+            unevaluated
+        } else {
+            nodes
+        })
     }
 
     /// Returns whether a value may become valid against the schema at index `node` if more keys are added to it: no

@@ -275,12 +275,7 @@ impl Schema {
         }
         let mut rest = Vec::from_slice(self.alloc(), parts)?;
         for placed in self.keywords(node) {
-            rest = self.unreached(left,
-                depth - 1,
-                &placed.keyword,
-                value,
-                rest.as_slice(),
-            )?;
+            rest = self.unreached(left, depth - 1, &placed.keyword, value, rest.as_slice())?;
         }
         Ok(rest)
     }
@@ -383,9 +378,7 @@ impl Schema {
             (map part_of parts.now) ≡ Some (map part_of rest.items)) }
     {
         match node {
-            Some(node) => {
-                self.uncovered_by(left, depth, (node, Part::Whole(value)), parts)
-            }
+            Some(node) => { self.uncovered_by(left, depth, (node, Part::Whole(value)), parts) }
             None => Ok(Vec::from_slice(self.alloc(), parts)?),
         }
     }
