@@ -16,7 +16,7 @@ use crate::notes::{Notes, read_notes};
 use crate::pointers::{push_step, with_step};
 use crate::schema::Schema;
 use crate::sources::{
-    Dialect, MOST_SCHEMAS, Resource, Source, Sources, decoded, joined, push_flaw, too_many,
+    Dialect, MOST_SCHEMAS, Resource, Source, Sources, TOO_MANY, decoded, joined, push_flaw,
     without_fragment,
 };
 use json::{Scratch, Value as Json, is_valid};
@@ -186,7 +186,7 @@ fn compile_sources(
     };
     compiler.scopes.push(Vec::new(alloc))?;
     let _root = compiler.node_at(0, "", 0)?;
-    let nodes = compiler.nodes()?;
+    let (nodes, notes) = compiler.nodes()?;
     let (length, start) = longest_chain(alloc, nodes.as_slice())?;
     if length > LONGEST {
         compiler.refuse_chain(length, start)?;
@@ -196,7 +196,6 @@ fn compile_sources(
         let warnings = mem::replace(&mut compiler.sources.warnings, Vec::new(alloc));
         return Err(SchemaError::Wrong { flaws, warnings });
     }
-    let notes = compiler.notes()?;
     let Compiler {
         patterns,
         sources,
@@ -217,17 +216,19 @@ fn compile_sources(
 }
 
 impl<'v, 'a> Compiler<'v, 'a> {
-    /// Compiles the schemas of all tasks, including tasks that are added meanwhile. Fails with `TooLarge` if there are
-    /// `MOST_SCHEMAS` or more tasks, otherwise like `read_node`.
-    fn nodes(&mut self) -> Result<Vec<Node>, SchemaError> {
+    /// Compiles the schemas of all tasks, including tasks that are added meanwhile, and reads their notes. Fails with
+    /// `TooLarge` if there are `MOST_SCHEMAS` or more tasks, otherwise like `read_node`.
+    fn nodes(&mut self) -> Result<(Vec<Node>, Vec<Notes>), SchemaError> {
         let mut nodes = Vec::new(self.alloc);
+        let mut notes = Vec::new(self.alloc);
         for at in 0..MOST_SCHEMAS {
             let Some(site) = self.site(at)? else {
-                return Ok(nodes);
+                return Ok((nodes, notes));
             };
+            notes.push(read_notes(self.alloc, site.value, site.dialect.draft)?)?;
             nodes.push(self.read_node(site)?)?;
         }
-        Err(too_many())
+        Err(SchemaError::TooLarge { limit: TOO_MANY })
     }
 
     /// Returns the schema of the task at the position `at`, or `None` if `at` is out of range.
@@ -274,21 +275,8 @@ impl<'v, 'a> Compiler<'v, 'a> {
     fn dialect(&self, source: usize, pointer: &str) -> Dialect {
         match self.resource(source, pointer) {
             Some(resource) => resource.dialect,
-            None => Dialect {
-                draft: 20,
-                validates: true,
-            },
+            None => Dialect::LATEST,
         }
-    }
-
-    /// Returns the `Notes` of each task's schema, in the order of `tasks`.
-    fn notes(&self) -> Result<Vec<Notes>, AllocError> {
-        let mut notes = Vec::new(self.alloc);
-        for task in self.tasks.as_slice() {
-            let draft = self.dialect(task.source, task.pointer.as_str()).draft;
-            notes.push(read_notes(self.alloc, task.value, draft)?)?;
-        }
-        Ok(notes)
     }
 
     /// Returns the index of the compiled form of the schema `value` at a place. Adds a task for the schema, unless it
@@ -445,7 +433,10 @@ impl<'v, 'a> Compiler<'v, 'a> {
         }
         let at = self.patterns.len();
         let text = expanded(self.alloc, pattern)?;
-        self.patterns.push(Regex::new(self.alloc, text.as_str())?)?;
+        let Ok(regex) = Regex::new(self.alloc, text.as_str()) else {
+            return Err(SchemaError::OutOfMemory);
+        };
+        self.patterns.push(regex)?;
         let _none = self.formats.insert(pattern, at)?;
         Ok(at)
     }

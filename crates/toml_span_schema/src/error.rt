@@ -81,12 +81,6 @@ impl<T: Drop> From<AllocFailed<T>> for SchemaError {
     }
 }
 
-impl From<regex::Error> for SchemaError {
-    fn from(_refused: regex::Error) -> SchemaError {
-        SchemaError::OutOfMemory
-    }
-}
-
 impl From<CheckError> for SchemaError {
     fn from(refused: CheckError) -> SchemaError {
         match refused {

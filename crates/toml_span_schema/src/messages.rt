@@ -291,11 +291,12 @@ fn push_never(out: &mut Text, violation: &Violation<'_, '_, '_>) {
     }
 }
 
-/// Returns the message that a keyword with one value in the schema does not allow `value`. The value in the schema,
-/// `limit`, follows the message if the message ends with a space.
-fn opening(keyword: &Keyword, limit: &str, value: &Value<'_>) -> &'static str {
+/// Returns the message that a keyword with one value in the schema does not allow `value`, and what the keyword counts
+/// in a string, array or table, if it counts. The value in the schema, `limit`, follows the message if the message ends
+/// with a space.
+fn opening(keyword: &Keyword, limit: &str, value: &Value<'_>) -> (&'static str, &'static str) {
     let is_date = value.type_str() == "datetime";
-    match keyword {
+    let text = match keyword {
         Keyword::UniqueItems => "this element is a duplicate",
         Keyword::Never => "no value is allowed here",
         Keyword::Minimum(_) => "the number must be at least ",
@@ -312,24 +313,15 @@ fn opening(keyword: &Keyword, limit: &str, value: &Value<'_>) -> &'static str {
         }
         Keyword::Format(_, _, _) if is_date => "the date or time must have the format ",
         Keyword::Format(_, _, _) | Keyword::RegexFormat => "the string must have the format ",
-        Keyword::MinLength(_) | Keyword::MinItems(_) | Keyword::MinProperties(_) => {
-            "expected at least "
-        }
-        Keyword::MaxLength(_) | Keyword::MaxItems(_) | Keyword::MaxProperties(_) => {
-            "expected at most "
-        }
+        Keyword::MinLength(_) => return ("expected at least ", "character"),
+        Keyword::MaxLength(_) => return ("expected at most ", "character"),
+        Keyword::MinItems(_) => return ("expected at least ", "element"),
+        Keyword::MaxItems(_) => return ("expected at most ", "element"),
+        Keyword::MinProperties(_) => return ("expected at least ", "key"),
+        Keyword::MaxProperties(_) => return ("expected at most ", "key"),
         _ => "the value does not match the schema",
-    }
-}
-
-/// Returns what a keyword counts in a string, array or table, or an empty text for all other keywords.
-fn counted(keyword: &Keyword) -> &'static str {
-    match keyword {
-        Keyword::MinLength(_) | Keyword::MaxLength(_) => "character",
-        Keyword::MinItems(_) | Keyword::MaxItems(_) => "element",
-        Keyword::MinProperties(_) | Keyword::MaxProperties(_) => "key",
-        _ => "",
-    }
+    };
+    (text, "")
 }
 
 /// Returns whether one of the constants, as messages show them, is `text` between `front` and `back`.
@@ -447,10 +439,9 @@ impl Schema {
                 }
             },
             (keyword, _) => {
-                let text = opening(keyword, limit, value);
+                let (text, thing) = opening(keyword, limit, value);
                 out.push(text);
                 out.push(if text.ends_with(" ") { limit } else { "" });
-                let thing = counted(keyword);
                 if !thing.is_empty() {
                     push_found(out, thing, limit == "1", size_of(value));
                 }

@@ -27,27 +27,9 @@ use toml_span_tree::{FloatText, Value, ValueInner};
 pub(crate) const DEPTH: usize = 130;
 
 /// The keywords without subschemas, except references, in the order in which they are checked.
-const ASSERTIONS: [&str; 19] = [
-    "type",
-    "enum",
-    "const",
-    "minimum",
-    "exclusiveMinimum",
-    "maximum",
-    "exclusiveMaximum",
-    "multipleOf",
-    "minLength",
-    "maxLength",
-    "minItems",
-    "maxItems",
-    "minProperties",
-    "maxProperties",
-    "uniqueItems",
-    "pattern",
-    "required",
-    "dependentRequired",
-    "format",
-];
+const ASSERTIONS: &str =
+    "type enum const minimum exclusiveMinimum maximum exclusiveMaximum multipleOf minLength maxLength minItems \
+    maxItems minProperties maxProperties uniqueItems pattern required dependentRequired format";
 
 impl<'v, 'a> Site<'v, 'a> {
     /// Appends a keyword with its name and, for messages, the value of `source` in the schema.
@@ -345,7 +327,7 @@ impl<'v, 'a> Compiler<'v, 'a> {
     /// say whether the limits in `minimum` and `maximum` are excluded.
     fn read_assertions(&mut self, site: &mut Site<'v, 'a>) -> Result<(), SchemaError> {
         let is_old = site.dialect.draft == 4;
-        for name in ASSERTIONS {
+        for name in ASSERTIONS.split(' ') {
             let Some(value) = site.value.get(name) else {
                 continue;
             };

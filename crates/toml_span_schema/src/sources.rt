@@ -20,6 +20,9 @@ use url::{ParseError, Url};
 /// Compiling fails if a document has this many schemas, or if this many schemas must be compiled.
 pub(crate) const MOST_SCHEMAS: usize = 1_000_000;
 
+/// The limit that a schema with too many schemas exceeds.
+pub(crate) const TOO_MANY: &str = "it has more than 1,000,000 schemas";
+
 /// The maximum number of errors, of warnings, and of different unknown words that are compared with known ones.
 const MOST_FLAWS: usize = 100;
 
@@ -39,6 +42,14 @@ pub(crate) struct Dialect {
     pub(crate) draft: u8,
     /// Whether the keywords of the validation vocabulary are used.
     pub(crate) validates: bool,
+}
+
+impl Dialect {
+    /// The dialect of a schema that names none.
+    pub(crate) const LATEST: Dialect = Dialect {
+        draft: 20,
+        validates: true,
+    };
 }
 
 /// A parsed JSON document with its address.
@@ -123,11 +134,6 @@ fn draft_of(address: &str) -> Option<u8> {
     }
 }
 
-/// Returns whether an address is that of a metaschema of any draft.
-pub(crate) fn is_metaschema(address: &str) -> bool {
-    without_scheme(address).starts_with("json-schema.org/")
-}
-
 /// Resolves a reference against the address `base`. Returns `None` if `base` or the result is not a URL.
 pub(crate) fn joined(
     alloc: Global,
@@ -179,13 +185,6 @@ pub(crate) fn push_flaw(flaws: &mut Vec<Flaw>, flaw: Flaw) -> Result<(), AllocEr
         flaws.push(flaw)?;
     }
     Ok(())
-}
-
-/// Returns the error that there are too many schemas.
-pub(crate) fn too_many() -> SchemaError {
-    SchemaError::TooLarge {
-        limit: "it has more than 1,000,000 schemas",
-    }
 }
 
 impl<'v, 'a> Sources<'v, 'a> {
@@ -267,7 +266,8 @@ impl<'v, 'a> Sources<'v, 'a> {
             }
         }
         let alloc = self.alloc;
-        let message = if is_metaschema(address) {
+        let is_metaschema = without_scheme(address).starts_with("json-schema.org/");
+        let message = if is_metaschema {
             format!(in alloc;
                 "`{address}` is not supported, only drafts 4, 6, 7, 2019-09 and 2020-12"
             )?
@@ -275,7 +275,7 @@ impl<'v, 'a> Sources<'v, 'a> {
             format!(in alloc; "there is no `{address}`")?
         };
         let mut flaw = self.flaw(source, pointer, &["$schema"], message.as_str())?;
-        if !is_metaschema(address) {
+        if !is_metaschema {
             flaw.missing.push_str(address)?;
         }
         push_flaw(&mut self.errors, flaw)?;
@@ -290,11 +290,7 @@ impl<'v, 'a> Sources<'v, 'a> {
         };
         let value = document.value;
         let address = String::from_str(self.alloc, document.address.as_str())?;
-        let first = Dialect {
-            draft: 20,
-            validates: true,
-        };
-        let dialect = self.dialect(source, "", value, first)?;
+        let dialect = self.dialect(source, "", value, Dialect::LATEST)?;
         let resource = self.resources.len();
         let pointer = String::new(self.alloc);
         self.resources.push(Resource {
@@ -363,7 +359,7 @@ impl<'v, 'a> Sources<'v, 'a> {
             };
             self.visit(visit, &mut visits)?;
         }
-        Err(too_many())
+        Err(SchemaError::TooLarge { limit: TOO_MANY })
     }
 
     /// Adds the resource and the anchors that a schema defines, and what is wrong with the elements or members of a
