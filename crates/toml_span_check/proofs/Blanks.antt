@@ -8,7 +8,7 @@ use Rattle.std.proofs.lemmas.List.{get_or-append_right, get_or-drop, get_or-repl
 use Rattle.toml_span_syntax.specs.Pieces.{Covers}
 use Rattle.toml_span_syntax.specs.declared.pieces.Piece.{Piece}
 use Rattle.toml_span_report.specs.Report.{ReportContent}
-use Rattle.toml_span_check.specs.Every.{Adds, AddsError, AddsReport, Finds, IsRead, Progress, Source, blank, clash, extent, none, reading, rest, with_new, without}
+use Rattle.toml_span_check.specs.Every.{Adds, AddsError, AddsReport, Finds, HasFound, IsRead, Progress, Reads, Source, blank, clash, extent, fault, faults, none, rest, with_new, without}
 use Rattle.toml_span_check.specs.declared.statements.Extent.{Extent}
 use Rattle.toml_span_check.specs.Statements.{offset_of, start_or}
 
@@ -95,17 +95,24 @@ adds_cut source from copy p q adds before k =
     (blank_boundary (offset_of source.text source.pieces e.statement.first) (offset_of source.text source.pieces e.end) p.blanked (offset_of source.text source.pieces k)
     (before e.statement.first) (before e.end) (before k))
 
-pub finds_cut : (source : Source) (p : Progress) → IsUtf8 source.text → IsRead source → Finds source p → IsCut source p.blanked
-finds_cut source _ utf8 read none = λ k. piece_boundary source k utf8 read
-finds_cut source _ utf8 read (reading p q found adds) = adds_cut source p.next (rest source p.next) p q adds (finds_cut source p utf8 read found)
+reads_cut : (source : Source) (p : Progress) → IsUtf8 source.text → IsRead source → Reads source p → IsCut source p.blanked
+reads_cut source _ utf8 read none = λ k. piece_boundary source k utf8 read
+reads_cut source _ utf8 read (fault p q found adds) = adds_cut source p.next (rest source p.next) p q adds (reads_cut source p utf8 read found)
+
+finds_cut : (source : Source) (p : Progress) → IsUtf8 source.text → IsRead source → Finds source p → IsCut source p.blanked
+finds_cut source _ utf8 read (faults p found through) = reads_cut source p utf8 read found
 finds_cut source _ utf8 read (clash p q found adds) = adds_cut source 0 p.blanked p q adds (finds_cut source p utf8 read found)
 
+found_cut : (source : Source) (p : Progress) → IsUtf8 source.text → IsRead source → HasFound source p → IsCut source p.blanked
+found_cut source p utf8 read (inl found) = reads_cut source p utf8 read found
+found_cut source p utf8 read (inr found) = finds_cut source p utf8 read found
+
 -- the same of what the code computes
-pub kept_at : (source : Source) (p : Progress) (copy : List ℕ) (ps : List Piece) (k at : ℕ) → IsUtf8 source.text → IsRead source → Finds source p → copy ≡ p.blanked → ps ≡ source.pieces →
+pub kept_at : (source : Source) (p : Progress) (copy : List ℕ) (ps : List Piece) (k at : ℕ) → IsUtf8 source.text → IsRead source → HasFound source p → copy ≡ p.blanked → ps ≡ source.pieces →
     at ≡ offset_of source.text ps k → IsCharBoundary copy at
 kept_at source p copy ps k at utf8 read found same is here =
     subst (λ (text : List ℕ). IsCharBoundary text at) (sym same)
-    (subst (λ (i : ℕ). IsCharBoundary p.blanked i) (sym (here ∙ ap (λ (xs : List Piece). offset_of source.text xs k) is)) (finds_cut source p utf8 read found k))
+    (subst (λ (i : ℕ). IsCharBoundary p.blanked i) (sym (here ∙ ap (λ (xs : List Piece). offset_of source.text xs k) is)) (found_cut source p utf8 read found k))
 
 pub text_at : (source : Source) (ps : List Piece) (k at : ℕ) → IsUtf8 source.text → IsRead source → ps ≡ source.pieces → at ≡ offset_of source.text ps k → IsCharBoundary source.text at
 text_at source ps k at utf8 read is here =

@@ -1,5 +1,5 @@
 -- All errors of a text.
-use Rattle.toml_span_lex.proofs.Common.{◌≡◌, ◌≤◌, ◌++◌, ◌∷◌, ◌∙◌, ℕ, Bool, List, [], Option, Some, None, Result, Ok, Err, IfOk, AllocError, Global, Vec, map, length, inl, refl, subst, sym, ap, arith, nat_tests, common_steps}
+use Rattle.toml_span_lex.proofs.Common.{◌≡◌, ◌≤◌, ◌++◌, ◌∷◌, ◌∙◌, ℕ, Bool, List, [], Option, Some, None, Result, Ok, Err, IfOk, AllocError, Global, Vec, map, length, inl, inr, refl, true, subst, sym, ap, arith, nat_tests, common_steps}
 use Rattle.toml_span_lex.specs.Stop.{fault_of}
 use Rattle.toml_span_lex.specs.declared.stop.Stop.{Stop}
 use Rattle.toml_span_lex.specs.declared.stop.Stop.TheVariants as stops
@@ -18,9 +18,10 @@ use Rattle.toml_span_mistakes.specs.Errors.{ReportsError}
 use Rattle.toml_span_syntax.specs.declared.pieces.Piece.{Piece}
 use Rattle.toml_span_syntax.specs.declared.statements.Statement.{Statement}
 use Rattle.toml_span_check.specs.Fixable.{IsSettled}
-use Rattle.toml_span_check.specs.Statements.{extent_of}
-use Rattle.toml_span_check.specs.Every.{Adds, AddsError, Checks, Finds, IsRead, Progress, Source, all, clash, extent, is_clash, many, most, none, reading, rest, too_many, valid}
-use Rattle.toml_span_check.specs.code.Every.{IsErrorOf, IsNextError, IsRefusedAt}
+use Rattle.toml_span_check.specs.Statements.{extent_of, offset_of}
+use Rattle.toml_span_syntax.specs.Pieces.{Covers}
+use Rattle.toml_span_check.specs.Every.{Adds, AddsError, Checks, Finds, IsRead, Progress, Reads, Source, all, clash, extent, blank, fault, faults, is_clash, many, most, none, rest, too_many, valid}
+use Rattle.toml_span_check.specs.code.Every.{HasNoFault, IsErrorOf, IsNextError, IsRefusedAt}
 use Rattle.toml_span_check.specs.declared.every.ErrorAt.{ErrorAt}
 use Rattle.toml_span_check.specs.declared.statements.Extent.{Extent}
 
@@ -57,18 +58,36 @@ adds_error source copy from error made p q refusal is adds = (
 )
 
 -- nothing has been found at first
-pub begins : (source : Source) (p : Progress) → p.places ≡ [] → p.reports ≡ [] → p.next ≡ 0 → p.blanked ≡ source.text → Finds source p
+pub begins : (source : Source) (p : Progress) → p.places ≡ [] → p.reports ≡ [] → p.next ≡ 0 → p.blanked ≡ source.text → Reads source p
 begins source p a b c d = rw (a, b, c, d) none
 
-pub finds_first : (source : Source) (error : Error) (made : ErrorAt) (p q : Progress) → IsRefusal source.text depth_limit (stops.Fault error) → IsErrorOf source source.text 0 error made →
-    Finds source p → p.blanked ≡ source.text → Adds source made.extent (report_content made.report) made.place p q → Finds source q
-finds_first source error made p q refusal is found same adds =
-    clash p q found (subst (λ (copy : List ℕ). AddsError source 0 copy p q) (sym same) (adds_error source source.text 0 error made p q refusal is adds))
+-- the first error is that of the source, in which nothing has been read
+start_none : (text : List ℕ) (ps : List Piece) → Covers text 0 ps (length text) → offset_of text ps 0 ≡ 0
+start_none text [] covers = sym covers
+start_none text (p ∷ ps) covers = covers.0
 
-pub finds_reading : (source : Source) (copy : List ℕ) (made : ErrorAt) (p q : Progress) → Finds source p → copy ≡ rest source p.next → IsRefusedAt source copy p.next made →
-    Adds source made.extent (report_content made.report) made.place p q → Finds source q
-finds_reading source copy made p q found same j adds =
-    reading p q found (subst (λ (k : List ℕ). AddsError source p.next k p q) same (adds_error source copy p.next j.0 made p q j.1 j.2 adds))
+rest_none : (source : Source) → IsRead source → rest source 0 ≡ source.text
+rest_none source read = ap (λ (n : ℕ). blank 0 n source.text) (start_none source.text source.pieces read.covers)
+
+pub reads_first : (source : Source) (error : Error) (made : ErrorAt) (p q : Progress) → IsRead source → IsRefusal source.text depth_limit (stops.Fault error) → IsErrorOf source source.text 0 error made →
+    Reads source p → p.next ≡ 0 → Adds source made.extent (report_content made.report) made.place p q → Reads source q
+reads_first source error made p q read refusal is found next adds =
+    let more : AddsError source 0 source.text p q = adds_error source source.text 0 error made p q refusal is adds in
+    let at : AddsError source 0 (rest source 0) p q = subst (λ (copy : List ℕ). AddsError source 0 copy p q) (sym (rest_none source read)) more in
+    fault p q found (subst (λ (n : ℕ). AddsError source n (rest source n) p q) (sym next) at)
+
+pub reads_fault : (source : Source) (copy : List ℕ) (made : ErrorAt) (p q : Progress) → Reads source p → copy ≡ rest source p.next → IsRefusedAt source copy p.next made →
+    Adds source made.extent (report_content made.report) made.place p q → Reads source q
+reads_fault source copy made p q found same j adds =
+    fault p q found (subst (λ (k : List ℕ). AddsError source p.next k p q) same (adds_error source copy p.next j.0 made p q j.1 j.2 adds))
+
+-- nothing remains to be read
+pub through_none : (source : Source) (copy : List ℕ) (p : Progress) → Reads source p → copy ≡ rest source p.next → HasNoFault copy → Finds source p
+through_none source copy p found same read = faults p found (inl (subst HasNoFault same read))
+
+pub through_clash : (source : Source) (copy : List ℕ) (made : ErrorAt) (p : Progress) → Reads source p → copy ≡ rest source p.next → IsRefusedAt source copy p.next made → made.is_clash ≡ true → Finds source p
+through_clash source copy made p found same j is =
+    faults p found (inr (inl (j.0, subst (λ (k : List ℕ). IsRefusal k depth_limit (stops.Fault j.0)) same j.1, sym j.2.clash ∙ is)))
 
 pub finds_clash : (source : Source) (copy : List ℕ) (field : Option ErrorAt) (made : ErrorAt) (p q : Progress) → Finds source p → copy ≡ p.blanked → IsNextError source copy 0 field → field ≡ Some made →
     Adds source made.extent (report_content made.report) made.place p q → Finds source q
@@ -115,4 +134,5 @@ error_of source copy from error made report ps ss clashes e pieces statements ag
       );
       place = refl;
       extent = same;
+      clash = agree;
     }

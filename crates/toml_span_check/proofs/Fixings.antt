@@ -8,7 +8,7 @@ use Rattle.toml_span.specs.Parsing.{IsRefusal}
 use Rattle.toml_span_syntax.specs.declared.pieces.Piece.{Piece}
 use Rattle.toml_span_syntax.specs.declared.statements.Statement.{Statement}
 use Rattle.toml_span_check.specs.declared.fixing.FixLevel.{FixLevel}
-use Rattle.toml_span_safety.specs.Drafts.{Parts, empty}
+use Rattle.toml_span_check.specs.Drafts.{Parts, empty}
 use Rattle.toml_span_check.specs.Fixing.{AddsStatement, AddsUnit, CanFix, Checks, Drafts, FixOf, FixesError, IsUnit, Leads, Mends, NextFix, Progress, another, fix, fixed, nothing, one_more, start, way_of}
 use Rattle.toml_span_check.specs.Safety.{kept, may_fix, may_head}
 use Rattle.toml_span_check.specs.Statements.{own_bytes, own_pieces}

@@ -3,7 +3,7 @@ use Rattle.toml_span_lex.proofs.Common.{◌≡◌, ◌∙◌, ℕ, Bool, true, f
 use Rattle.toml_span_report.specs.Report.{ReportContent, report_content, repair_of}
 use Rattle.toml_span_report.specs.declared.report.Report.{Report}
 use Rattle.toml_span_report.specs.declared.report.Replacement.{Replacement}
-use Rattle.toml_span_safety.specs.Drafts.{IsReading}
+use Rattle.toml_span_check.specs.Drafts.{IsReading}
 use Rattle.toml_span_syntax.specs.declared.pieces.Piece.{Piece}
 use Rattle.toml_span_syntax.specs.declared.statements.Statement.{Statement}
 use Rattle.toml_span_check.specs.Fixable.{AllShown, AreShown, IsShown, first_start, no_report, one_more}

@@ -1,5 +1,5 @@
 -- The errors of a text, up to a maximum number.
-use Rattle.std.specs.Prelude.{◌≡◌, ℕ, ◌-◌, ◌/◌, ◌≤◌, min, max, Bool, true, false, ◌==◌, List, [], ◌∷◌, ◌++◌, codes}
+use Rattle.std.specs.Prelude.{◌≡◌, ◌⊎◌, ℕ, ◌-◌, ◌/◌, ◌≤◌, min, max, Bool, true, false, ◌==◌, List, [], ◌∷◌, ◌++◌, Ok, codes}
 use Rattle.std.specs.Prelude.{take, drop, length, if◌then◌else◌}
 use Rattle.std.specs.List.{list_any, repeat}
 use Rattle.toml_span_lex.specs.declared.stop.Stop.TheVariants.{Fault}
@@ -7,12 +7,13 @@ use Rattle.toml_span_tree.specs.declared.error.Error.{Error}
 use Rattle.toml_span_tree.specs.declared.value.Value.{Value}
 use Rattle.toml_span_tree.specs.Error.{Kind, content_of, dotted_key_invalid_type, duplicate_key, duplicate_table, kind_of}
 use Rattle.toml_span_tree.specs.Error.{redefine_as_array}
-use Rattle.toml_span_read.specs.Data.{depth_limit}
+use Rattle.toml_span_read.specs.Data.{ParsedSection, depth_limit}
+use Rattle.toml_span_read.specs.Read.{document}
 use Rattle.toml_span.specs.Parsing.{IsTree, IsRefusal}
 use Rattle.toml_span_mistakes.specs.Errors.{ReportsError}
 use Rattle.toml_span_report.specs.Report.{ReportContent, bare}
 use Rattle.toml_span_report.specs.declared.report.Severity.TheVariants as severity
-use Rattle.toml_span_safety.specs.Drafts.{IsReading}
+use Rattle.toml_span_check.specs.Drafts.{IsReading}
 use Rattle.toml_span_syntax.specs.declared.pieces.Piece.{Piece}
 use Rattle.toml_span_syntax.specs.declared.statements.Statement.{Statement}
 use Rattle.toml_span_check.specs.Fixable.{IsSettled}
@@ -103,16 +104,33 @@ AddsError source from copy old new =
     × ((report : ReportContent) × ReportsFixable source from copy error report
     × Adds source (extent source from error) report error.span.start old new)
 
--- Each error is the one that `parse` returns for a copy of the source: with spaces in place of all that has been read, or
--- in place of the statements that the errors so far concern. The first copy is the source itself.
-pub data Finds (source : Source) : Progress → Type 0 where
-  none : Finds source (nothing source.text)
-  reading : (p q : Progress) → Finds source p → AddsError source p.next (rest source p.next) p q → Finds source q
-  clash : (p q : Progress) → Finds source p → AddsError source 0 p.blanked p q → Finds source q
-
 -- the maximum number of errors to look for in a text of this length
 abbrev pub most : ℕ → ℕ
 most len = max (min (134217728 / max len 1) 100) 1
+
+-- Each error is the one that `parse` returns for the source with spaces in place of all that has been read. The first is
+-- that of the source itself.
+pub data Reads (source : Source) : Progress → Type 0 where
+  none : Reads source (nothing source.text)
+  fault : (p q : Progress) → Reads source p → AddsError source p.next (rest source p.next) p q → Reads source q
+
+-- Nothing remains to be read: what has not been read has no fault, or its error is a clash; or the maximum number of
+-- errors has been found.
+abbrev pub IsThrough : Source → Progress → Type 0
+IsThrough source p =
+    ((sections : List ParsedSection) × document (rest source p.next) depth_limit (Ok sections))
+    ⊎ (((error : Error) × IsRefusal (rest source p.next) depth_limit (Fault error) × (is_clash (kind_of error.kind) ≡ true))
+    ⊎ (most (length source.text) ≤ length p.places))
+
+-- Once nothing remains to be read, each error is the one that `parse` returns for the source with spaces in place of the
+-- statements that the errors so far concern.
+pub data Finds (source : Source) : Progress → Type 0 where
+  faults : (p : Progress) → Reads source p → IsThrough source p → Finds source p
+  clash : (p q : Progress) → Finds source p → AddsError source 0 p.blanked p q → Finds source q
+
+-- errors that have been found so far
+abbrev pub HasFound : Source → Progress → Type 0
+HasFound source p = Reads source p ⊎ Finds source p
 
 abbrev pub too_many : ReportContent
 too_many = bare severity.Error (codes "too-many-errors") (codes "too many errors")

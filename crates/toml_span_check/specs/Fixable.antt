@@ -4,7 +4,7 @@ use Rattle.std.specs.Prelude.{count_by, Option, Some, None, if◌then◌else◌}
 use Rattle.toml_span_report.specs.Report.{Repair, ReportContent}
 use Rattle.toml_span_syntax.specs.declared.pieces.Piece.{Piece}
 use Rattle.toml_span_syntax.specs.declared.statements.Statement.{Statement}
-use Rattle.toml_span_safety.specs.Drafts.{IsReading}
+use Rattle.toml_span_check.specs.Drafts.{IsReading}
 use Rattle.toml_span_check.specs.Fixing.{CanFix}
 use Rattle.toml_span_check.specs.Safety.{all_safe}
 use Rattle.toml_span_check.specs.Statements.{faulty}

@@ -13,7 +13,7 @@ use Rattle.toml_span_places.specs.Replace.{SpanEdit}
 use Rattle.toml_span_mistakes.specs.Errors.{ReportsError}
 use Rattle.toml_span_report.specs.Report.{Repair, ReportContent}
 use Rattle.toml_span_report.specs.declared.report.Severity.TheVariants as severity
-use Rattle.toml_span_safety.specs.Drafts.{HasSizes, IsReading, Parts, add, draft, empty}
+use Rattle.toml_span_check.specs.Drafts.{HasSizes, IsReading, Parts, add, draft, empty}
 use Rattle.toml_span_syntax.specs.declared.pieces.Piece.{Piece}
 use Rattle.toml_span_syntax.specs.declared.statements.Statement.{Statement}
 use Rattle.toml_span_check.specs.Safety.{first_open, keeps, kept, may_fix, may_head, repaired, uses_crlf}

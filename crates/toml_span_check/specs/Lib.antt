@@ -1,5 +1,7 @@
 pub mod Answer
+pub mod Comments
 pub mod Dates
+pub mod Drafts
 pub mod Encoding
 pub mod Every
 pub mod Fixable
@@ -14,6 +16,7 @@ pub mod Newer
 pub mod Numbers
 pub mod Order
 pub mod Patterns
+pub mod Quotes
 pub mod Run
 pub mod Safety
 pub mod Sarif

@@ -6,9 +6,9 @@ use Rattle.std.specs.List.{list_all}
 use Rattle.std.specs.Str.{bytes_eq}
 use Rattle.toml_span_places.specs.Replace.{SpanEdit, replaced}
 use Rattle.toml_span_report.specs.Report.{Repair}
-use Rattle.toml_span_safety.specs.Comments.{comments}
-use Rattle.toml_span_safety.specs.Drafts.{Parts, add}
-use Rattle.toml_span_safety.specs.Quotes.{quotes_value}
+use Rattle.toml_span_check.specs.Comments.{comments}
+use Rattle.toml_span_check.specs.Drafts.{Parts, add}
+use Rattle.toml_span_check.specs.Quotes.{quotes_value}
 use Rattle.toml_span_syntax.specs.Heads.{kind_of}
 use Rattle.toml_span_syntax.specs.Statements.{is_line_end, is_open_long}
 use Rattle.toml_span_syntax.specs.declared.heads.StatementKind.{StatementKind}

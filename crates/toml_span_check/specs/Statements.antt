@@ -4,7 +4,7 @@ use Rattle.std.specs.Prelude.{codes, drop, find, fold, length, slice_get, slice_
 use Rattle.std.specs.Prelude.{if◌then◌else◌, unwrap_or}
 use Rattle.std.specs.List.{starts_with}
 use Rattle.toml_span_lex.specs.declared.span.Span.{Span}
-use Rattle.toml_span_safety.specs.Drafts.{IsReading}
+use Rattle.toml_span_check.specs.Drafts.{IsReading}
 use Rattle.toml_span_syntax.specs.Heads.{is_mark, kind_of}
 use Rattle.toml_span_syntax.specs.Statements.{depth_after, indent, is_bracketed}
 use Rattle.toml_span_syntax.specs.declared.heads.StatementKind.{StatementKind}

@@ -1,5 +1,5 @@
 //! Finds the errors of a text, not only the first.
-ghost use Rattle.std.specs.Prelude.{◌≡◌, ◌∷◌, ◌++◌, [], IfErr, IfOk, IfSome, OnOk, map, length, nat_le, string_bytes};
+ghost use Rattle.std.specs.Prelude.{◌≡◌, ◌∷◌, ◌++◌, [], IfErr, IfNone, IfOk, IfSome, OnOk, map, length, nat_le, string_bytes};
 ghost use Rattle.std.specs.Str.{IsCharBoundary};
 ghost use Rattle.toml_span_lex.specs.Stop.{fault_of};
 ghost use Rattle.toml_span_lex.specs.declared.stop.Stop.TheVariants.{Fault};
@@ -8,9 +8,10 @@ ghost use Rattle.toml_span_read.specs.Data.{depth_limit};
 ghost use Rattle.toml_span_report.specs.Report.{report_content};
 ghost use Rattle.toml_span_tree.specs.Error.{kind_of};
 ghost use Rattle.toml_span_check.specs.Every as spec;
-ghost use Rattle.toml_span_check.specs.Every.{Adds, AddsReport, Checks, Finds, IsRead};
-ghost use Rattle.toml_span_check.specs.code.Every.{IsErrorOf, IsNextError, IsRefusedAt, progress, source_of};
+ghost use Rattle.toml_span_check.specs.Every.{Adds, AddsReport, Checks, Finds, HasFound, IsRead, Reads};
+ghost use Rattle.toml_span_check.specs.code.Every.{HasNoFault, IsErrorOf, IsNextError, IsRefusedAt, progress, source_of};
 
+use crate::drafts::{Reading, read};
 use crate::fixable::settled;
 use crate::statements::{Extent, extent_of, offset_of};
 use std::alloc::{AllocError, Global};
@@ -19,7 +20,6 @@ use toml_span::{Error, ErrorKind, Stop, Value};
 use toml_span_mistakes::error_report;
 use toml_span_read::read_sections;
 use toml_span_report::Report;
-use toml_span_safety::drafts::{Reading, read};
 
 /// The maximum number of errors to look for.
 const MOST: usize = 100;
@@ -145,7 +145,8 @@ fn next_fault(
     copy: &str,
     from: usize,
 ) -> Result<Option<ErrorAt>, AllocError>
-    ensures { IfOk result (λ next. IfSome next (IsRefusedAt (source_of text.now reading.now) copy.now from)) }
+    ensures fault { IfOk result (λ next. IfSome next (IsRefusedAt (source_of text.now reading.now) copy.now from)) }
+    ensures none { IfOk result (λ next. IfNone next (HasNoFault copy.now)) }
 {
     match read_sections(alloc, copy, DEPTH_LIMIT) {
         Ok(_) => Ok(None),
@@ -178,7 +179,7 @@ fn with_error(
     next: ErrorAt,
 ) -> Result<Found, AllocError>
     requires reading { IsRead (source_of text.now reading.now) }
-    requires found { Finds (source_of text.now reading.now) (progress found) }
+    requires found { HasFound (source_of text.now reading.now) (progress found) }
     ensures { IfOk result (λ more. Adds (source_of text.now reading.now) next.extent (report_content next.report)
         next.place (progress found) (progress more)) }
 {
@@ -213,7 +214,7 @@ fn with_faults(
     mut found: Found,
 ) -> Result<Found, AllocError>
     requires reading { IsRead (source_of text.now reading.now) }
-    requires found { Finds (source_of text.now reading.now) (progress found) }
+    requires found { Reads (source_of text.now reading.now) (progress found) }
     ensures { IfOk result (λ more. Finds (source_of text.now reading.now) (progress more)) }
 {
     'faults: while !is_full(&found, text.len()) {

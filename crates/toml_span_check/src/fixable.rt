@@ -3,12 +3,12 @@ ghost use Rattle.std.specs.Prelude.{◌≡◌, IfOk, map};
 ghost use Rattle.toml_span_report.specs.Report.{repair_of, report_content};
 ghost use Rattle.toml_span_check.specs.Fixable as spec;
 
+use crate::drafts::read;
 use crate::fixing::{FixLevel, all_safe, is_fixable};
 use crate::statements::faulty;
 use crate::sums::sum_of;
 use std::alloc::{AllocError, Global};
 use toml_span_report::{Replacement, Report};
-use toml_span_safety::drafts::read;
 use toml_span_syntax::pieces::Piece;
 use toml_span_syntax::statements::Statement;
 

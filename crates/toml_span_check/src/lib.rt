@@ -2,8 +2,11 @@
 #![tactic(auto)]
 
 pub mod answer;
+mod bytes;
+mod comments;
 mod dates;
 mod document;
+mod drafts;
 pub mod encoding;
 pub mod every;
 mod fixable;
@@ -18,6 +21,7 @@ mod missing;
 pub mod newer;
 mod numbers;
 pub mod patterns;
+mod quotes;
 pub mod request;
 pub mod run;
 mod sarif;

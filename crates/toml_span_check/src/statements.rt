@@ -3,10 +3,10 @@
 ghost use Rattle.std.specs.Prelude.{◌≡◌, IfOk, find, option_map};
 ghost use Rattle.toml_span_check.specs.Statements as spec;
 
+use crate::bytes::bytes_in;
+use crate::drafts::read;
 use std::alloc::{AllocError, Global};
 use toml_span_lex::span::Span;
-use toml_span_safety::bytes::bytes_in;
-use toml_span_safety::drafts::read;
 use toml_span_syntax::brackets::depth_after;
 use toml_span_syntax::heads::{StatementKind, kind_at};
 use toml_span_syntax::pieces::{Kind, Piece};

@@ -1,5 +1,5 @@
 use Rattle.toml_span_lex.proofs.Common.{arith, take_rest}
-use Rattle.toml_span_safety.specs.Drafts.{draft}
+use Rattle.toml_span_check.specs.Drafts.{draft}
 use Rattle.toml_span_check.specs.Fixing.{work}
 use Rattle.toml_span_check.proofs.Fixings.{drafts_more, drafts_none}
 use Rattle.toml_span_check.proofs.fixing.drafted.Goals as goal

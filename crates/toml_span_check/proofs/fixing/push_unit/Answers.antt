@@ -1,4 +1,4 @@
-use Rattle.toml_span_safety.specs.Drafts.{draft}
+use Rattle.toml_span_check.specs.Drafts.{draft}
 use Rattle.toml_span_check.specs.Fixing.{work}
 use Rattle.toml_span_check.proofs.Fixings.{unit_kept}
 use Rattle.toml_span_check.proofs.fixing.push_unit.Goals as goal

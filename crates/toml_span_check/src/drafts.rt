@@ -1,7 +1,7 @@
 //! A new text in the making, and the pieces and statements that it must have.
 ghost use Rattle.std.specs.Prelude.{◌≡◌, ◌++◌, IfOk, OnOk};
 ghost use Rattle.std.specs.Str.{bytes_eq};
-ghost use Rattle.toml_span_safety.specs.Drafts as spec;
+ghost use Rattle.toml_span_check.specs.Drafts as spec;
 
 use std::alloc::{AllocError, Global};
 use toml_span_syntax::heads::StatementKind;

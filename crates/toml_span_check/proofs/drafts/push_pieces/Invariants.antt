@@ -1,6 +1,6 @@
 use Rattle.std.proofs.Common.{◌≡◌, ◌++◌, drop}
-use Rattle.toml_span_safety.specs.Drafts.{piece_sizes}
-use Rattle.toml_span_safety.proofs.drafts.push_pieces.Given as goal
+use Rattle.toml_span_check.specs.Drafts.{piece_sizes}
+use Rattle.toml_span_check.proofs.drafts.push_pieces.Given as goal
 
 abbrev pub invariant-loop-piece : goal.invariant-loop-piece
 invariant-loop-piece l =

@@ -2,7 +2,7 @@
 ghost use Rattle.std.specs.Prelude.{◌≡◌, count_by, length};
 ghost use Rattle.std.specs.Str.{bytes_eq};
 ghost use Rattle.std.specs.List.{list_all, list_any};
-ghost use Rattle.toml_span_safety.specs.Quotes as spec;
+ghost use Rattle.toml_span_check.specs.Quotes as spec;
 
 use crate::bytes::{byte_at, bytes_in};
 use toml_span_lex::bytes::is_blank;

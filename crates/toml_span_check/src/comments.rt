@@ -2,7 +2,7 @@
 ghost use Rattle.std.specs.Prelude.{◌≡◌, ◌++◌, IfOk, OnOk, codes, drop, true};
 ghost use Rattle.std.specs.Prelude.{nat_eq};
 ghost use Rattle.std.specs.List.{starts_with};
-ghost use Rattle.toml_span_safety.specs.Comments as spec;
+ghost use Rattle.toml_span_check.specs.Comments as spec;
 
 use crate::bytes::bytes_in;
 use std::alloc::{AllocError, Global};

@@ -1,8 +1,8 @@
 -- The comments of a text, with those of other languages as they are after a fix.
-use Rattle.std.specs.Prelude.{ℕ, ◌+◌, min, Bool, true, false, ◌&&◌, ◌||◌, ◌==◌, nat_eq, nat_lt, List, [], ◌∷◌, ◌++◌}
+use Rattle.std.specs.Prelude.{ℕ, ◌+◌, min, Bool, true, false, ◌&&◌, ◌||◌, nat_eq, nat_lt, List, [], ◌∷◌, ◌++◌}
 use Rattle.std.specs.Prelude.{codes, drop, length, slice_range, if◌then◌else◌}
 use Rattle.std.specs.List.{starts_with}
-use Rattle.toml_span_safety.specs.declared.comments.Place.{Place}
+use Rattle.toml_span_check.specs.declared.comments.Place.{Place}
 use Rattle.toml_span_syntax.specs.FaultyStrings.{line_stop}
 use Rattle.toml_span_syntax.specs.Statements.{is_line_end}
 use Rattle.toml_span_syntax.specs.declared.pieces.Kind.{Kind}

@@ -1,7 +1,7 @@
 -- The pieces and statements of a text that is put together from parts.
 use Rattle.std.specs.Prelude.{◌≡◌, ℕ, ◌+◌, ◌-◌, Bool, true, false, ◌&&◌, List, [], ◌∷◌, ◌++◌, length}
 use Rattle.std.specs.Str.{bytes_eq}
-use Rattle.toml_span_safety.specs.declared.drafts.Draft.{Draft}
+use Rattle.toml_span_check.specs.declared.drafts.Draft.{Draft}
 use Rattle.toml_span_syntax.specs.Pieces.{Covers}
 use Rattle.toml_span_syntax.specs.Statements.{Splits}
 use Rattle.toml_span_syntax.specs.declared.heads.StatementKind.{StatementKind}

@@ -1,6 +1,6 @@
 use Rattle.std.proofs.Common.{◌≡◌, ◌++◌, drop}
-use Rattle.toml_span_safety.specs.Drafts.{statement_sizes}
-use Rattle.toml_span_safety.proofs.drafts.push_statements.Given as goal
+use Rattle.toml_span_check.specs.Drafts.{statement_sizes}
+use Rattle.toml_span_check.proofs.drafts.push_statements.Given as goal
 
 abbrev pub invariant-loop-statement : goal.invariant-loop-statement
 invariant-loop-statement l =

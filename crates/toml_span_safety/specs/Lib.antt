@@ -1,3 +1,0 @@
-pub mod Comments
-pub mod Drafts
-pub mod Quotes
