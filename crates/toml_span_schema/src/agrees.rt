@@ -2,7 +2,6 @@
 ghost use Rattle.std.specs.Prelude.{◌≡◌, IfOk, map, option_map, slice_get};
 ghost use Rattle.json.specs.Value.{items_view, members_view, value_view};
 ghost use Rattle.toml_span_schema.specs.Agrees as spec;
-ghost use Rattle.toml_span_schema.specs.Numbers.{plain};
 
 use crate::canonical::{push_decimal, push_text};
 use crate::decimal::count_in;

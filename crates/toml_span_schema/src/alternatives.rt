@@ -6,7 +6,7 @@ use crate::listed::Part;
 use crate::messages::{Listed, MOST_NESTED};
 use crate::schema::Schema;
 use crate::walk::{Cause, Place, Violation, Walk};
-use std::alloc::{AllocError, Global};
+use std::alloc::AllocError;
 use std::mem::replace;
 
 /// What is known of the alternatives that have been tried so far, of which the value matches none or, for `oneOf`, too

@@ -1,12 +1,10 @@
 //! The subschemas that a keyword applies to a value and to the values inside it, and the keys of a table.
 ghost use Rattle.std.specs.Prelude.{◌≡◌, ◌++◌, IfOk, OnOk, false, map};
-ghost use Rattle.toml_span_tree.specs.Value.{inner_of, members_view, view};
-ghost use Rattle.toml_span_schema.specs.Applied.{applied, applied_of, at_or_rest, dependents, each_to, inside};
+ghost use Rattle.toml_span_tree.specs.Value.{view};
+ghost use Rattle.toml_span_schema.specs.Applied.{applied, applied_of, dependents, each_to, inside};
 ghost use Rattle.toml_span_schema.specs.Applied.{matches, matching_for, otherwise, schemas_for};
-ghost use Rattle.toml_span_schema.specs.Parts.{has_key, has_name, kind_in, name_values, names_of, part_of, parts_of};
-ghost use Rattle.toml_span_schema.specs.Parts.{value_of};
+ghost use Rattle.toml_span_schema.specs.Parts.{has_key, names_of, part_of};
 ghost use Rattle.std.specs.BTreeMap.{get_by_text};
-ghost use Rattle.std.specs.List.{slice_get};
 ghost use Rattle.std.specs.Prelude.{option_to_list};
 
 use crate::keyword::Keyword;

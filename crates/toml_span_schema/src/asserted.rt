@@ -1,5 +1,5 @@
 //! Checks values against the keywords that have no subschemas.
-ghost use Rattle.std.specs.Prelude.{◌≡◌, IfOk, length};
+ghost use Rattle.std.specs.Prelude.{◌≡◌, IfOk};
 ghost use Rattle.toml_span_tree.specs.Value.{inner_of, items_view, view};
 ghost use Rattle.toml_span_schema.specs.Asserted.{allows_items, allows_kind, allows_number};
 ghost use Rattle.toml_span_schema.specs.Asserted.{allows_simple, allows_table_of, allows_text};

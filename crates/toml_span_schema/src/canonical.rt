@@ -1,10 +1,10 @@
 //! Canonical texts: two values are equal for JSON Schema if and only if their canonical texts are the same.
 
-ghost use Rattle.std.specs.Prelude.{◌≡◌, ◌++◌, [], ◌∷◌, IfOk, OnOk, map, string_bytes};
-ghost use Rattle.toml_span_tree.specs.Value.{inner_of, items_view, members_view, view};
-ghost use Rattle.toml_span_schema.specs.Canonical.{all_new, canonical, inner_form, items_form, members_form};
-ghost use Rattle.toml_span_schema.specs.Canonical.{plain_form, quantity_form, text_form};
-ghost use Rattle.toml_span_schema.specs.Numbers.{plain, quantity};
+ghost use Rattle.std.specs.Prelude.{◌≡◌, ◌++◌, [], IfOk, OnOk, map, string_bytes};
+ghost use Rattle.toml_span_tree.specs.Value.{items_view, members_view, view};
+ghost use Rattle.toml_span_schema.specs.Canonical.{all_new, canonical, items_form, members_form};
+ghost use Rattle.toml_span_schema.specs.Canonical.{plain_form, text_form};
+ghost use Rattle.toml_span_schema.specs.Numbers.{plain};
 
 use crate::dates::rfc3339;
 use crate::decimal::number_in;

@@ -24,7 +24,6 @@ use regex::Regex;
 use std::alloc::{AllocError, Global};
 use std::collections::BTreeMap;
 use std::mem;
-use url::Url;
 
 /// The maximum length of a chain of references and combinations, such as `allOf`, that apply to the same value.
 const LONGEST: usize = 64;

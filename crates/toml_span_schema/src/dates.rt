@@ -1,6 +1,6 @@
 //! Dates and times as RFC 3339 writes them.
 ghost use Rattle.std.specs.Prelude.{◌≡◌, ◌++◌, ◌==◌, [], IfOk, OnOk, codes, if◌then◌else◌, string_bytes};
-ghost use Rattle.toml_span_schema.specs.Dates.{date_piece, next_place, rfc3339, upper};
+ghost use Rattle.toml_span_schema.specs.Dates.{date_piece, next_place, rfc3339};
 
 use std::alloc::{AllocError, Global};
 

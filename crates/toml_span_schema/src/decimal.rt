@@ -1,10 +1,9 @@
 //! Exact decimal numbers.
 ghost use Rattle.std.specs.Prelude.{◌≡◌, ◌<◌, ◌≤◌, ◌+◌, ◌*◌, ◌%◌, ◌^◌, IfOk, Some, length, option_map};
-ghost use Rattle.std.specs.Fmt.{signed_decimal};
-ghost use Rattle.std.specs.Str.Parse.{AllDigits, digits_value};
-ghost use Rattle.toml_span_tree.specs.Value.{float_value, inner_of, view};
-ghost use Rattle.toml_span_schema.specs.Numbers.{compare, compare_alike, compare_quantity, compare_sizes};
-ghost use Rattle.toml_span_schema.specs.Numbers.{count_in, decimal_of, exponent, float_quantity};
+ghost use Rattle.std.specs.Str.Parse.{AllDigits};
+ghost use Rattle.toml_span_tree.specs.Value.{inner_of, view};
+ghost use Rattle.toml_span_schema.specs.Numbers.{compare, compare_quantity, compare_sizes};
+ghost use Rattle.toml_span_schema.specs.Numbers.{count_in, decimal_of, exponent};
 ghost use Rattle.toml_span_schema.specs.Numbers.{is_multiple, is_whole, leading_zeros, normal, plain, quantity};
 ghost use Rattle.toml_span_schema.specs.Numbers.{quantity_in, raised, sign, significant, unsigned_of, value_after};
 

@@ -1,5 +1,5 @@
 //! The values directly inside a value.
-ghost use Rattle.std.specs.Prelude.{◌≡◌, ◌++◌, IfOk, OnOk, map, option_map};
+ghost use Rattle.std.specs.Prelude.{◌≡◌, ◌++◌, IfOk, OnOk, map};
 ghost use Rattle.toml_span_tree.specs.Value.{inner_of, items_view, members_view, view};
 ghost use Rattle.toml_span_schema.specs.Parts.{elements_from, entries_of, kind_in, part_of};
 ghost use Rattle.toml_span_schema.specs.Parts.{parts_of, value_of};

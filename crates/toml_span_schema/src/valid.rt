@@ -1,10 +1,10 @@
 //! Decides whether a value is valid. In all functions, `depth` is the number of subschemas that may still be nested,
 //! and `left` the number that may still be applied.
-ghost use Rattle.std.specs.Prelude.{◌≡◌, IfOk, Some, None, false, true, map, ℕ};
+ghost use Rattle.std.specs.Prelude.{◌≡◌, IfOk, Some, None, false, true, map};
 ghost use Rattle.toml_span_tree.specs.Value.{inner_of, view};
 ghost use Rattle.toml_span_schema.specs.Applied.{applied_of};
 ghost use Rattle.toml_span_schema.specs.Parts.{part_of, whole};
-ghost use Rattle.toml_span_schema.specs.Valid.{allows, allows_other, any, both, contains_enough, count, covers, every};
+ghost use Rattle.toml_span_schema.specs.Valid.{allows, allows_other, any, contains_enough, count, covers, every};
 ghost use Rattle.toml_span_schema.specs.Valid.{is_evaluated_element, judged, optional, passes, reaches, reaches_simply};
 ghost use Rattle.toml_span_schema.specs.Valid.{refused, unevaluated_allow};
 
@@ -14,7 +14,7 @@ use crate::error::CheckError;
 use crate::keyword::Keyword;
 use crate::listed::{Part, parts_of_kind};
 use crate::schema::Schema;
-use std::alloc::{AllocError, Global};
+use std::alloc::AllocError;
 use toml_span_tree::{Value, ValueInner};
 
 /// The maximum number of subschemas that are applied to decide whether a value is valid. The same number can be applied
