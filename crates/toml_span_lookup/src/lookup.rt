@@ -272,14 +272,6 @@ impl Lookup {
         }
     }
 
-    /// Drops the catalog if its file has changed since it was read. `prepare` then reads the catalog again.
-    fn forget_catalog<D: Disk>(&mut self, disk: &mut D) {
-        if self.is_ready && disk.stamp(self.options.catalog.as_str()) != self.stamp {
-            self.is_ready = false;
-            self.catalog = None;
-        }
-    }
-
     /// Drops the schema at a path if one of its files has changed since the file was read. `load_choice` then reads the
     /// schema again.
     fn forget_schema<D: Disk>(&mut self, disk: &mut D, path: &str) {
@@ -303,7 +295,10 @@ impl Lookup {
         name: &str,
         text: &str,
     ) -> Result<(), AllocError> {
-        self.forget_catalog(disk);
+        if self.is_ready && disk.stamp(self.options.catalog.as_str()) != self.stamp {
+            self.is_ready = false;
+            self.catalog = None;
+        }
         self.prepare(alloc, disk)?;
         let choice = self.choice(alloc, name, text)?;
         if let Choice::File(path) = &choice {

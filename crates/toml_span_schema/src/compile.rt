@@ -24,6 +24,7 @@ use regex::Regex;
 use std::alloc::{AllocError, Global};
 use std::collections::BTreeMap;
 use std::mem;
+use url::Url;
 
 /// The maximum length of a chain of references and combinations, such as `allOf`, that apply to the same value.
 const LONGEST: usize = 64;
@@ -456,6 +457,15 @@ impl<'v, 'a> Compiler<'v, 'a> {
         self.node(value, site.source, pointer.as_str(), site.scope, false)
     }
 
+    /// Resolves a reference in the schema `site`, as `joined` does.
+    fn resolved(&self, site: &Site<'v, 'a>, reference: &str) -> Result<Option<Url>, AllocError> {
+        let base = match self.resource(site.source, site.pointer.as_str()) {
+            Some(resource) => resource.address.as_str(),
+            None => "",
+        };
+        joined(self.alloc, base, reference)
+    }
+
     /// Returns the place that a reference in the schema `site` names. Returns `None` and adds an error if the reference
     /// is not a URL, or if the named document or anchor does not exist.
     fn target(
@@ -465,11 +475,7 @@ impl<'v, 'a> Compiler<'v, 'a> {
         reference: &str,
     ) -> Result<Option<Target>, SchemaError> {
         let alloc = self.alloc;
-        let base = match self.resource(site.source, site.pointer.as_str()) {
-            Some(resource) => resource.address.as_str(),
-            None => "",
-        };
-        let Some(url) = joined(alloc, base, reference)? else {
+        let Some(url) = self.resolved(site, reference)? else {
             self.complain(site, &[keyword], "this is not a URL", true)?;
             return Ok(None);
         };
