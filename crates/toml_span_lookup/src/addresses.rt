@@ -1,5 +1,6 @@
 //! Converts between the addresses of schemas and the paths of their files.
-ghost use Rattle.std.specs.Prelude.{◌≡◌, ◌++◌, ◌≤◌, ◌-◌, ◌<◌, IfOk, OnOk, length, option_map, slice_index, string_bytes};
+ghost use Rattle.std.specs.Prelude.{◌≡◌, ◌++◌, ◌≤◌, ◌-◌, ◌<◌, IfOk, OnOk, length, option_map, slice_index};
+ghost use Rattle.std.specs.Prelude.{string_bytes};
 ghost use Rattle.toml_span_lookup.specs.Addresses as spec;
 
 use percent_encoding::{DecodeError, percent_decode};

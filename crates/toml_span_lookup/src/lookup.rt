@@ -145,7 +145,8 @@ impl Lookup {
         directive: Directive<'_>,
     ) -> Result<Choice, AllocError>
         ensures { IfOk result (λ made. chosen made
-            ≡ choice.by_directive self.now.options self.now.catalog name.now directive.entry.address.now directive.entry.span) }
+            ≡ choice.by_directive self.now.options self.now.catalog name.now directive.entry.address.now
+            directive.entry.span) }
     {
         let Directive { address, span } = directive;
         if let Some(path) = self.path_of(alloc, address, folder_of(name))? {
@@ -327,7 +328,8 @@ impl Lookup {
         name: &str,
         text: &str,
     ) -> Result<Option<&Guide>, AllocError>
-        ensures { IfOk result (λ found. option_map (λ guide. guide.now) found ≡ spec.guide_of self.now name.now text.now) }
+        ensures { IfOk result (λ found. option_map (λ guide. guide.now) found
+            ≡ spec.guide_of self.now name.now text.now) }
     {
         match self.choice(alloc, name, text)? {
             Choice::File(path) => Ok(self.guide_at(path.as_str())),
@@ -424,8 +426,8 @@ impl Lookup {
         name: &str,
         root: &Value<'_>,
     ) -> Result<Vec<Report>, AllocError>
-        ensures { IfOk result (λ reports. ReportsOf (spec.guide_at self.old.used.items path.now) name.now (view root.now)
-            (map report_content reports.items) (string_bytes self.old.complaint) (string_bytes self.new.complaint)) }
+        ensures { IfOk result (λ reports. ReportsOf (spec.guide_at self.old.used.items path.now) name.now
+            (view root.now) (map report_content reports.items) (string_bytes self.old.complaint) (string_bytes self.new.complaint)) }
     {
         let Some(guide) = self.guide_at(path) else {
             return Ok(Vec::new(alloc));

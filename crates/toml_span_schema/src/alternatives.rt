@@ -28,8 +28,8 @@ struct Tried<'s, 'v, 'de> {
 }
 
 impl Schema {
-    /// Finds what the keyword `anyOf` or `oneOf` at `at`, which does not allow `part`, does not allow in it. `nodes` are
-    /// the alternatives. Fails like `is_valid`.
+    /// Finds what the keyword `anyOf` or `oneOf` at `at`, which does not allow `part`, does not allow in it. `nodes`
+    /// are the alternatives. Fails like `is_valid`.
     #[cycle(explore)]
     pub(crate) fn explore_alternatives<'s, 'v, 'de>(
         &'s self,
@@ -66,8 +66,8 @@ impl Schema {
         conclude(walk, tried, at, nodes, part);
     }
 
-    /// Notes that `part` is not valid against the alternative at index `node`, because of the violations `found`. Ignores
-    /// an alternative that no value of TOML matches.
+    /// Notes that `part` is not valid against the alternative at index `node`, because of the violations `found`.
+    /// Ignores an alternative that no value of TOML matches.
     fn compare<'s, 'v, 'de>(
         &'s self,
         walk: &mut Walk<'s, 'v, 'de>,

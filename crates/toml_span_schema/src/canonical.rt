@@ -43,8 +43,9 @@ pub(crate) fn push_decimal(out: &mut String, number: &Decimal) -> Result<(), All
     out.push_str(end.as_str())
 }
 
-/// Appends the canonical text of a value: of infinity `>` or, if it is negative, `<`, and of NaN `?`. Fails with `TooDeep` if the value nests `depth` or more levels deep or
-/// contains a taken value. After a failure, `out` may contain a part of the text.
+/// Appends the canonical text of a value: of infinity `>` or, if it is negative, `<`, and of NaN `?`. Fails with
+/// `TooDeep` if the value nests `depth` or more levels deep or contains a taken value. After a failure, `out` may
+/// contain a part of the text.
 #[cycle(canonical)]
 fn push_canonical(out: &mut String, depth: usize, value: &Value<'_>) -> Result<(), CheckError>
     ensures { OnOk result (string_bytes out.new ≡ string_bytes out.old ++ canonical (view value.now)) }

@@ -26,7 +26,8 @@ impl Indices {
         self.is_refused |= self.list.extend_from_slice(nodes).is_err();
     }
 
-    /// Appends the indices of the subschemas that a keyword applies to the checked value itself, not to values inside it.
+    /// Appends the indices of the subschemas that a keyword applies to the checked value itself, not to values inside
+    /// it.
     fn push_in_place(&mut self, keyword: &Keyword) {
         match keyword {
             Keyword::AllOf(nodes) | Keyword::AnyOf(nodes) | Keyword::OneOf(nodes) => {

@@ -20,7 +20,8 @@ fn next_place(place: u8, c: char) -> u8
     }
 }
 
-/// Appends a character of a date or time at a place as RFC 3339 writes it, with seconds before it if they are missing there.
+/// Appends a character of a date or time at a place as RFC 3339 writes it, with seconds before it if they are missing
+/// there.
 fn push_date(out: &mut String, place: u8, c: char) -> Result<(), AllocError>
     ensures { OnOk result (string_bytes out.new ≡ string_bytes out.old ++ date_piece place c) }
 {

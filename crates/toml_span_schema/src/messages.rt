@@ -151,8 +151,8 @@ fn is_missing(table: Option<&Value<'_>>, name: &str) -> bool {
     }
 }
 
-/// Appends the names of keys, each in backticks, separated by commas and `and`. Leaves out the keys in `table`, if it is
-/// given.
+/// Appends the names of keys, each in backticks, separated by commas and `and`. Leaves out the keys in `table`, if it
+/// is given.
 fn push_keys(out: &mut Text, names: &[String], table: Option<&Value<'_>>) {
     let mut count = 0usize;
     for name in names {
@@ -527,8 +527,8 @@ impl Schema {
         true
     }
 
-    /// Returns a value that the schema at index `node` may allow, as TOML: the first one that it lists, or an empty value
-    /// of its type. Returns an empty text if the schema has neither.
+    /// Returns a value that the schema at index `node` may allow, as TOML: the first one that it lists, or an empty
+    /// value of its type. Returns an empty text if the schema has neither.
     fn value_for(&self, node: usize) -> &str {
         let mut kinds = Kinds::NONE;
         for placed in self.keywords(node) {

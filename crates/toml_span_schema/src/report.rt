@@ -51,8 +51,8 @@ impl Schema {
         Ok(reports)
     }
 
-    /// Returns a report for each violation that no other one implies, each once. `others` are all violations. Fails like
-    /// `check`.
+    /// Returns a report for each violation that no other one implies, each once. `others` are all violations. Fails
+    /// like `check`.
     fn distinct<'s, 'v, 'de>(
         &'s self,
         found: &[Violation<'s, 'v, 'de>],

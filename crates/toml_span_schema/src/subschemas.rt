@@ -325,8 +325,9 @@ impl Schema {
         }
     }
 
-    /// Appends to `nodes` the schemas in `list`, given by their indices, for which `may_fit` accepts the value or exceeds
-    /// the limits. Appends the whole `list` if `may_fit` rejects the value for all of them, or if `value` is `None`.
+    /// Appends to `nodes` the schemas in `list`, given by their indices, for which `may_fit` accepts the value or
+    /// exceeds the limits. Appends the whole `list` if `may_fit` rejects the value for all of them, or if `value` is
+    /// `None`.
     fn push_fitting(
         &self,
         left: &mut u64,
