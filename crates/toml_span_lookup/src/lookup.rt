@@ -427,7 +427,8 @@ impl Lookup {
         root: &Value<'_>,
     ) -> Result<Vec<Report>, AllocError>
         ensures { IfOk result (λ reports. ReportsOf (spec.guide_at self.old.used.items path.now) name.now
-            (view root.now) (map report_content reports.items) (string_bytes self.old.complaint) (string_bytes self.new.complaint)) }
+            (view root.now) (map report_content reports.items) (string_bytes self.old.complaint)
+            (string_bytes self.new.complaint)) }
     {
         let Some(guide) = self.guide_at(path) else {
             return Ok(Vec::new(alloc));
