@@ -369,11 +369,8 @@ impl Schema {
                 }
             }
         }
-        Ok(if nodes.list.is_empty() {
-            unevaluated
-        } else {
-            nodes
-        })
+        let is_none = nodes.list.is_empty() && !nodes.is_refused;
+        Ok(if is_none { unevaluated } else { nodes })
     }
 
     /// Returns whether a value may become valid against the schema at index `node` if more keys are added to it: no
