@@ -42,11 +42,7 @@ impl Schema {
         if !reports.is_empty() {
             return Ok(reports);
         }
-        let report = Report::error(
-            self.alloc(),
-            "schema",
-            "the value does not match the schema",
-        )?;
+        let report = Report::error(alloc, "schema", "the value does not match the schema")?;
         reports.push(report.primary(value.span, "")?)?;
         Ok(reports)
     }
