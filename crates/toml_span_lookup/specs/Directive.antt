@@ -1,11 +1,11 @@
 -- The schema that a file names: by the directive `#:schema`, in a comment before the first header or assignment, or by
 -- the value of its first key, `"$schema"`.
 use Rattle.std.specs.Prelude.{ℕ, ◌+◌, ◌-◌, ◌==◌, Bool, true, false, not, ◌&&◌, ◌||◌, List, [], ◌∷◌, codes, drop, length}
-use Rattle.std.specs.Prelude.{nat_eq, nat_lt, take, Option, None, Some, option_map, if◌then◌else◌}
-use Rattle.std.specs.List.{starts_with}
+use Rattle.std.specs.Prelude.{nat_lt, take, Option, None, Some, option_map, if◌then◌else◌}
 use Rattle.std.specs.Option.{is_some}
 use Rattle.std.specs.Str.{is_utf8}
 use Rattle.toml_span_lex.specs.declared.span.Span.{Span}
+use Rattle.toml_span_lookup.specs.Addresses.{after}
 use Rattle.toml_span_lookup.specs.declared.directive.Place.{Place}
 use Rattle.toml_span_report.specs.Places.{bom_end}
 
@@ -26,10 +26,6 @@ or_found (Some place) later = Some place
 abbrev pub on_rest : Option (List ℕ) → (List ℕ → Found) → Found
 on_rest None f = None
 on_rest (Some rest) f = f rest
-
--- the rest of a text that begins with `front`
-abbrev pub rest_after : List ℕ → List ℕ → Option (List ℕ)
-rest_after front text = if starts_with nat_eq text front then Some (drop (length front) text) else None
 
 -- whether the byte is a space, a tab or a carriage return
 abbrev pub is_white : ℕ → Bool
@@ -66,7 +62,7 @@ abbrev pub after_schema : List ℕ → Found
 after_schema text = if begins_white text then word_in (skip_white text) else None
 
 abbrev pub in_comment : List ℕ → Found
-in_comment text = on_rest (rest_after (codes "#:schema") (skip_white text)) after_schema
+in_comment text = on_rest (after (codes "#:schema") (skip_white text)) after_schema
 
 -- ---- `"$schema" = "ADDRESS"`
 
@@ -87,12 +83,12 @@ in_string [] = None
 in_string (b ∷ bs) = if b == 34 || b == 39 then sized_string bs (string_length b 0 bs) else None
 
 abbrev pub in_value : List ℕ → Found
-in_value text = on_rest (rest_after (codes "=") (skip_white text)) (λ rest. in_string (skip_white rest))
+in_value text = on_rest (after (codes "=") (skip_white text)) (λ rest. in_string (skip_white rest))
 
 abbrev pub in_key : List ℕ → Found
 in_key text =
-    or_found (on_rest (rest_after (codes "\"$schema\"") (skip_white text)) in_value)
-    (on_rest (rest_after (codes "'$schema'") (skip_white text)) in_value)
+    or_found (on_rest (after (codes "\"$schema\"") (skip_white text)) in_value)
+    (on_rest (after (codes "'$schema'") (skip_white text)) in_value)
 
 -- ---- the lines of a file
 

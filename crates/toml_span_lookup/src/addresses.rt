@@ -1,5 +1,6 @@
 //! Converts between the addresses of schemas and the paths of their files.
-ghost use Rattle.std.specs.Prelude.{◌≡◌, ◌++◌, ◌≤◌, ◌-◌, ◌<◌, IfOk, OnOk, length, option_map, slice_index, string_bytes};
+ghost use Rattle.std.specs.Prelude.{◌≡◌, ◌++◌, ◌≤◌, ◌-◌, ◌<◌, IfOk, OnOk, length, option_map, slice_index};
+ghost use Rattle.std.specs.Prelude.{string_bytes};
 ghost use Rattle.toml_span_lookup.specs.Addresses as spec;
 
 use percent_encoding::{DecodeError, percent_decode};
@@ -66,13 +67,6 @@ pub(crate) fn folder_of(path: &str) -> &str
     }
 }
 
-/// Returns whether a text begins with a slash.
-fn begins_with_slash(text: &str) -> bool
-    ensures { result ≡ spec.begins_with_slash text.now }
-{
-    text.as_bytes().starts_with(b"/")
-}
-
 /// Returns whether a text ends with a slash.
 pub(crate) fn ends_with_slash(text: &str) -> bool
     ensures { result ≡ spec.ends_with_slash text.now }
@@ -86,7 +80,7 @@ pub(crate) fn joined(alloc: Global, folder: &str, path: &str) -> Result<String, 
     ensures { IfOk result (λ out. string_bytes out ≡ spec.joined folder.now path.now) }
 {
     let path = without("./", path);
-    if begins_with_slash(path) {
+    if path.as_bytes().starts_with(b"/") {
         return String::from_str(alloc, path);
     }
     let mut out = String::from_str(alloc, folder)?;

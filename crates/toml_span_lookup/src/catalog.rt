@@ -34,19 +34,6 @@ pub(crate) struct Catalog {
     schemas: Vec<Listed>,
 }
 
-/// Returns the string in the member `name`, or `None` if the member is missing or not a string.
-fn text_of<'a>(value: &Json<'a>, name: &str) -> Option<&'a str> {
-    value.get(name).and_then(|member| member.as_str())
-}
-
-/// Returns the elements of an array, or the value itself if it is not an array.
-fn elements_of<'v, 'a>(value: &'v Json<'a>) -> &'v [Json<'a>] {
-    match value {
-        Json::Array(items) => items.as_slice(),
-        _ => slice::from_ref(value),
-    }
-}
-
 /// Returns the alternatives of `{a,b}` or, if `is_class`, the characters of `[ab]` and `[a-z]`, from the text between
 /// the brackets.
 fn words_of(alloc: Global, inside: &str, is_class: bool) -> Result<Vec<String>, AllocError> {
@@ -127,18 +114,23 @@ fn push_globs(alloc: Global, text: &str, patterns: &mut Vec<Pattern>) -> Result<
 /// Parses an entry of a catalog, and leaves out patterns that are not strings or not supported. Returns `None` if `url`
 /// is not a string or `fileMatch` is missing.
 fn entry_of(alloc: Global, entry: &Json<'_>) -> Result<Option<Listed>, AllocError> {
-    let (Some(address), Some(globs)) = (text_of(entry, "url"), entry.get("fileMatch")) else {
+    let members = (entry.get("url"), entry.get("fileMatch"));
+    let (Some(Json::String(address)), Some(globs)) = members else {
         return Ok(None);
     };
+    let globs = match globs {
+        Json::Array(globs) => globs.as_slice(),
+        _ => slice::from_ref(globs),
+    };
     let mut patterns = Vec::new(alloc);
-    for glob in elements_of(globs) {
+    for glob in globs {
         if let Some(text) = glob.as_str() {
             push_globs(alloc, text, &mut patterns)?;
         }
     }
     Ok(Some(Listed {
         patterns,
-        address: String::from_str(alloc, address)?,
+        address: String::from_str(alloc, *address)?,
     }))
 }
 
@@ -206,11 +198,15 @@ fn error_at(alloc: Global, text: &str, depth: usize) -> Result<Option<usize>, Al
 }
 
 /// Returns the message that says why a JSON text can't be read, with the line and the column of the first error, or
-/// `None` if the text has no error. Both are counted from 1, the column in characters. Nesting more than 128 levels
-/// deep is an error.
-pub(crate) fn json_fault(alloc: Global, text: &str) -> Result<Option<String>, AllocError> {
+/// `otherwise` if the text has no error. Both are counted from 1, the column in characters. Nesting more than 128
+/// levels deep is an error.
+pub(crate) fn json_reason(
+    alloc: Global,
+    text: &str,
+    otherwise: &str,
+) -> Result<String, AllocError> {
     let Some(at) = error_at(alloc, text, MOST_LEVELS)? else {
-        return Ok(None);
+        return String::from_str(alloc, otherwise);
     };
     let is_deep = error_at(alloc, text, MOST_LEVELS + 1)? != Some(at);
     let what = if is_deep {
@@ -219,5 +215,5 @@ pub(crate) fn json_fault(alloc: Global, text: &str) -> Result<Option<String>, Al
         "it is not valid JSON"
     };
     let (line, column) = line_column(text, at);
-    Ok(Some(format!(in alloc; "{what} (line {line}, column {column})")?))
+    format!(in alloc; "{what} (line {line}, column {column})")
 }

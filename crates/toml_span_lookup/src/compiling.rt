@@ -5,11 +5,12 @@ ghost use Rattle.toml_span_schema.specs.Compiled.{IsCompiled};
 use crate::addresses::{
     address_of, folder_of, is_remote, path_of_address, push_decoded, without_fragment,
 };
+use crate::catalog::json_reason;
 use crate::disk::{Disk, Stamp};
 use crate::metaschemas::metaschema;
 use crate::options::{LocalCopy, Options};
 use crate::places::place_in;
-use crate::reasons::{complain, flaw_reason, json_reason, remote_reason};
+use crate::reasons::{complain, flaw_reason, remote_reason};
 use std::alloc::{AllocError, Global};
 use toml_span_report::Report;
 use toml_span_schema::{Document, Flaw, Guide, SchemaError};
@@ -68,15 +69,6 @@ impl Loaded {
     }
 }
 
-/// Returns these documents as ones that are compiled.
-fn documents_of(alloc: Global, loaded: &[Loaded]) -> Result<Vec<Document<'_>>, AllocError> {
-    let mut documents = Vec::new(alloc);
-    for one in loaded {
-        documents.push(one.document())?;
-    }
-    Ok(documents)
-}
-
 /// Compiles the schema in the first of `documents`. The schema may refer to the other documents. Fails as
 /// `Guide::from_document` does.
 fn compile(alloc: Global, documents: &[Loaded]) -> Result<Guide, SchemaError>
@@ -86,7 +78,10 @@ fn compile(alloc: Global, documents: &[Loaded]) -> Result<Guide, SchemaError>
     let Some((root, rest)) = documents.split_first() else {
         return Err(SchemaError::Internal);
     };
-    let others = documents_of(alloc, rest)?;
+    let mut others = Vec::new(alloc);
+    for other in rest {
+        others.push(other.document())?;
+    }
     Guide::from_document(alloc, root.document(), others.as_slice())
 }
 
@@ -142,9 +137,10 @@ fn path_for<D: Disk>(
     if let Some(file) = options.copy_of(alloc, address)? {
         return Ok(Some(file));
     }
-    let first = documents
-        .first()
-        .map_or("", |document| document.path.as_str());
+    let first = match documents.first() {
+        Some(document) => document.path.as_str(),
+        None => "",
+    };
     if let Some(path) = path_of_address(alloc, folder_of(first), address)? {
         return Ok(Some(path));
     }
@@ -160,28 +156,6 @@ fn path_for<D: Disk>(
     Ok(if is_there { Some(path) } else { None })
 }
 
-/// Adds an error to `complaint` that says why the document at `address` can't be parsed (see `json_reason`). Does
-/// nothing if `documents` has no document at `address`.
-fn refuse_text(
-    alloc: Global,
-    complaint: &mut String,
-    documents: &[Loaded],
-    address: &str,
-) -> Result<(), AllocError> {
-    for document in documents {
-        if document.address.as_str() == address {
-            let reason = json_reason(alloc, document.text.as_str())?;
-            complain(
-                complaint,
-                "use the schema",
-                document.path.as_str(),
-                reason.as_str(),
-            )?;
-        }
-    }
-    Ok(())
-}
-
 /// Adds an error to `complaint` for each reason why the schema at `path` can't be compiled.
 fn refuse(
     alloc: Global,
@@ -193,7 +167,12 @@ fn refuse(
 ) -> Result<(), AllocError> {
     match error {
         SchemaError::Json { address } => {
-            refuse_text(alloc, complaint, documents, address.as_str())
+            let Some(document) = at_address(documents, address.as_str()) else {
+                return Ok(());
+            };
+            let (path, text) = (document.path.as_str(), document.text.as_str());
+            let reason = json_reason(alloc, text, "it is not valid JSON")?;
+            complain(complaint, "use the schema", path, reason.as_str())
         }
         SchemaError::Wrong { flaws, .. } => {
             let flaws = flaws.as_slice();
@@ -330,12 +309,16 @@ fn document_at<D: Disk>(
         Some(path) => disk.stamp(path.as_str()).is_some(),
         None => false,
     };
-    if let (false, Some(text)) = (is_there, metaschema(address)) {
-        return Ok(Some(Loaded {
-            path: String::from_str(alloc, address)?,
-            address: String::from_str(alloc, address)?,
-            text: String::from_str(alloc, text)?,
-        }));
+    if !is_there {
+        if let Some(text) = metaschema(alloc, address)? {
+            let path = String::from_str(alloc, address)?;
+            let address = path.clone()?;
+            return Ok(Some(Loaded {
+                path,
+                address,
+                text,
+            }));
+        }
     }
     let Some(path) = path else {
         return Ok(None);

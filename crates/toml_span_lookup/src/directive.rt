@@ -1,5 +1,6 @@
 //! The directive `#:schema`, or the key `"$schema"`, by which a file names its schema.
 ghost use Rattle.std.specs.Prelude.{◌≡◌, option_map, take, true};
+ghost use Rattle.toml_span_lookup.specs.Addresses.{after};
 ghost use Rattle.toml_span_lookup.specs.Directive as spec;
 
 use toml_span_lex::span::Span;
@@ -32,7 +33,7 @@ struct Place<'t> {
 
 /// Returns the rest of a text that begins with `front`, or `None` if it begins otherwise.
 fn rest_after<'t>(front: &[u8], text: &'t [u8]) -> Option<&'t [u8]>
-    ensures { option_map (λ rest. rest.now) result ≡ spec.rest_after front.now text.now }
+    ensures { option_map (λ rest. rest.now) result ≡ after front.now text.now }
 {
     if text.starts_with(front) {
         Some(&text[front.len()..])
@@ -167,14 +168,8 @@ fn in_line(text: &[u8]) -> Option<Place<'_>>
     }
 }
 
-/// Returns whether the line at the start of a text has no header or assignment.
-fn is_empty_line(text: &[u8]) -> bool
-    ensures { result ≡ spec.is_empty_line (spec.skip_white text.now) }
-{
-    matches!(skip_white(text), [] | [b'\n' | b'#', ..])
-}
-
-/// Returns the first address that a line names, up to the first header or assignment.
+/// Returns the first address that a line names, up to the first header or assignment. Lines without these are empty or
+/// comments.
 fn named(text: &[u8]) -> Option<Place<'_>>
     ensures { option_map spec.place result ≡ spec.named_from true text.now }
 {
@@ -185,7 +180,8 @@ fn named(text: &[u8]) -> Option<Place<'_>>
             if let Some(found) = in_line(rest) {
                 return Some(found);
             }
-            if !is_empty_line(rest) {
+            let is_empty = matches!(skip_white(rest), [] | [b'\n' | b'#', ..]);
+            if !is_empty {
                 return None;
             }
         }

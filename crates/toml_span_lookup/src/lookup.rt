@@ -10,13 +10,13 @@ ghost use Rattle.toml_span_report.specs.Report.{report_content};
 ghost use Rattle.toml_span_tree.specs.Value.{view};
 
 use crate::addresses::{after, folder_of, is_remote, joined, push_decoded};
-use crate::catalog::{Catalog, catalog_of};
+use crate::catalog::{Catalog, catalog_of, json_reason};
 use crate::compiling::{Used, base_of, text_of, used_from};
 use crate::directive::{Directive, directive_of, names_schema};
 use crate::disk::{Disk, Stamp};
 use crate::findings::{findings, not_fetched, push_warnings};
 use crate::options::{LocalCopy, Options, Place};
-use crate::reasons::{catalog_reason, complain, copy_help, remote_message};
+use crate::reasons::{complain, copy_help, remote_message};
 use std::alloc::{AllocError, Global};
 use std::mem;
 use toml_span::{Span, Value};
@@ -46,7 +46,7 @@ pub struct Lookup {
     catalog: Option<Catalog>,
     /// The stamp of the catalog before it was read.
     stamp: Option<Stamp>,
-    /// Whether `prepare` has already read the catalog, tried to read it, or found that the options name no catalog.
+    /// Whether `prepare` has already read the catalog, or tried to read it.
     is_ready: bool,
     used: Vec<Used>,
     /// Error lines that have not been returned yet. They say why catalogs or schemas can't be used, or why documents
@@ -145,7 +145,8 @@ impl Lookup {
         directive: Directive<'_>,
     ) -> Result<Choice, AllocError>
         ensures { IfOk result (λ made. chosen made
-            ≡ choice.by_directive self.now.options self.now.catalog name.now directive.entry.address.now directive.entry.span) }
+            ≡ choice.by_directive self.now.options self.now.catalog name.now directive.entry.address.now
+            directive.entry.span) }
     {
         let Directive { address, span } = directive;
         if let Some(path) = self.path_of(alloc, address, folder_of(name))? {
@@ -191,35 +192,25 @@ impl Lookup {
         Ok(matches!(self.choice(alloc, name, text)?, Choice::None))
     }
 
-    /// Reads the catalog that the options name, if any. If the catalog can't be used, adds an error to `complaint`.
-    fn read_catalog<D: Disk>(&mut self, alloc: Global, disk: &mut D) -> Result<(), AllocError>
+    /// Reads the catalog that the options name, if any, unless `is_ready` is set. If the catalog can't be used, adds an
+    /// error to `complaint`.
+    fn prepare<D: Disk>(&mut self, alloc: Global, disk: &mut D) -> Result<(), AllocError>
         ensures { self.new.options ≡ self.old.options }
     {
         let path = self.options.catalog.as_str();
-        if path.is_empty() {
+        if self.is_ready || path.is_empty() {
             return Ok(());
         }
         self.stamp = disk.stamp(path);
         let complaint = &mut self.complaint;
-        let Some(text) = text_of(alloc, disk, complaint, "read the catalog", path)? else {
-            return Ok(());
-        };
-        self.catalog = catalog_of(alloc, text.as_str())?;
-        if self.catalog.is_none() {
-            let reason = catalog_reason(alloc, text.as_str())?;
-            complain(complaint, "use the catalog", path, reason.as_str())?;
+        if let Some(text) = text_of(alloc, disk, complaint, "read the catalog", path)? {
+            self.catalog = catalog_of(alloc, text.as_str())?;
+            if self.catalog.is_none() {
+                let reason = json_reason(alloc, text.as_str(), "it has no array `schemas`")?;
+                complain(complaint, "use the catalog", path, reason.as_str())?;
+            }
         }
-        Ok(())
-    }
-
-    /// Calls `read_catalog` and sets `is_ready`, unless `is_ready` is set already.
-    fn prepare<D: Disk>(&mut self, alloc: Global, disk: &mut D) -> Result<(), AllocError>
-        ensures { self.new.options ≡ self.old.options }
-    {
-        if !self.is_ready {
-            self.read_catalog(alloc, disk)?;
-            self.is_ready = true;
-        }
+        self.is_ready = true;
         Ok(())
     }
 
@@ -282,25 +273,16 @@ impl Lookup {
         }
     }
 
-    /// Drops the catalog if its file has changed since it was read. `prepare` then reads the catalog again.
-    fn forget_catalog<D: Disk>(&mut self, disk: &mut D) {
-        if self.is_ready && !self.options.catalog.is_empty() {
-            if disk.stamp(self.options.catalog.as_str()) != self.stamp {
-                self.is_ready = false;
-                self.catalog = None;
-            }
-        }
-    }
-
     /// Drops the schema at a path if one of its files has changed since the file was read. `load_choice` then reads the
     /// schema again.
     fn forget_schema<D: Disk>(&mut self, disk: &mut D, path: &str) {
         let Some(at) = self.position_of(path) else {
             return;
         };
-        let is_stale = self.used.get(at).map_or(false, |used| used.is_stale(disk));
-        if is_stale && at < self.used.len() {
-            drop(self.used.remove(at));
+        if let Some(used) = self.used.get(at) {
+            if used.is_stale(disk) {
+                drop(self.used.remove(at));
+            }
         }
     }
 
@@ -314,7 +296,10 @@ impl Lookup {
         name: &str,
         text: &str,
     ) -> Result<(), AllocError> {
-        self.forget_catalog(disk);
+        if self.is_ready && disk.stamp(self.options.catalog.as_str()) != self.stamp {
+            self.is_ready = false;
+            self.catalog = None;
+        }
         self.prepare(alloc, disk)?;
         let choice = self.choice(alloc, name, text)?;
         if let Choice::File(path) = &choice {
@@ -343,7 +328,8 @@ impl Lookup {
         name: &str,
         text: &str,
     ) -> Result<Option<&Guide>, AllocError>
-        ensures { IfOk result (λ found. option_map (λ guide. guide.now) found ≡ spec.guide_of self.now name.now text.now) }
+        ensures { IfOk result (λ found. option_map (λ guide. guide.now) found
+            ≡ spec.guide_of self.now name.now text.now) }
     {
         match self.choice(alloc, name, text)? {
             Choice::File(path) => Ok(self.guide_at(path.as_str())),
@@ -440,8 +426,9 @@ impl Lookup {
         name: &str,
         root: &Value<'_>,
     ) -> Result<Vec<Report>, AllocError>
-        ensures { IfOk result (λ reports. ReportsOf (spec.guide_at self.old.used.items path.now) name.now (view root.now)
-            (map report_content reports.items) (string_bytes self.old.complaint) (string_bytes self.new.complaint)) }
+        ensures { IfOk result (λ reports. ReportsOf (spec.guide_at self.old.used.items path.now) name.now
+            (view root.now) (map report_content reports.items) (string_bytes self.old.complaint)
+            (string_bytes self.new.complaint)) }
     {
         let Some(guide) = self.guide_at(path) else {
             return Ok(Vec::new(alloc));

@@ -3,7 +3,6 @@ ghost use Rattle.std.specs.Prelude.{◌≡◌, ◌++◌, OnOk, string_bytes};
 ghost use Rattle.toml_span_lookup.specs.Findings as spec;
 
 use crate::addresses::{is_remote, without_fragment};
-use crate::catalog::json_fault;
 use crate::options::Place;
 use std::alloc::{AllocError, Global};
 use std::fmt::Write;
@@ -87,7 +86,7 @@ pub(crate) fn remote_reason(
     let mut urls: Vec<&str> = Vec::new(alloc);
     for flaw in flaws {
         let url = without_fragment(flaw.missing.as_str());
-        if is_remote(url) && !urls.iter().any(|other| *other == url) {
+        if is_remote(url) && !urls.contains(&url) {
             urls.push(url)?;
         }
     }
@@ -95,23 +94,6 @@ pub(crate) fn remote_reason(
         return Ok(None);
     }
     Ok(Some(remote_message(alloc, place, urls.as_slice())?))
-}
-
-/// Returns the message that says why `text` is not valid JSON, or nested too deep (see `json_fault`).
-pub(crate) fn json_reason(alloc: Global, text: &str) -> Result<String, AllocError> {
-    match json_fault(alloc, text)? {
-        Some(reason) => Ok(reason),
-        None => String::from_str(alloc, "it is not valid JSON"),
-    }
-}
-
-/// Returns the message that says why a catalog can't be used: `text` is not valid JSON, is nested too deep, or has no
-/// array `schemas`.
-pub(crate) fn catalog_reason(alloc: Global, text: &str) -> Result<String, AllocError> {
-    match json_fault(alloc, text)? {
-        Some(reason) => Ok(reason),
-        None => String::from_str(alloc, "it has no array `schemas`"),
-    }
 }
 
 /// Returns the message on a flaw in `text`, at the byte offset `at`, with its line, column and JSON pointer.

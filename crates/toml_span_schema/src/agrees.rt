@@ -2,7 +2,6 @@
 ghost use Rattle.std.specs.Prelude.{◌≡◌, IfOk, map, option_map, slice_get};
 ghost use Rattle.json.specs.Value.{items_view, members_view, value_view};
 ghost use Rattle.toml_span_schema.specs.Agrees as spec;
-ghost use Rattle.toml_span_schema.specs.Numbers.{plain};
 
 use crate::canonical::{push_decimal, push_text};
 use crate::decimal::count_in;
@@ -183,7 +182,9 @@ fn number_agrees(
             Ok(name == "exclusiveMaximum" && limit.compare(&number).is_eq())
         }
         Keyword::MultipleOf(size, power) => {
-            Ok(name == "multipleOf" && is_divisor(alloc, *size, *power, &number)?)
+            let digits = format!(in alloc; "{size}")?;
+            let is_size = number.digits.as_slice() == digits.as_bytes();
+            Ok(name == "multipleOf" && is_size && number.exponent() == *power)
         }
         Keyword::MinLength(limit) => Ok(name == "minLength" && *limit == count),
         Keyword::MaxLength(limit) => Ok(name == "maxLength" && *limit == count),
@@ -193,14 +194,6 @@ fn number_agrees(
         Keyword::MaxProperties(limit) => Ok(name == "maxProperties" && *limit == count),
         _ => Ok(false),
     }
-}
-
-/// Returns whether `size` and `power` are those of the divisor `number`, as in `Keyword::MultipleOf`.
-fn is_divisor(alloc: Global, size: u64, power: u128, number: &Decimal) -> Result<bool, AllocError>
-    ensures { IfOk result (λ r. r ≡ spec.is_divisor size power (plain number.now)) }
-{
-    let digits = format!(in alloc; "{size}")?;
-    Ok(number.digits.as_slice() == digits.as_bytes() && number.exponent() == power)
 }
 
 /// Returns the count that a value says, or `otherwise` for other values.

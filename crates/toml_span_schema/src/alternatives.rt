@@ -3,14 +3,11 @@
 use crate::error::CheckError;
 use crate::keyword::Keyword;
 use crate::listed::Part;
-use crate::messages::Listed;
+use crate::messages::{Listed, MOST_NESTED};
 use crate::schema::Schema;
 use crate::walk::{Cause, Place, Violation, Walk};
-use std::alloc::{AllocError, Global};
+use std::alloc::AllocError;
 use std::mem::replace;
-
-/// The number of schemas that may be nested in an alternative to say which types and constants it names.
-const MOST_NESTED: usize = 65;
 
 /// What is known of the alternatives that have been tried so far, of which the value matches none or, for `oneOf`, too
 /// many.
@@ -31,8 +28,8 @@ struct Tried<'s, 'v, 'de> {
 }
 
 impl Schema {
-    /// Finds what the keyword `anyOf` or `oneOf` at `at`, which does not allow `part`, does not allow in it. `nodes` are
-    /// the alternatives. Fails like `is_valid`.
+    /// Finds what the keyword `anyOf` or `oneOf` at `at`, which does not allow `part`, does not allow in it. `nodes`
+    /// are the alternatives. Fails like `is_valid`.
     #[cycle(explore)]
     pub(crate) fn explore_alternatives<'s, 'v, 'de>(
         &'s self,
@@ -69,8 +66,8 @@ impl Schema {
         conclude(walk, tried, at, nodes, part);
     }
 
-    /// Notes that `part` is not valid against the alternative at index `node`, because of the violations `found`. Ignores
-    /// an alternative that no value of TOML matches.
+    /// Notes that `part` is not valid against the alternative at index `node`, because of the violations `found`.
+    /// Ignores an alternative that no value of TOML matches.
     fn compare<'s, 'v, 'de>(
         &'s self,
         walk: &mut Walk<'s, 'v, 'de>,
@@ -100,7 +97,7 @@ impl Schema {
         }
         tried.is_unlisted &= is_unlisted;
         tried.count = tried.count.saturating_add(1);
-        match self.distance(walk.alloc, found.as_slice(), level, node, part) {
+        match self.distance(found.as_slice(), level, node, part) {
             Ok(distance) => {
                 if distance < tried.least {
                     tried.least = distance;
@@ -145,19 +142,18 @@ impl Schema {
     /// alternative knows, and then missing and unknown keys.
     fn distance<'s>(
         &'s self,
-        alloc: Global,
         found: &[Violation<'s, '_, '_>],
         level: usize,
         node: usize,
         part: Part<'_, '_>,
     ) -> Result<usize, AllocError> {
-        let mut sum = if self.shares_key(alloc, node, part)? {
+        let mut sum = if self.shares_key(node, part)? {
             0usize
         } else {
             50
         };
         for one in found {
-            let is_meant = self.meant(alloc, one)?.is_some();
+            let is_meant = self.meant(one)?.is_some();
             let weight = match (
                 &one.at.placed.keyword,
                 one.cause,
@@ -177,16 +173,11 @@ impl Schema {
     }
 
     /// Returns whether a value is not a table, or has a key of `properties` in the schema at index `node`.
-    fn shares_key(
-        &self,
-        alloc: Global,
-        node: usize,
-        part: Part<'_, '_>,
-    ) -> Result<bool, AllocError> {
+    fn shares_key(&self, node: usize, part: Part<'_, '_>) -> Result<bool, AllocError> {
         let Some(table) = part.value().as_table() else {
             return Ok(true);
         };
-        for known in self.known_keys(alloc, &[node])? {
+        for known in self.known_keys(&[node])? {
             for (key, _value) in table.iter() {
                 if key.name.as_ref() == known {
                     return Ok(true);
@@ -209,10 +200,15 @@ impl Schema {
             return;
         }
         for node in nodes {
-            for placed in self.keywords(*node) {
+            let keywords = self.keywords(*node);
+            let mut is_listed = false;
+            for placed in keywords {
+                is_listed |= matches!(&placed.keyword, Keyword::Enum(_, _));
+            }
+            for placed in keywords {
                 match &placed.keyword {
                     Keyword::Enum(_, shown) => listed.push_all(shown.as_slice()),
-                    Keyword::Type(more) if !self.is_listed(*node) => listed.types.add(*more),
+                    Keyword::Type(more) if !is_listed => listed.types.add(*more),
                     Keyword::AllOf(inner) | Keyword::AnyOf(inner) | Keyword::OneOf(inner) => {
                         self.push_listed(depth - 1, inner.as_slice(), listed);
                     }
@@ -220,16 +216,6 @@ impl Schema {
                 }
             }
         }
-    }
-
-    /// Returns whether the schema at index `node` lists constants.
-    fn is_listed(&self, node: usize) -> bool {
-        for placed in self.keywords(node) {
-            if let Keyword::Enum(_, _) = &placed.keyword {
-                return true;
-            }
-        }
-        false
     }
 }
 

@@ -1,12 +1,10 @@
 //! The subschemas that a keyword applies to a value and to the values inside it, and the keys of a table.
 ghost use Rattle.std.specs.Prelude.{◌≡◌, ◌++◌, IfOk, OnOk, false, map};
-ghost use Rattle.toml_span_tree.specs.Value.{inner_of, members_view, view};
-ghost use Rattle.toml_span_schema.specs.Applied.{applied, applied_of, at_or_rest, dependents, each_to, inside};
+ghost use Rattle.toml_span_tree.specs.Value.{view};
+ghost use Rattle.toml_span_schema.specs.Applied.{applied, applied_of, dependents, each_to, inside};
 ghost use Rattle.toml_span_schema.specs.Applied.{matches, matching_for, otherwise, schemas_for};
-ghost use Rattle.toml_span_schema.specs.Parts.{has_key, has_name, kind_in, name_values, names_of, part_of, parts_of};
-ghost use Rattle.toml_span_schema.specs.Parts.{value_of};
+ghost use Rattle.toml_span_schema.specs.Parts.{has_key, names_of, part_of};
 ghost use Rattle.std.specs.BTreeMap.{get_by_text};
-ghost use Rattle.std.specs.List.{slice_get};
 ghost use Rattle.std.specs.Prelude.{option_to_list};
 
 use crate::keyword::Keyword;
@@ -15,21 +13,16 @@ use crate::schema::Schema;
 use std::alloc::{AllocError, Global};
 use std::borrow::CowStr;
 use std::collections::BTreeMap;
-use toml_span_tree::{Table, Value, ValueInner};
+use toml_span_tree::{Value, ValueInner};
 
 /// Returns whether the regular expression at position `pattern` in `schema.patterns` matches somewhere in a text, or
 /// false if `pattern` is out of range.
-pub(crate) fn matches(
-    alloc: Global,
-    schema: &Schema,
-    pattern: usize,
-    text: &str,
-) -> Result<bool, AllocError>
+pub(crate) fn matches(schema: &Schema, pattern: usize, text: &str) -> Result<bool, AllocError>
     ensures { IfOk result (λ r. r ≡ matches schema.now pattern text.now) }
 {
     match schema.patterns.get(pattern) {
         Some(regex) => {
-            let mut matcher = regex.matcher(alloc)?;
+            let mut matcher = regex.matcher(schema.alloc())?;
             Ok(matcher.is_match(text))
         }
         None => Ok(false),
@@ -39,7 +32,6 @@ pub(crate) fn matches(
 /// Appends the subschemas of `patternProperties` whose regular expressions match `name`. `matching` pairs the position
 /// of each regular expression with the index of its subschema.
 fn push_matching(
-    alloc: Global,
     schema: &Schema,
     list: &mut Vec<usize>,
     matching: &[(usize, usize)],
@@ -48,7 +40,7 @@ fn push_matching(
     ensures { OnOk result (list.new.items ≡ list.old.items ++ matching_for schema.now matching.now name.now) }
 {
     for property in matching {
-        if matches(alloc, schema, property.0, name)? {
+        if matches(schema, property.0, name)? {
             list.push(property.1)?;
         }
     }
@@ -59,7 +51,6 @@ fn push_matching(
 /// (`patternProperties`) whose regular expressions match. If neither has one for `name`, returns `rest`
 /// (`additionalProperties`) or, without `rest`, an empty list.
 fn for_entry(
-    alloc: Global,
     schema: &Schema,
     named: &BTreeMap<String, usize>,
     matching: &[(usize, usize)],
@@ -69,36 +60,14 @@ fn for_entry(
     ensures { IfOk result (λ list. list.items ≡ otherwise
         (option_to_list (get_by_text named.now name.now) ++ matching_for schema.now matching.now name.now) rest) }
 {
-    let mut list = Vec::new(alloc);
+    let mut list = Vec::new(schema.alloc());
     if let Some(own) = named.get(name) {
         list.push(*own)?;
     }
-    push_matching(alloc, schema, &mut list, matching, name)?;
+    push_matching(schema, &mut list, matching, name)?;
     if list.is_empty() {
         if let Some(rest) = rest {
             list.push(rest)?;
-        }
-    }
-    Ok(list)
-}
-
-/// Returns a list with the subschema for the element at position `at`: `prefix[at]` or, if `prefix` is shorter, `rest`.
-/// The list is empty if neither exists.
-fn for_element(
-    alloc: Global,
-    prefix: &[usize],
-    rest: Option<usize>,
-    at: usize,
-) -> Result<Vec<usize>, AllocError>
-    ensures { IfOk result (λ list. list.items ≡ at_or_rest (slice_get prefix.now at) rest) }
-{
-    let mut list = Vec::new(alloc);
-    match prefix.get(at) {
-        Some(own) => list.push(*own)?,
-        None => {
-            if let Some(rest) = rest {
-                list.push(rest)?;
-            }
         }
     }
     Ok(list)
@@ -108,20 +77,28 @@ fn for_element(
 /// is empty for all other pairs of a keyword and a part.
 #[tactic(auto, unfolding(crate::specs::Applied::schemas_for))]
 pub(crate) fn schemas_for(
-    alloc: Global,
     schema: &Schema,
     keyword: &Keyword,
     part: Part<'_, '_>,
 ) -> Result<Vec<usize>, AllocError>
     ensures { IfOk result (λ list. list.items ≡ schemas_for schema.now keyword.now (part_of part.entry)) }
 {
+    let alloc = schema.alloc();
     match (keyword, part) {
         (Keyword::Items(prefix, rest), Part::Element(at, _)) => {
-            for_element(alloc, prefix.as_slice(), *rest, at)
+            let node = match prefix.get(at) {
+                Some(own) => Some(*own),
+                None => *rest,
+            };
+            let mut list = Vec::new(alloc);
+            if let Some(node) = node {
+                list.push(node)?;
+            }
+            Ok(list)
         }
         (Keyword::Properties(named, matching, rest), Part::Member(key, _)) => {
             let name = key.name.as_ref();
-            for_entry(alloc, schema, named, matching.as_slice(), *rest, name)
+            for_entry(schema, named, matching.as_slice(), *rest, name)
         }
         _ => Ok(Vec::new(alloc)),
     }
@@ -186,7 +163,7 @@ fn push_inside<'v, 'de>(
 {
     let alloc = *list.allocator();
     for part in parts {
-        let nodes = schemas_for(alloc, schema, keyword, *part)?;
+        let nodes = schemas_for(schema, keyword, *part)?;
         push_each(list, nodes.as_slice(), *part)?;
     }
     Ok(())
@@ -197,13 +174,13 @@ fn push_inside<'v, 'de>(
 /// keywords without subschemas.
 #[tactic(auto, unfolding(crate::specs::Applied::applied))]
 pub(crate) fn applied<'v, 'de>(
-    alloc: Global,
     schema: &Schema,
     keyword: &Keyword,
     part: Part<'v, 'de>,
 ) -> Result<Vec<(usize, Part<'v, 'de>)>, AllocError>
     ensures { IfOk result (λ list. map applied_of list.items ≡ applied schema.now keyword.now (part_of part.entry)) }
 {
+    let alloc = schema.alloc();
     let mut list = Vec::new(alloc);
     match keyword {
         Keyword::AllOf(nodes) | Keyword::AnyOf(nodes) | Keyword::OneOf(nodes) => {
@@ -231,42 +208,27 @@ pub(crate) fn names<'v>(alloc: Global, value: &'v Value<'_>) -> Result<Vec<Value
     ensures { IfOk result (λ list. map view list.items ≡ names_of (view value.now)) }
 {
     let mut list = Vec::new(alloc);
-    if let Some(table) = value.as_table() {
-        push_names(&mut list, table)?;
-    }
-    Ok(list)
-}
-
-/// Appends the keys of a table as strings, with their spans.
-fn push_names<'v>(list: &mut Vec<Value<'v>>, table: &'v Table<'_>) -> Result<(), AllocError>
-    ensures { OnOk result (map view list.new.items
-        ≡ map view list.old.items ++ name_values (members_view table.now.entries)) }
-{
+    let Some(table) = value.as_table() else {
+        return Ok(list);
+    };
     for (key, _value) in table.iter() {
         let name = ValueInner::String(CowStr::Borrowed(key.name.as_ref()));
         list.push(Value::with_span(name, key.span))?;
     }
-    Ok(())
-}
-
-/// Returns whether a table has this key.
-fn has_entry(table: &Table<'_>, name: &str) -> bool
-    ensures { result ≡ has_name name.now (members_view table.now.entries) }
-{
-    for (key, _value) in table.iter() {
-        if key.name.as_ref() == name {
-            return true;
-        }
-    }
-    false
+    Ok(list)
 }
 
 /// Returns whether a value is a table with this key.
 pub(crate) fn has_key(value: &Value<'_>, name: &str) -> bool
     ensures { result ≡ has_key (view value.now) name.now }
 {
-    match value.as_table() {
-        Some(table) => has_entry(table, name),
-        None => false,
+    let Some(table) = value.as_table() else {
+        return false;
+    };
+    for (key, _value) in table.iter() {
+        if key.name.as_ref() == name {
+            return true;
+        }
     }
+    false
 }

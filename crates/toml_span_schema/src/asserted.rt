@@ -1,11 +1,10 @@
 //! Checks values against the keywords that have no subschemas.
-ghost use Rattle.std.specs.Prelude.{◌≡◌, IfOk, length};
-ghost use Rattle.toml_span_tree.specs.Value.{float_value, inner_of, items_view, view};
+ghost use Rattle.std.specs.Prelude.{◌≡◌, IfOk};
+ghost use Rattle.toml_span_tree.specs.Value.{inner_of, items_view, view};
 ghost use Rattle.toml_span_schema.specs.Asserted.{allows_items, allows_kind, allows_number};
 ghost use Rattle.toml_span_schema.specs.Asserted.{allows_simple, allows_table_of, allows_text};
 ghost use Rattle.toml_span_schema.specs.Asserted.{characters, has_all, has_dependents};
-ghost use Rattle.toml_span_schema.specs.Asserted.{has_type, is_at_least, is_at_most};
-ghost use Rattle.toml_span_schema.specs.Asserted.{is_whole_float};
+ghost use Rattle.toml_span_schema.specs.Asserted.{has_type};
 ghost use Rattle.toml_span_schema.specs.Numbers.{quantity};
 
 use crate::applied::{has_key, matches};
@@ -22,16 +21,6 @@ use std::alloc::{AllocError, Global};
 use std::cmp::Ordering;
 use toml_span_tree::{FloatText, Value, ValueInner};
 
-/// Returns whether a float has an integer value, such as `1.0`. Returns false for infinity and NaN.
-fn is_whole(alloc: Global, float: &FloatText) -> Result<bool, AllocError>
-    ensures { IfOk result (λ r. r ≡ is_whole_float (float_value float.now)) }
-{
-    match float {
-        FloatText::Finite(text) => Ok(Decimal::parse(alloc, text.as_str())?.is_whole()),
-        _ => Ok(false),
-    }
-}
-
 /// Returns whether the type of a value is one of `types`. Dates and times are strings. Returns false for a taken value.
 fn has_type(alloc: Global, types: Types, value: &Value<'_>) -> Result<bool, AllocError>
     ensures { IfOk result (λ r. r ≡ has_type types (inner_of (view value.now))) }
@@ -42,7 +31,10 @@ fn has_type(alloc: Global, types: Types, value: &Value<'_>) -> Result<bool, Allo
     match value.as_ref() {
         ValueInner::String(_) | ValueInner::Datetime(_) => Ok(types.string),
         ValueInner::Integer(_) => Ok(types.number || types.integer),
-        ValueInner::Float(float) => { Ok(types.number || types.whole && is_whole(alloc, float)?) }
+        ValueInner::Float(FloatText::Finite(text)) => Ok(
+            types.number || types.whole && Decimal::parse(alloc, text.as_str())?.is_whole(),
+        ),
+        ValueInner::Float(_) => Ok(types.number),
         ValueInner::Boolean(_) => Ok(types.boolean),
         ValueInner::Array(_) => Ok(types.array),
         ValueInner::Table(_) => Ok(types.object),
@@ -56,37 +48,21 @@ fn allows_number(keyword: &Keyword, number: &Number) -> Result<bool, CheckError>
     ensures { IfOk result (λ r. r ≡ allows_number keyword.now (quantity number.now)) }
 {
     match keyword {
-        Keyword::Minimum(limit) => Ok(is_at_least(number.compare(limit))),
+        Keyword::Minimum(limit) => Ok(matches!(
+            number.compare(limit),
+            Some(Ordering::Greater | Ordering::Equal)
+        )),
         Keyword::ExclusiveMinimum(limit) => Ok(number.compare(limit) == Some(Ordering::Greater)),
-        Keyword::Maximum(limit) => Ok(is_at_most(number.compare(limit))),
+        Keyword::Maximum(limit) => Ok(matches!(
+            number.compare(limit),
+            Some(Ordering::Less | Ordering::Equal)
+        )),
         Keyword::ExclusiveMaximum(limit) => Ok(number.compare(limit) == Some(Ordering::Less)),
         Keyword::MultipleOf(size, power) => match number {
             Number::Finite(number) => number.is_multiple_of(*size, *power),
             _ => Ok(false),
         },
         _ => Ok(true),
-    }
-}
-
-/// Returns whether a number is at least a limit, from the `order` of the two. Returns false for `None`, the order of
-/// NaN.
-fn is_at_least(order: Option<Ordering>) -> bool
-    ensures { result ≡ is_at_least order }
-{
-    match order {
-        Some(Ordering::Greater | Ordering::Equal) => true,
-        _ => false,
-    }
-}
-
-/// Returns whether a number is at most a limit, from the `order` of the two. Returns false for `None`, the order of
-/// NaN.
-fn is_at_most(order: Option<Ordering>) -> bool
-    ensures { result ≡ is_at_most order }
-{
-    match order {
-        Some(Ordering::Less | Ordering::Equal) => true,
-        _ => false,
     }
 }
 
@@ -100,26 +76,21 @@ fn characters(text: &str) -> u64
 /// Returns whether a keyword for strings, such as `pattern`, allows a string. Other keywords allow any string. For the
 /// format `regex`, fails with `TooLong` if the string is a regular expression that is too large or nests too deep.
 #[tactic(auto, unfolding(crate::specs::Asserted::allows_text))]
-fn allows_text(
-    alloc: Global,
-    schema: &Schema,
-    keyword: &Keyword,
-    text: &str,
-) -> Result<bool, CheckError>
+fn allows_text(schema: &Schema, keyword: &Keyword, text: &str) -> Result<bool, CheckError>
     ensures { IfOk result (λ r. r ≡ allows_text schema.now keyword.now text.now) }
 {
     match keyword {
         Keyword::MinLength(least) => Ok(*least <= characters(text)),
         Keyword::MaxLength(most) => Ok(characters(text) <= *most),
-        Keyword::Pattern(pattern) => Ok(matches(alloc, schema, *pattern, text)?),
+        Keyword::Pattern(pattern) => Ok(matches(schema, *pattern, text)?),
         Keyword::Format(pattern, most, leap) => {
             if !schema.formats {
                 return Ok(true);
             }
-            let matched = matches(alloc, schema, *pattern, text)?;
+            let matched = matches(schema, *pattern, text)?;
             Ok(matched && characters(text) <= *most && (!*leap || fits_leap_second(text)))
         }
-        Keyword::RegexFormat => Ok(!schema.formats || is_pattern(alloc, text)?),
+        Keyword::RegexFormat => Ok(!schema.formats || is_pattern(schema.alloc(), text)?),
         _ => Ok(true),
     }
 }
@@ -184,13 +155,13 @@ fn allows_table(keyword: &Keyword, value: &Value<'_>, count: usize) -> bool
 /// string that must have the format `regex` is too large a regular expression or nests too deep.
 #[tactic(auto, unfolding(crate::specs::Asserted::allows_simple))]
 pub(crate) fn allows_simple(
-    alloc: Global,
     schema: &Schema,
     keyword: &Keyword,
     value: &Value<'_>,
 ) -> Result<bool, CheckError>
     ensures { IfOk result (λ r. r ≡ allows_simple schema.now keyword.now (view value.now)) }
 {
+    let alloc = schema.alloc();
     match keyword {
         Keyword::Never => Ok(false),
         Keyword::Type(types) => Ok(has_type(alloc, *types, value)?),
@@ -198,29 +169,25 @@ pub(crate) fn allows_simple(
             let text = canonical(alloc, value)?;
             Ok(values.contains(text.as_str()))
         }
-        _ => allows_kind(alloc, schema, keyword, value),
+        _ => allows_kind(schema, keyword, value),
     }
 }
 
 /// Returns whether a keyword for one type, such as `minimum`, allows a value. All values of other types are allowed.
 /// Fails like `allows_simple`.
 #[tactic(auto, unfolding(crate::specs::Asserted::allows_kind))]
-fn allows_kind(
-    alloc: Global,
-    schema: &Schema,
-    keyword: &Keyword,
-    value: &Value<'_>,
-) -> Result<bool, CheckError>
+fn allows_kind(schema: &Schema, keyword: &Keyword, value: &Value<'_>) -> Result<bool, CheckError>
     ensures { IfOk result (λ r. r ≡ allows_kind schema.now keyword.now (view value.now) (inner_of (view value.now))) }
 {
+    let alloc = schema.alloc();
     if value.is_taken() {
         return Ok(true);
     }
     match value.as_ref() {
-        ValueInner::String(text) => allows_text(alloc, schema, keyword, text.as_ref()),
+        ValueInner::String(text) => allows_text(schema, keyword, text.as_ref()),
         ValueInner::Datetime(date) => {
             let text = rfc3339(alloc, date.text())?;
-            allows_text(alloc, schema, keyword, text.as_str())
+            allows_text(schema, keyword, text.as_str())
         }
         ValueInner::Array(array) => allows_items(alloc, keyword, array.as_slice()),
         ValueInner::Table(table) => Ok(allows_table(keyword, value, table.len())),

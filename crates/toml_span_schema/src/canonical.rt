@@ -1,10 +1,10 @@
 //! Canonical texts: two values are equal for JSON Schema if and only if their canonical texts are the same.
 
-ghost use Rattle.std.specs.Prelude.{◌≡◌, ◌++◌, [], ◌∷◌, IfOk, OnOk, map, string_bytes};
-ghost use Rattle.toml_span_tree.specs.Value.{inner_of, items_view, members_view, view};
-ghost use Rattle.toml_span_schema.specs.Canonical.{all_new, canonical, inner_form, items_form, members_form};
-ghost use Rattle.toml_span_schema.specs.Canonical.{plain_form, quantity_form, text_form};
-ghost use Rattle.toml_span_schema.specs.Numbers.{plain, quantity};
+ghost use Rattle.std.specs.Prelude.{◌≡◌, ◌++◌, [], IfOk, OnOk, map, string_bytes};
+ghost use Rattle.toml_span_tree.specs.Value.{items_view, members_view, view};
+ghost use Rattle.toml_span_schema.specs.Canonical.{all_new, canonical, items_form, members_form};
+ghost use Rattle.toml_span_schema.specs.Canonical.{plain_form, text_form};
+ghost use Rattle.toml_span_schema.specs.Numbers.{plain};
 
 use crate::dates::rfc3339;
 use crate::decimal::number_in;
@@ -43,21 +43,9 @@ pub(crate) fn push_decimal(out: &mut String, number: &Decimal) -> Result<(), All
     out.push_str(end.as_str())
 }
 
-/// Appends the canonical text of a number: `<` for negative infinity, `>` for infinity, `?` for NaN, otherwise the text
-/// of `push_decimal`.
-fn push_number(out: &mut String, number: &Number) -> Result<(), AllocError>
-    ensures { OnOk result (string_bytes out.new ≡ string_bytes out.old ++ quantity_form (quantity number.now)) }
-{
-    match number {
-        Number::Finite(number) => push_decimal(out, number),
-        Number::Infinite(true) => out.push('<'),
-        Number::Infinite(false) => out.push('>'),
-        Number::NotANumber => out.push('?'),
-    }
-}
-
-/// Appends the canonical text of a value. Fails with `TooDeep` if the value nests `depth` or more levels deep or
-/// contains a taken value. After a failure, `out` may contain a part of the text.
+/// Appends the canonical text of a value: of infinity `>` or, if it is negative, `<`, and of NaN `?`. Fails with
+/// `TooDeep` if the value nests `depth` or more levels deep or contains a taken value. After a failure, `out` may
+/// contain a part of the text.
 #[cycle(canonical)]
 fn push_canonical(out: &mut String, depth: usize, value: &Value<'_>) -> Result<(), CheckError>
     ensures { OnOk result (string_bytes out.new ≡ string_bytes out.old ++ canonical (view value.now)) }
@@ -84,7 +72,12 @@ fn push_canonical(out: &mut String, depth: usize, value: &Value<'_>) -> Result<(
         }
         _ => {
             if let Some(number) = number_in(*out.allocator(), value)? {
-                push_number(out, &number)?;
+                match number {
+                    Number::Finite(number) => push_decimal(out, &number)?,
+                    Number::Infinite(true) => out.push('<')?,
+                    Number::Infinite(false) => out.push('>')?,
+                    Number::NotANumber => out.push('?')?,
+                }
             }
         }
     }

@@ -6,7 +6,7 @@ ghost use Rattle.toml_span_schema.specs.Compiled.{IsCompiled};
 
 use crate::canonical::LEVELS;
 use crate::compiled::ensure_compiled;
-use crate::cycles::{Longest, longest_chain};
+use crate::cycles::longest_chain;
 use crate::documents::Document;
 use crate::error::SchemaError;
 use crate::formats::expanded;
@@ -16,7 +16,7 @@ use crate::notes::{Notes, read_notes};
 use crate::pointers::{push_step, with_step};
 use crate::schema::Schema;
 use crate::sources::{
-    Dialect, Draft, MOST_SCHEMAS, Resource, Source, Sources, decoded, joined, push_flaw, too_many,
+    Dialect, MOST_SCHEMAS, Resource, Source, Sources, TOO_MANY, decoded, joined, push_flaw,
     without_fragment,
 };
 use json::{Scratch, Value as Json, is_valid};
@@ -87,16 +87,6 @@ pub(crate) struct Compiler<'v, 'a> {
     names_root: bool,
 }
 
-/// Returns the position of the set `scope` in `scopes`, or `None` if `scopes` does not have it.
-fn scope_among(scopes: &[Vec<usize>], scope: &[usize]) -> Option<usize> {
-    for (i, other) in scopes.iter().enumerate() {
-        if other.as_slice() == scope {
-            return Some(i);
-        }
-    }
-    None
-}
-
 /// Returns the text of a JSON array of the documents. Fails with `Json` if a text is not JSON or nests more than 128
 /// levels deep.
 fn joined_texts(alloc: Global, documents: &[Document<'_>]) -> Result<String, SchemaError> {
@@ -114,22 +104,6 @@ fn joined_texts(alloc: Global, documents: &[Document<'_>]) -> Result<String, Sch
     }
     out.push(']')?;
     Ok(out)
-}
-
-/// Returns each document in the JSON array `values` with its address.
-fn with_addresses<'v, 'a>(
-    alloc: Global,
-    values: &'v Json<'a>,
-    documents: &[Document<'_>],
-) -> Result<Vec<Source<'v, 'a>>, AllocError> {
-    let mut sources = Vec::new(alloc);
-    for (i, document) in documents.iter().enumerate() {
-        if let Some(value) = values.at(i) {
-            let address = String::from_str(alloc, document.address)?;
-            sources.push(Source { address, value })?;
-        }
-    }
-    Ok(sources)
 }
 
 /// Compiles the schema in the document `root`, with its notes for people. References in the schema may name `others`.
@@ -156,7 +130,7 @@ pub(crate) fn compile(
     let made = compile_all(alloc, &values, documents.as_slice(), names_root);
     drop(values);
     let guide = made?;
-    ensure_compiled(alloc, root.text, &guide.schema)?;
+    ensure_compiled(root.text, &guide.schema)?;
     Ok(guide)
 }
 
@@ -183,7 +157,13 @@ fn compile_all<'v, 'a>(
     documents: &[Document<'_>],
     names_root: bool,
 ) -> Result<Guide, SchemaError> {
-    let sources = with_addresses(alloc, values, documents)?;
+    let mut sources = Vec::new(alloc);
+    for (i, document) in documents.iter().enumerate() {
+        if let Some(value) = values.at(i) {
+            let address = String::from_str(alloc, document.address)?;
+            sources.push(Source { address, value })?;
+        }
+    }
     compile_sources(alloc, Sources::new(alloc, sources)?, names_root)
 }
 
@@ -206,17 +186,16 @@ fn compile_sources(
     };
     compiler.scopes.push(Vec::new(alloc))?;
     let _root = compiler.node_at(0, "", 0)?;
-    let nodes = compiler.nodes()?;
-    let longest = longest_chain(alloc, nodes.as_slice())?;
-    if longest.length > LONGEST {
-        compiler.refuse_chain(&longest)?;
+    let (nodes, notes) = compiler.nodes()?;
+    let (length, start) = longest_chain(alloc, nodes.as_slice())?;
+    if length > LONGEST {
+        compiler.refuse_chain(length, start)?;
     }
     if !compiler.sources.errors.is_empty() {
         let flaws = mem::replace(&mut compiler.sources.errors, Vec::new(alloc));
         let warnings = mem::replace(&mut compiler.sources.warnings, Vec::new(alloc));
         return Err(SchemaError::Wrong { flaws, warnings });
     }
-    let notes = compiler.notes()?;
     let Compiler {
         patterns,
         sources,
@@ -226,7 +205,7 @@ fn compile_sources(
     let schema = Schema {
         nodes,
         patterns,
-        depth: longest.length.saturating_add(2).saturating_mul(LEVELS),
+        depth: length.saturating_add(2).saturating_mul(LEVELS),
         formats: true,
     };
     Ok(Guide {
@@ -237,17 +216,19 @@ fn compile_sources(
 }
 
 impl<'v, 'a> Compiler<'v, 'a> {
-    /// Compiles the schemas of all tasks, including tasks that are added meanwhile. Fails with `TooLarge` if there are
-    /// `MOST_SCHEMAS` or more tasks, otherwise like `read_node`.
-    fn nodes(&mut self) -> Result<Vec<Node>, SchemaError> {
+    /// Compiles the schemas of all tasks, including tasks that are added meanwhile, and reads their notes. Fails with
+    /// `TooLarge` if there are `MOST_SCHEMAS` or more tasks, otherwise like `read_node`.
+    fn nodes(&mut self) -> Result<(Vec<Node>, Vec<Notes>), SchemaError> {
         let mut nodes = Vec::new(self.alloc);
+        let mut notes = Vec::new(self.alloc);
         for at in 0..MOST_SCHEMAS {
             let Some(site) = self.site(at)? else {
-                return Ok(nodes);
+                return Ok((nodes, notes));
             };
+            notes.push(read_notes(self.alloc, site.value, site.dialect.draft)?)?;
             nodes.push(self.read_node(site)?)?;
         }
-        Err(too_many())
+        Err(SchemaError::TooLarge { limit: TOO_MANY })
     }
 
     /// Returns the schema of the task at the position `at`, or `None` if `at` is out of range.
@@ -274,7 +255,10 @@ impl<'v, 'a> Compiler<'v, 'a> {
         match self.sources.documents.get(site.source) {
             Some(document) if self.names_root || site.source > 0 => {
                 let address = document.address.as_str();
-                let name = address.rsplit_once("/").map_or(address, |parts| parts.1);
+                let name = match address.rsplit_once("/") {
+                    Some((_, name)) => name,
+                    None => address,
+                };
                 format!(in alloc; "{name}#{pointer}")
             }
             _ => String::from_str(alloc, pointer),
@@ -291,27 +275,14 @@ impl<'v, 'a> Compiler<'v, 'a> {
     fn dialect(&self, source: usize, pointer: &str) -> Dialect {
         match self.resource(source, pointer) {
             Some(resource) => resource.dialect,
-            None => Dialect {
-                draft: Draft::Of2020,
-                validates: true,
-            },
+            None => Dialect::LATEST,
         }
-    }
-
-    /// Returns the `Notes` of each task's schema, in the order of `tasks`.
-    fn notes(&self) -> Result<Vec<Notes>, AllocError> {
-        let mut notes = Vec::new(self.alloc);
-        for task in self.tasks.as_slice() {
-            let draft = self.dialect(task.source, task.pointer.as_str()).draft;
-            notes.push(read_notes(self.alloc, task.value, draft)?)?;
-        }
-        Ok(notes)
     }
 
     /// Returns the index of the compiled form of the schema `value` at a place. Adds a task for the schema, unless it
     /// already has one. `outer` is the scope in which the place is reached. `without_unevaluated` is as in `Site`.
     /// Fails with `TooLarge` if `work` exceeds `MOST_WORK`.
-    fn node(
+    pub(crate) fn node(
         &mut self,
         value: &'v Json<'a>,
         source: usize,
@@ -320,7 +291,17 @@ impl<'v, 'a> Compiler<'v, 'a> {
         without_unevaluated: bool,
     ) -> Result<usize, SchemaError> {
         let alloc = self.alloc;
-        self.spend()?;
+        let (resources, anchors) = (self.sources.resources.len(), self.sources.dynamic.len());
+        self.work = self
+            .work
+            .saturating_add(resources)
+            .saturating_add(anchors)
+            .saturating_add(self.scopes.len());
+        if self.work > MOST_WORK {
+            return Err(SchemaError::TooLarge {
+                limit: "finding its addresses takes more than 20,000,000 steps",
+            });
+        }
         let scope = self.scope_in(source, pointer, outer)?;
         let key = format!(in alloc; "{source} {scope} {without_unevaluated} {pointer}")?;
         if let Some(at) = self.known.get(key.as_str()) {
@@ -338,58 +319,32 @@ impl<'v, 'a> Compiler<'v, 'a> {
         Ok(at)
     }
 
-    /// Adds to `work` the steps for finding the resource and the scope of one place. Fails with `TooLarge` if `work`
-    /// exceeds `MOST_WORK`.
-    fn spend(&mut self) -> Result<(), SchemaError> {
-        let more = self
-            .sources
-            .resources
-            .len()
-            .saturating_add(self.sources.dynamic.len());
-        self.work = self
-            .work
-            .saturating_add(more)
-            .saturating_add(self.scopes.len());
-        if self.work > MOST_WORK {
-            return Err(SchemaError::TooLarge {
-                limit: "finding its addresses takes more than 20,000,000 steps",
-            });
-        }
-        Ok(())
-    }
-
     /// Returns the index of the compiled form of the schema at a place that is reached in the scope `outer`, or `None`
     /// if the place does not exist. Fails like `node`.
-    fn node_at(
+    pub(crate) fn node_at(
         &mut self,
         source: usize,
         pointer: &str,
         outer: usize,
     ) -> Result<Option<usize>, SchemaError> {
-        let Some(value) = self.sources.value_at(self.alloc, source, pointer)? else {
+        let Some(value) = self.sources.value_at(source, pointer)? else {
             return Ok(None);
         };
         let known = self.tasks.len();
         let node = self.node(value, source, pointer, outer, false)?;
         if node == known {
-            self.sources
-                .read_hidden(self.alloc, source, pointer, value)?;
+            self.sources.read_hidden(source, pointer, value)?;
         }
         Ok(Some(node))
     }
 
-    /// Returns the index of the schema that allows every value, for a keyword that is not checked.
-    pub(crate) fn anything(&mut self) -> Result<usize, SchemaError> {
-        let source = self.sources.documents.len().saturating_sub(1);
-        Ok(self.node_at(source, "", 0)?.unwrap_or(0))
-    }
-
-    /// Adds the error that a chain of schemas that apply to the same value is a cycle or too long.
-    fn refuse_chain(&mut self, chain: &Longest) -> Result<(), SchemaError> {
-        let Some(site) = self.site(chain.start)? else {
+    /// Adds the error that a chain of schemas that apply to the same value is a cycle or too long. The arguments are as
+    /// `longest_chain` returns them.
+    fn refuse_chain(&mut self, length: usize, start: usize) -> Result<(), SchemaError> {
+        let Some(site) = self.site(start)? else {
             return Ok(());
         };
-        let message = if chain.is_cycle {
+        let message = if length == usize::MAX {
             "this reference leads back to itself"
         } else {
             "more than 64 references and combinations, such as `allOf`, apply to the same value"
@@ -405,13 +360,8 @@ impl<'v, 'a> Compiler<'v, 'a> {
         message: &str,
         is_error: bool,
     ) -> Result<(), AllocError> {
-        let mut place = String::from_str(self.alloc, site.pointer.as_str())?;
-        for step in steps {
-            push_step(&mut place, *step)?;
-        }
-        let flaw = self
-            .sources
-            .flaw(self.alloc, site.source, place.as_str(), message)?;
+        let pointer = site.pointer.as_str();
+        let flaw = self.sources.flaw(site.source, pointer, steps, message)?;
         if is_error {
             push_flaw(&mut self.sources.errors, flaw)
         } else {
@@ -427,8 +377,10 @@ impl<'v, 'a> Compiler<'v, 'a> {
         outer: usize,
     ) -> Result<usize, SchemaError> {
         let all = self.bound_in(source, pointer, outer)?;
-        if let Some(found) = scope_among(self.scopes.as_slice(), all.as_slice()) {
-            return Ok(found);
+        for (i, other) in self.scopes.as_slice().iter().enumerate() {
+            if other.as_slice() == all.as_slice() {
+                return Ok(i);
+            }
         }
         let made = self.scopes.len();
         self.scopes.push(all)?;
@@ -481,50 +433,28 @@ impl<'v, 'a> Compiler<'v, 'a> {
         }
         let at = self.patterns.len();
         let text = expanded(self.alloc, pattern)?;
-        self.patterns.push(Regex::new(self.alloc, text.as_str())?)?;
+        let Ok(regex) = Regex::new(self.alloc, text.as_str()) else {
+            return Err(SchemaError::OutOfMemory);
+        };
+        self.patterns.push(regex)?;
         let _none = self.formats.insert(pattern, at)?;
         Ok(at)
     }
 
-    /// Returns the index of the compiled form of `value`, the subschema that is the value of a keyword in the schema
-    /// `site`. Fails like `node`.
+    /// Returns the index of the compiled form of `value`, the subschema that is the value of `keyword` in the schema
+    /// `site`, or that has the name or position `step` in this value. Fails like `node`.
     pub(crate) fn under(
         &mut self,
         site: &Site<'v, 'a>,
         keyword: &str,
+        step: Option<&str>,
         value: &'v Json<'a>,
     ) -> Result<usize, SchemaError> {
-        let pointer = with_step(self.alloc, site.pointer.as_str(), keyword)?;
+        let mut pointer = with_step(self.alloc, site.pointer.as_str(), keyword)?;
+        if let Some(step) = step {
+            push_step(&mut pointer, step)?;
+        }
         self.node(value, site.source, pointer.as_str(), site.scope, false)
-    }
-
-    /// Returns the index of the compiled form of `value`, the subschema with this name or position in the object or
-    /// array that is the value of a keyword in the schema `site`. Fails like `node`.
-    pub(crate) fn inside(
-        &mut self,
-        site: &Site<'v, 'a>,
-        keyword: &str,
-        name: &str,
-        value: &'v Json<'a>,
-    ) -> Result<usize, SchemaError> {
-        let outer = with_step(self.alloc, site.pointer.as_str(), keyword)?;
-        let pointer = with_step(self.alloc, outer.as_str(), name)?;
-        self.node(value, site.source, pointer.as_str(), site.scope, false)
-    }
-
-    /// Returns the index of the compiled form of the schema `site` without `unevaluatedItems` and
-    /// `unevaluatedProperties`. Fails like `node`.
-    pub(crate) fn without_unevaluated(
-        &mut self,
-        site: &Site<'v, 'a>,
-    ) -> Result<usize, SchemaError> {
-        self.node(
-            site.value,
-            site.source,
-            site.pointer.as_str(),
-            site.scope,
-            true,
-        )
     }
 
     /// Resolves a reference in the schema `site`, as `joined` does.
@@ -554,29 +484,16 @@ impl<'v, 'a> Compiler<'v, 'a> {
         if let Some(target) = self.target_in(address, fragment.as_str())? {
             return Ok(Some(target));
         }
-        self.refuse_missing(site, keyword, reference, url.as_str())?;
-        Ok(None)
-    }
-
-    /// Adds the error that `reference`, the value of `keyword` in the schema `site`, names `address`, which does not
-    /// exist.
-    fn refuse_missing(
-        &mut self,
-        site: &Site<'v, 'a>,
-        keyword: &str,
-        reference: &str,
-        address: &str,
-    ) -> Result<(), AllocError> {
-        let alloc = self.alloc;
-        let place = with_step(alloc, site.pointer.as_str(), keyword)?;
         let message = format!(in alloc; "there is no `{reference}`")?;
+        let pointer = site.pointer.as_str();
         let mut flaw = self
             .sources
-            .flaw(alloc, site.source, place.as_str(), message.as_str())?;
-        if self.sources.find(without_fragment(address)).is_none() {
-            flaw.missing.push_str(address)?;
+            .flaw(site.source, pointer, &[keyword], message.as_str())?;
+        if self.sources.find(address).is_none() {
+            flaw.missing.push_str(url.as_str())?;
         }
-        push_flaw(&mut self.sources.errors, flaw)
+        push_flaw(&mut self.sources.errors, flaw)?;
+        Ok(None)
     }
 
     /// Returns the place that `fragment`, a JSON pointer or the name of an anchor, names in the resource at `address`.
@@ -606,7 +523,10 @@ impl<'v, 'a> Compiler<'v, 'a> {
 
     /// Returns the place of the anchor at the position `at`, or `None` if `at` is `None` or too large.
     fn anchored(&self, at: Option<usize>) -> Result<Option<Target>, SchemaError> {
-        let Some(anchor) = at.and_then(|at| self.sources.anchors.get(at)) else {
+        let Some(position) = at else {
+            return Ok(None);
+        };
+        let Some(anchor) = self.sources.anchors.get(position) else {
             return Ok(None);
         };
         Ok(Some(Target {

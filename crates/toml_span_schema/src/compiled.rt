@@ -58,13 +58,6 @@ fn is_present(value: &Json<'_>, name: &str) -> bool
     value.get(name).is_some()
 }
 
-/// Returns whether a schema has `unevaluatedItems` or `unevaluatedProperties`.
-fn is_unevaluated(value: &Json<'_>) -> bool
-    ensures { result ≡ spec.is_unevaluated (value_view value.now) }
-{
-    is_present(value, "unevaluatedItems") || is_present(value, "unevaluatedProperties")
-}
-
 /// Returns `node` if `here` is true.
 fn only(here: bool, node: Option<usize>) -> Option<usize>
     ensures { result ≡ spec.only here node }
@@ -250,7 +243,9 @@ impl Schema {
                 if draft < 19 && matches!(value.get("$ref"), Some(Json::String(_))) {
                     return Ok(has(keywords, "$ref"));
                 }
-                if draft > 18 && is_unevaluated(value) {
+                let is_last = is_present(value, "unevaluatedItems")
+                    || is_present(value, "unevaluatedProperties");
+                if draft > 18 && is_last {
                     return self.is_around(draft, left, keywords, value);
                 }
                 self.keeps_all(draft, left, keywords, value)
@@ -343,28 +338,29 @@ impl Schema {
         ensures { IfOk result (λ r. r ≡ spec.keeps_members (below self.now draft left) draft keywords.now
             (value_view value.now)) }
     {
+        let (patterns, schemas) = (("patternProperties", true), ("dependentSchemas", true));
         Ok(
-            self.member_led(draft, left, "properties", keywords, value)?
-                && self.member_led(draft, left, "patternProperties", keywords, value)?
-                && (draft < 19
-                    || self.member_led(draft, left, "dependentSchemas", keywords, value)?),
+            self.is_led(
+                draft,
+                left,
+                ("properties", true),
+                keywords,
+                value.get("properties"),
+            )? && self.is_led(
+                draft,
+                left,
+                patterns,
+                keywords,
+                value.get("patternProperties"),
+            )? && (draft < 19
+                || self.is_led(
+                    draft,
+                    left,
+                    schemas,
+                    keywords,
+                    value.get("dependentSchemas"),
+                )?),
         )
-    }
-
-    /// Returns whether the subschemas in an object that the keyword `name` has are compiled.
-    #[cycle(compiled)]
-    fn member_led(
-        &self,
-        draft: u8,
-        left: usize,
-        name: &str,
-        keywords: &[Placed],
-        value: &Json<'_>,
-    ) -> Result<bool, AllocError>
-        ensures { IfOk result (λ r. r ≡ spec.is_led (below self.now draft left) name.now true keywords.now
-            (get name.now (value_view value.now))) }
-    {
-        self.is_led(draft, left, (name, true), keywords, value.get(name))
     }
 
     /// Returns whether the subschemas of `items`, `prefixItems` and `additionalItems` are compiled.
@@ -521,9 +517,10 @@ impl Schema {
 
 /// Fails with `Internal` if a schema lacks a keyword or a value of its JSON text, which is a bug. Fails with
 /// `OutOfMemory` if an allocation fails.
-pub(crate) fn ensure_compiled(alloc: Global, text: &str, schema: &Schema) -> Result<(), SchemaError>
+pub(crate) fn ensure_compiled(text: &str, schema: &Schema) -> Result<(), SchemaError>
     ensures { OnOk result (IsCompiled text.now schema.now) }
 {
+    let alloc = schema.alloc();
     let mut scratch = Scratch::new(alloc);
     let value = match Json::parse(alloc, text, &mut scratch) {
         Ok(value) => value,

@@ -26,7 +26,8 @@ impl Indices {
         self.is_refused |= self.list.extend_from_slice(nodes).is_err();
     }
 
-    /// Appends the indices of the subschemas that a keyword applies to the checked value itself, not to values inside it.
+    /// Appends the indices of the subschemas that a keyword applies to the checked value itself, not to values inside
+    /// it.
     fn push_in_place(&mut self, keyword: &Keyword) {
         match keyword {
             Keyword::AllOf(nodes) | Keyword::AnyOf(nodes) | Keyword::OneOf(nodes) => {
@@ -81,16 +82,6 @@ struct Chain {
     users: Vec<usize>,
 }
 
-/// Adds `user` to the users of each schema whose index is in `used`.
-fn push_users(chains: &mut Vec<Chain>, used: &[usize], user: usize) -> Result<(), AllocError> {
-    for at in used {
-        if let Some(chain) = chains.get_mut(*at) {
-            chain.users.push(user)?;
-        }
-    }
-    Ok(())
-}
-
 /// Returns a `Chain` for each of the compiled schemas `nodes`, before any longest chain is known.
 fn chains_of(alloc: Global, nodes: &[Node]) -> Result<Vec<Chain>, AllocError> {
     let mut chains = Vec::new(alloc);
@@ -103,7 +94,11 @@ fn chains_of(alloc: Global, nodes: &[Node]) -> Result<Vec<Chain>, AllocError> {
     }
     for (i, node) in nodes.iter().enumerate() {
         let used = in_place(alloc, node)?;
-        push_users(&mut chains, used.as_slice(), i)?;
+        for at in used.as_slice() {
+            if let Some(chain) = chains.get_mut(*at) {
+                chain.users.push(i)?;
+            }
+        }
         if let Some(chain) = chains.get_mut(i) {
             chain.open = used.len();
         }
@@ -136,18 +131,10 @@ fn settle(
     Ok(length)
 }
 
-/// The longest chain of compiled schemas.
-#[derive(Clone, Copy)]
-pub(crate) struct Longest {
-    /// The number of schemas in the chain minus 1, or the highest number if the chain is a cycle.
-    pub(crate) length: usize,
-    /// The index of the schema at which the chain begins.
-    pub(crate) start: usize,
-    pub(crate) is_cycle: bool,
-}
-
-/// Returns the longest chain of the schemas `nodes`, or a cycle if there is one.
-pub(crate) fn longest_chain(alloc: Global, nodes: &[Node]) -> Result<Longest, AllocError> {
+/// Returns the length of the longest chain of the schemas `nodes`, which is the number of schemas in it minus 1, and
+/// the index of the schema at which the chain begins. If there is a cycle, returns the highest number, and the index of
+/// a schema in a cycle.
+pub(crate) fn longest_chain(alloc: Global, nodes: &[Node]) -> Result<(usize, usize), AllocError> {
     let mut chains = chains_of(alloc, nodes)?;
     let mut known = Vec::new(alloc);
     for (i, chain) in chains.as_slice().iter().enumerate() {
@@ -155,36 +142,27 @@ pub(crate) fn longest_chain(alloc: Global, nodes: &[Node]) -> Result<Longest, Al
             known.push(i)?;
         }
     }
-    let mut longest = Longest {
-        length: 0,
-        start: 0,
-        is_cycle: false,
-    };
+    let mut longest = (0, 0);
     for at in 0..nodes.len() {
         let Some(start) = known.get(at).copied() else {
-            return Ok(cycle(chains.as_slice()));
+            return Ok((usize::MAX, start_of_cycle(chains.as_slice())));
         };
         let length = settle(alloc, &mut chains, &mut known, start)?;
         // (the first schema may only refer to the document of the others)
-        if length > longest.length {
-            longest.length = length;
-            longest.start = if start > 0 { start } else { longest.start };
+        if length > longest.0 {
+            longest = (length, if start > 0 { start } else { longest.1 });
         }
     }
     Ok(longest)
 }
 
-/// Returns a cycle from the last of the schemas whose longest chains are not known.
-fn cycle(chains: &[Chain]) -> Longest {
+/// Returns the index of the last of the schemas whose longest chains are not known.
+fn start_of_cycle(chains: &[Chain]) -> usize {
     let mut start = 0;
     for (at, chain) in chains.iter().enumerate() {
         if chain.open > 0 {
             start = at;
         }
     }
-    Longest {
-        length: usize::MAX,
-        start,
-        is_cycle: true,
-    }
+    start
 }

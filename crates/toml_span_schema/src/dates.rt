@@ -1,21 +1,8 @@
 //! Dates and times as RFC 3339 writes them.
 ghost use Rattle.std.specs.Prelude.{◌≡◌, ◌++◌, ◌==◌, [], IfOk, OnOk, codes, if◌then◌else◌, string_bytes};
-ghost use Rattle.toml_span_schema.specs.Dates.{date_piece, next_place, rfc3339, upper};
+ghost use Rattle.toml_span_schema.specs.Dates.{date_piece, next_place, rfc3339};
 
 use std::alloc::{AllocError, Global};
-
-/// Returns a character of a date or time as RFC 3339 writes it.
-fn upper(c: char) -> char
-    ensures { result ≡ upper c }
-{
-    if c == ' ' || c == 't' {
-        'T'
-    } else if c == 'z' {
-        'Z'
-    } else {
-        c
-    }
-}
 
 /// Returns the place after a character: 0 before the colon of a time, 1 and 2 in its minutes, 3 after them, and 4 from
 /// the next character on.
@@ -33,14 +20,19 @@ fn next_place(place: u8, c: char) -> u8
     }
 }
 
-/// Appends a character of a date or time at a place, with seconds before it if they are missing there.
+/// Appends a character of a date or time at a place as RFC 3339 writes it, with seconds before it if they are missing
+/// there.
 fn push_date(out: &mut String, place: u8, c: char) -> Result<(), AllocError>
     ensures { OnOk result (string_bytes out.new ≡ string_bytes out.old ++ date_piece place c) }
 {
     if place == 3 && c != ':' {
         out.push_str(":00")?;
     }
-    out.push(upper(c))
+    out.push(match c {
+        ' ' | 't' => 'T',
+        'z' => 'Z',
+        _ => c,
+    })
 }
 
 /// Appends seconds if a date or time ends at a place where they are missing.

@@ -1,10 +1,9 @@
 //! Exact decimal numbers.
 ghost use Rattle.std.specs.Prelude.{◌≡◌, ◌<◌, ◌≤◌, ◌+◌, ◌*◌, ◌%◌, ◌^◌, IfOk, Some, length, option_map};
-ghost use Rattle.std.specs.Fmt.{signed_decimal};
-ghost use Rattle.std.specs.Str.Parse.{AllDigits, digits_value};
-ghost use Rattle.toml_span_tree.specs.Value.{float_value, inner_of, view};
-ghost use Rattle.toml_span_schema.specs.Numbers.{compare, compare_alike, compare_quantity, compare_sizes};
-ghost use Rattle.toml_span_schema.specs.Numbers.{count_in, decimal_of, exponent, float_quantity};
+ghost use Rattle.std.specs.Str.Parse.{AllDigits};
+ghost use Rattle.toml_span_tree.specs.Value.{inner_of, view};
+ghost use Rattle.toml_span_schema.specs.Numbers.{compare, compare_quantity, compare_sizes};
+ghost use Rattle.toml_span_schema.specs.Numbers.{count_in, decimal_of, exponent};
 ghost use Rattle.toml_span_schema.specs.Numbers.{is_multiple, is_whole, leading_zeros, normal, plain, quantity};
 ghost use Rattle.toml_span_schema.specs.Numbers.{quantity_in, raised, sign, significant, unsigned_of, value_after};
 
@@ -134,20 +133,10 @@ impl Decimal {
     pub(crate) fn compare(&self, other: &Decimal) -> Ordering
         ensures { result ≡ compare (plain self.now) (plain other.now) }
     {
-        match self.sign().cmp(&other.sign()) {
-            Ordering::Equal => self.compare_equal_signs(other),
-            order => order,
-        }
-    }
-
-    /// Compares two numbers that are both negative, both zero or both positive.
-    fn compare_equal_signs(&self, other: &Decimal) -> Ordering
-        ensures { result ≡ compare_alike (plain self.now) (plain other.now) }
-    {
-        match self.sign() {
-            2 => self.compare_sizes(other),
-            0 => other.compare_sizes(self),
-            _ => Ordering::Equal,
+        match (self.sign().cmp(&other.sign()), self.sign()) {
+            (Ordering::Equal, 2) => self.compare_sizes(other),
+            (Ordering::Equal, 0) => other.compare_sizes(self),
+            (order, _) => order,
         }
     }
 
@@ -268,21 +257,14 @@ pub(crate) fn number_in(alloc: Global, value: &Value<'_>) -> Result<Option<Numbe
         let text = format!(in alloc; "{integer}")?;
         return Ok(Some(Number::Finite(Decimal::parse(alloc, text.as_str())?)));
     }
-    match value.as_float() {
-        Some(float) => Ok(Some(number_of(alloc, float)?)),
-        None => Ok(None),
-    }
-}
-
-/// Converts a float to a `Number`.
-fn number_of(alloc: Global, float: &FloatText) -> Result<Number, AllocError>
-    ensures { IfOk result (λ n. quantity n ≡ float_quantity (float_value float.now)) }
-{
-    match float {
-        FloatText::Finite(text) => Ok(Number::Finite(Decimal::parse(alloc, text.as_str())?)),
-        FloatText::Infinite { negative } => Ok(Number::Infinite(*negative)),
-        FloatText::NotANumber { negative: _ } => Ok(Number::NotANumber),
-    }
+    Ok(match value.as_float() {
+        Some(FloatText::Finite(text)) => {
+            Some(Number::Finite(Decimal::parse(alloc, text.as_str())?))
+        }
+        Some(FloatText::Infinite { negative }) => Some(Number::Infinite(*negative)),
+        Some(FloatText::NotANumber { negative: _ }) => Some(Number::NotANumber),
+        None => None,
+    })
 }
 
 impl Number {

@@ -2,7 +2,6 @@
 
 use std::alloc::{AllocError, AllocFailed, Global};
 use std::fmt::Write;
-use url::ParseError;
 
 /// What is wrong with a schema, or why a part of it is not checked.
 #[derive(Debug, Drop)]
@@ -43,11 +42,6 @@ pub enum SchemaError {
     Internal,
 }
 
-/// Returns a JSON pointer as messages show it: unchanged, except that the empty pointer becomes `the root`.
-fn shown(place: &str) -> &str {
-    if place.is_empty() { "the root" } else { place }
-}
-
 impl SchemaError {
     /// Returns the message, with a line for each flaw. Fails if an allocation fails.
     pub fn message(&self, alloc: Global) -> Result<String, AllocError> {
@@ -58,7 +52,8 @@ impl SchemaError {
                 let mut out = String::new(alloc);
                 for flaw in flaws.as_slice() {
                     let line = if out.is_empty() { "" } else { "\n" };
-                    let (place, message) = (shown(flaw.place.as_str()), flaw.message.as_str());
+                    let (place, message) = (flaw.place.as_str(), flaw.message.as_str());
+                    let place = if place.is_empty() { "the root" } else { place };
                     write!(&mut out, "{line}{place}: {message}")?;
                 }
                 Ok(out)
@@ -86,12 +81,6 @@ impl<T: Drop> From<AllocFailed<T>> for SchemaError {
     }
 }
 
-impl From<regex::Error> for SchemaError {
-    fn from(_refused: regex::Error) -> SchemaError {
-        SchemaError::OutOfMemory
-    }
-}
-
 impl From<CheckError> for SchemaError {
     fn from(refused: CheckError) -> SchemaError {
         match refused {
@@ -100,12 +89,6 @@ impl From<CheckError> for SchemaError {
                 limit: "a constant in it nests too deep",
             },
         }
-    }
-}
-
-impl From<ParseError> for SchemaError {
-    fn from(_refused: ParseError) -> SchemaError {
-        SchemaError::OutOfMemory
     }
 }
 

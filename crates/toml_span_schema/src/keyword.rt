@@ -118,7 +118,8 @@ pub(crate) struct Placed {
 #[derive(Drop)]
 pub(crate) struct Node {
     pub(crate) keywords: Vec<Placed>,
-    /// Where the schema is: a JSON pointer, after the name of the document and `#` unless it is the text of `from_json`.
+    /// Where the schema is: a JSON pointer, after the name of the document and `#` unless it is the text of
+    /// `from_json`.
     pub(crate) place: String,
     /// The schema's `title` or, if it has none, its `description`.
     pub(crate) title: Option<String>,

@@ -1,12 +1,11 @@
 //! The keywords of JSON Schema, with the values that they may have.
 
 use crate::numbers::Decimal;
-use crate::sources::Draft;
 use json::Value as Json;
 use std::alloc::{AllocError, Global};
 
 /// What the value of a keyword, or a part of such a value, must be.
-#[derive(Clone, Copy, PartialEq, Eq)]
+#[derive(Clone, Copy)]
 pub(crate) enum Want {
     Any,
     Text,
@@ -35,7 +34,7 @@ pub(crate) enum Want {
     Dependencies,
 }
 
-/// Keywords, with the first and the last draft that has them (see `number_of`), and what their values must be in these
+/// Keywords, with the first and the last draft that has them (see `Dialect`), and what their values must be in these
 /// drafts.
 const KEYWORDS: [(&str, u8, u8, Want); 42] = [
     ("additionalProperties not", 4, 20, Want::Schema),
@@ -98,23 +97,11 @@ pub(crate) const ASSERTING: &str =
     oneOf pattern patternProperties prefixItems properties propertyNames required then type unevaluatedItems \
     unevaluatedProperties uniqueItems";
 
-/// Returns the number of a draft or, for a draft that is named by its year, the end of the year.
-fn number_of(draft: Draft) -> u8 {
-    match draft {
-        Draft::Four => 4,
-        Draft::Six => 6,
-        Draft::Seven => 7,
-        Draft::Of2019 => 19,
-        Draft::Of2020 => 20,
-    }
-}
-
 /// Returns what the value of the keyword `name` must be, or `None` if a schema of this draft has no such keyword.
-pub(crate) fn want_of(name: &str, draft: Draft) -> Option<Want> {
-    let number = number_of(draft);
+pub(crate) fn want_of(name: &str, draft: u8) -> Option<Want> {
     for row in KEYWORDS.iter() {
         let (keywords, first, last, want) = *row;
-        if first <= number && number <= last && has_word(keywords, name) {
+        if first <= draft && draft <= last && has_word(keywords, name) {
             return Some(want);
         }
     }
@@ -122,7 +109,7 @@ pub(crate) fn want_of(name: &str, draft: Draft) -> Option<Want> {
 }
 
 /// Returns whether a word is among `words`, which spaces separate.
-fn has_word(words: &str, word: &str) -> bool {
+pub(crate) fn has_word(words: &str, word: &str) -> bool {
     for other in words.split(' ') {
         if other == word {
             return true;
@@ -167,18 +154,6 @@ pub(crate) fn part_of(want: Want) -> Option<Want> {
     }
 }
 
-/// Returns whether a number is a divisor or a count, as `want` says.
-fn number_fits(alloc: Global, want: Want, text: &str) -> Result<bool, AllocError> {
-    let number = Decimal::parse(alloc, text)?;
-    Ok(match want {
-        Want::Divisor => {
-            let size = number.size().unwrap_or(0);
-            !number.negative && size > 0 && size < 1_000_000_000_000_000_000
-        }
-        _ => !number.negative && number.is_whole(),
-    })
-}
-
 /// Returns whether a value is what `want` says, without looking at its elements or members.
 pub(crate) fn fits(alloc: Global, want: Want, value: &Json<'_>) -> Result<bool, AllocError> {
     Ok(match (want, value) {
@@ -192,7 +167,15 @@ pub(crate) fn fits(alloc: Global, want: Want, value: &Json<'_>) -> Result<bool, 
             Want::Object | Want::NamesByKey | Want::SchemasByKey | Want::Dependencies,
             Json::Object(_),
         ) => true,
-        (Want::Divisor | Want::Count, Json::Number(text)) => number_fits(alloc, want, *text)?,
+        (Want::Count, Json::Number(text)) => {
+            let number = Decimal::parse(alloc, *text)?;
+            !number.negative && number.is_whole()
+        }
+        (Want::Divisor, Json::Number(text)) => {
+            let number = Decimal::parse(alloc, *text)?;
+            let size = number.size().unwrap_or(0);
+            !number.negative && size > 0 && size < 1_000_000_000_000_000_000
+        }
         (Want::TypeName, Json::String(name)) => has_word(TYPES, *name),
         (Want::Schemas, Json::Array(items)) => !items.is_empty(),
         _ => false,

@@ -1,7 +1,7 @@
 //! The values directly inside a value.
-ghost use Rattle.std.specs.Prelude.{◌≡◌, ◌++◌, IfOk, OnOk, map, option_map};
+ghost use Rattle.std.specs.Prelude.{◌≡◌, ◌++◌, IfOk, OnOk, map};
 ghost use Rattle.toml_span_tree.specs.Value.{inner_of, items_view, members_view, view};
-ghost use Rattle.toml_span_schema.specs.Parts.{elements_from, entries_of, is_entry, kind_in, part_of};
+ghost use Rattle.toml_span_schema.specs.Parts.{elements_from, entries_of, kind_in, part_of};
 ghost use Rattle.toml_span_schema.specs.Parts.{parts_of, value_of};
 
 use std::alloc::{AllocError, Global};
@@ -30,18 +30,6 @@ impl<'v, 'de> Part<'v, 'de> {
         }
     }
 
-    /// Returns whether this is an entry of a table.
-    pub(crate) fn is_entry(&self) -> bool
-        ensures { result ≡ is_entry (part_of self.now) }
-    {
-        match self {
-            Part::Member(_, _) => true,
-            Part::Element(_, _) | Part::Whole(_) => false,
-        }
-    }
-}
-
-impl<'v, 'de> Part<'v, 'de> {
     /// Returns the span that marks the value in a report: that of its key if the value has a header, the start of
     /// a document, and otherwise the value's own.
     pub(crate) fn mark(&self) -> Span {

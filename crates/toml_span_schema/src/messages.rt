@@ -15,7 +15,7 @@ use toml_span_report::visible::push_quoted;
 use toml_span_tree::{FloatText, Value, ValueInner};
 
 /// The number of schemas that may be nested to say which types and constants they name, and to check a key.
-const MOST_NESTED: usize = 65;
+pub(crate) const MOST_NESTED: usize = 65;
 
 /// The maximum number of subschemas that are applied to say why a key is not allowed.
 const MOST_APPLIED: u64 = 10_000;
@@ -110,16 +110,6 @@ pub(crate) fn push_code(out: &mut Text, violation: &Violation<'_, '_, '_>) {
     }
 }
 
-/// Returns whether one of `words` is `word`.
-pub(crate) fn is_among(words: &[&str], word: &str) -> bool {
-    for other in words {
-        if *other == word {
-            return true;
-        }
-    }
-    false
-}
-
 /// Appends the article of a word.
 fn push_article(out: &mut Text, word: &str) {
     out.push(if word.starts_with("i") || word.starts_with("a") {
@@ -161,8 +151,8 @@ fn is_missing(table: Option<&Value<'_>>, name: &str) -> bool {
     }
 }
 
-/// Appends the names of keys, each in backticks, separated by commas and `and`. Leaves out the keys in `table`, if it is
-/// given.
+/// Appends the names of keys, each in backticks, separated by commas and `and`. Leaves out the keys in `table`, if it
+/// is given.
 fn push_keys(out: &mut Text, names: &[String], table: Option<&Value<'_>>) {
     let mut count = 0usize;
     for name in names {
@@ -192,9 +182,7 @@ fn push_types(out: &mut Text, types: &Types) {
     ];
     let mut count = 0usize;
     for named in all.iter() {
-        if named.0 {
-            count = count.saturating_add(1);
-        }
+        count = count.saturating_add(usize::from(named.0));
     }
     let mut at = 0usize;
     for (is_named, word) in all {
@@ -266,9 +254,7 @@ fn push_unlisted(out: &mut Text, listed: &Listed<'_>, value: &Value<'_>) {
     push_types(out, &listed.types);
     let mut strings = 0usize;
     for one in shown {
-        if one.starts_with("`\"") {
-            strings = strings.saturating_add(1);
-        }
+        strings = strings.saturating_add(usize::from(one.starts_with("`\"")));
     }
     let most = if value.as_str().is_some() {
         0
@@ -305,11 +291,12 @@ fn push_never(out: &mut Text, violation: &Violation<'_, '_, '_>) {
     }
 }
 
-/// Returns the message that a keyword with one value in the schema does not allow `value`. The value in the schema,
-/// `limit`, follows the message if the message ends with a space.
-fn opening(keyword: &Keyword, limit: &str, value: &Value<'_>) -> &'static str {
+/// Returns the message that a keyword with one value in the schema does not allow `value`, and what the keyword counts
+/// in a string, array or table, if it counts. The value in the schema, `limit`, follows the message if the message ends
+/// with a space.
+fn opening(keyword: &Keyword, limit: &str, value: &Value<'_>) -> (&'static str, &'static str) {
     let is_date = value.type_str() == "datetime";
-    match keyword {
+    let text = match keyword {
         Keyword::UniqueItems => "this element is a duplicate",
         Keyword::Never => "no value is allowed here",
         Keyword::Minimum(_) => "the number must be at least ",
@@ -326,24 +313,15 @@ fn opening(keyword: &Keyword, limit: &str, value: &Value<'_>) -> &'static str {
         }
         Keyword::Format(_, _, _) if is_date => "the date or time must have the format ",
         Keyword::Format(_, _, _) | Keyword::RegexFormat => "the string must have the format ",
-        Keyword::MinLength(_) | Keyword::MinItems(_) | Keyword::MinProperties(_) => {
-            "expected at least "
-        }
-        Keyword::MaxLength(_) | Keyword::MaxItems(_) | Keyword::MaxProperties(_) => {
-            "expected at most "
-        }
+        Keyword::MinLength(_) => return ("expected at least ", "character"),
+        Keyword::MaxLength(_) => return ("expected at most ", "character"),
+        Keyword::MinItems(_) => return ("expected at least ", "element"),
+        Keyword::MaxItems(_) => return ("expected at most ", "element"),
+        Keyword::MinProperties(_) => return ("expected at least ", "key"),
+        Keyword::MaxProperties(_) => return ("expected at most ", "key"),
         _ => "the value does not match the schema",
-    }
-}
-
-/// Returns what a keyword counts in a string, array or table, or an empty text for all other keywords.
-fn counted(keyword: &Keyword) -> &'static str {
-    match keyword {
-        Keyword::MinLength(_) | Keyword::MaxLength(_) => "character",
-        Keyword::MinItems(_) | Keyword::MaxItems(_) => "element",
-        Keyword::MinProperties(_) | Keyword::MaxProperties(_) => "key",
-        _ => "",
-    }
+    };
+    (text, "")
 }
 
 /// Returns whether one of the constants, as messages show them, is `text` between `front` and `back`.
@@ -409,12 +387,11 @@ impl Schema {
     /// Returns the types that a violation's keyword or alternatives name, and the constants.
     pub(crate) fn listed<'s>(
         &'s self,
-        alloc: Global,
         violation: &Violation<'s, '_, '_>,
     ) -> Result<Listed<'s>, AllocError> {
         let mut listed: Listed<'s> = Listed {
             types: Types::NONE,
-            constants: Vec::new(alloc),
+            constants: Vec::new(self.alloc()),
             is_refused: false,
         };
         match (&violation.at.placed.keyword, violation.cause) {
@@ -422,7 +399,7 @@ impl Schema {
             (Keyword::Enum(_, shown), _) => {
                 listed.push_all(shown.as_slice());
                 for other in violation.others.as_slice() {
-                    if !is_among(listed.constants.as_slice(), *other) {
+                    if !listed.constants.contains(other) {
                         listed.push(*other);
                     }
                 }
@@ -462,10 +439,9 @@ impl Schema {
                 }
             },
             (keyword, _) => {
-                let text = opening(keyword, limit, value);
+                let (text, thing) = opening(keyword, limit, value);
                 out.push(text);
                 out.push(if text.ends_with(" ") { limit } else { "" });
-                let thing = counted(keyword);
                 if !thing.is_empty() {
                     push_found(out, thing, limit == "1", size_of(value));
                 }
@@ -503,15 +479,10 @@ impl Schema {
 
     /// Returns the first keyword of the schema at index `node` that does not allow a value, or `None` if all allow it.
     /// Fails like `is_valid`.
-    fn refusing(
-        &self,
-        alloc: Global,
-        node: usize,
-        value: &Value<'_>,
-    ) -> Result<Option<&Placed>, CheckError> {
+    fn refusing(&self, node: usize, value: &Value<'_>) -> Result<Option<&Placed>, CheckError> {
         let mut left = MOST_APPLIED;
         for placed in self.keywords(node) {
-            if !self.allows(alloc, &mut left, MOST_NESTED, &placed.keyword, value)? {
+            if !self.allows(&mut left, MOST_NESTED, &placed.keyword, value)? {
                 return Ok(Some(placed));
             }
         }
@@ -521,7 +492,6 @@ impl Schema {
     /// Appends the message on a violation. Fails like `is_valid`.
     pub(crate) fn push_message(
         &self,
-        alloc: Global,
         out: &mut Text,
         violation: &Violation<'_, '_, '_>,
         listed: &Listed<'_>,
@@ -536,7 +506,7 @@ impl Schema {
         let name = key.name.as_ref();
         let value = Value::with_span(ValueInner::String(CowStr::Borrowed(name)), key.span);
         out.push_all("key `", name, "` is not allowed");
-        if let Some(placed) = self.refusing(alloc, *node, &value)? {
+        if let Some(placed) = self.refusing(*node, &value)? {
             out.push(": ");
             self.push_keyword(out, placed, Cause::Refused, &value);
         }
@@ -557,8 +527,8 @@ impl Schema {
         true
     }
 
-    /// Returns a value that the schema at index `node` may allow, as TOML: the first one that it lists, or an empty value
-    /// of its type. Returns an empty text if the schema has neither.
+    /// Returns a value that the schema at index `node` may allow, as TOML: the first one that it lists, or an empty
+    /// value of its type. Returns an empty text if the schema has neither.
     fn value_for(&self, node: usize) -> &str {
         let mut kinds = Kinds::NONE;
         for placed in self.keywords(node) {
@@ -618,11 +588,11 @@ impl Schema {
     /// around a number or boolean, or a table instead of an array of tables.
     pub(crate) fn push_help(
         &self,
-        alloc: Global,
         out: &mut Text,
         violation: &Violation<'_, '_, '_>,
         listed: &Listed<'_>,
     ) -> Result<(), AllocError> {
+        let alloc = self.alloc();
         if let Cause::Missing(name) = violation.cause {
             self.push_addition(out, violation.at.node, name);
         }

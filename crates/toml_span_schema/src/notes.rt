@@ -1,7 +1,7 @@
 //! Reads the notes for people in schemas.
 
 use crate::read::{DEPTH, to_toml};
-use crate::sources::{Draft, is_true, text_of};
+use crate::sources::{is_true, text_of};
 use json::Value as Json;
 use std::alloc::{AllocError, Global};
 use toml_span_tree::Value;
@@ -22,7 +22,11 @@ pub struct Notes {
 }
 
 /// Returns a copy of the string in the member `name`, or `None` if the member is missing or not a string.
-fn text_in(alloc: Global, value: &Json<'_>, name: &str) -> Result<Option<String>, AllocError> {
+pub(crate) fn text_in(
+    alloc: Global,
+    value: &Json<'_>,
+    name: &str,
+) -> Result<Option<String>, AllocError> {
     match text_of(value, name) {
         Some(text) => Ok(Some(String::from_str(alloc, text)?)),
         None => Ok(None),
@@ -42,11 +46,7 @@ fn push_value(
 }
 
 /// Returns the notes in a schema of the given draft.
-pub(crate) fn read_notes(
-    alloc: Global,
-    value: &Json<'_>,
-    draft: Draft,
-) -> Result<Notes, AllocError> {
+pub(crate) fn read_notes(alloc: Global, value: &Json<'_>, draft: u8) -> Result<Notes, AllocError> {
     let mut notes = Notes {
         title: text_in(alloc, value, "title")?,
         description: None,
@@ -63,7 +63,7 @@ pub(crate) fn read_notes(
             push_value(alloc, item, &mut notes.values)?;
         }
     }
-    if draft > Draft::Four {
+    if draft > 4 {
         if let Some(only) = value.get("const") {
             push_value(alloc, only, &mut notes.values)?;
         }

@@ -34,30 +34,12 @@ fn push_escape(out: &mut String, c: char) -> Result<(), AllocError>
     }
 }
 
-/// Appends the translation of the character after `\c`: the control character of a letter. `regex` rejects the rest.
-fn push_control(out: &mut String, c: char) -> Result<(), AllocError>
-    ensures { OnOk result (string_bytes out.new ≡ string_bytes out.old ++ control c) }
-{
-    if c.is_ascii_alphabetic() {
-        out.push(char::from((u32::from(c) % 32) as u8))
-    } else {
-        out.push_str("(?!)")
-    }
-}
-
 /// Appends a backslash and a character.
 fn push_escaped(out: &mut String, c: char) -> Result<(), AllocError>
     ensures { OnOk result (string_bytes out.new ≡ string_bytes out.old ++ (92 ∷ [] ++ encode_utf8 c)) }
 {
     out.push('\\')?;
     out.push(c)
-}
-
-/// Returns whether a character must be escaped inside brackets.
-fn is_special(c: char) -> bool
-    ensures { result ≡ (c == 91 || c == 38 || c == 126) }
-{
-    c == '[' || c == '&' || c == '~'
 }
 
 /// Appends the translation of a character that is not escaped. Appends nothing for a backslash, which escapes the next
@@ -67,7 +49,7 @@ fn push_plain(out: &mut String, in_class: bool, c: char) -> Result<(), AllocErro
 {
     if c == '\\' {
         Ok(())
-    } else if in_class && is_special(c) {
+    } else if in_class && (c == '[' || c == '&' || c == '~') {
         push_escaped(out, c)
     } else if !in_class && c == '.' {
         out.push_str("[^\\n\\r\\x{2028}\\x{2029}]")
@@ -77,7 +59,7 @@ fn push_plain(out: &mut String, in_class: bool, c: char) -> Result<(), AllocErro
 }
 
 /// Appends the translation of a character. `state` is 0, 1 after a backslash, and 2 after `\c`. `in_class` says whether
-/// the character is inside brackets.
+/// the character is inside brackets. After `\c`, a letter becomes its control character. `regex` rejects the rest.
 fn push_character(out: &mut String, state: u8, in_class: bool, c: char) -> Result<(), AllocError>
     ensures { OnOk result (string_bytes out.new ≡ string_bytes out.old ++ character state in_class c) }
 {
@@ -85,8 +67,10 @@ fn push_character(out: &mut String, state: u8, in_class: bool, c: char) -> Resul
         push_plain(out, in_class, c)
     } else if state == 1 {
         push_escape(out, c)
+    } else if c.is_ascii_alphabetic() {
+        out.push(char::from((u32::from(c) % 32) as u8))
     } else {
-        push_control(out, c)
+        out.push_str("(?!)")
     }
 }
 

@@ -8,9 +8,10 @@ use crate::error::SchemaError;
 use crate::formats::format_of;
 use crate::keyword::{Keyword, Node, Placed, Types};
 use crate::keywords::{Want, want_of};
+use crate::notes::text_in;
 use crate::numbers::Decimal;
 use crate::patterns::{compile_pattern, unsupported};
-use crate::sources::{Draft, is_true, text_of};
+use crate::sources::{is_true, text_of};
 use json::Value as Json;
 use regex::Error;
 use std::alloc::{AllocError, Global};
@@ -26,27 +27,9 @@ use toml_span_tree::{FloatText, Value, ValueInner};
 pub(crate) const DEPTH: usize = 130;
 
 /// The keywords without subschemas, except references, in the order in which they are checked.
-const ASSERTIONS: [&str; 19] = [
-    "type",
-    "enum",
-    "const",
-    "minimum",
-    "exclusiveMinimum",
-    "maximum",
-    "exclusiveMaximum",
-    "multipleOf",
-    "minLength",
-    "maxLength",
-    "minItems",
-    "maxItems",
-    "minProperties",
-    "maxProperties",
-    "uniqueItems",
-    "pattern",
-    "required",
-    "dependentRequired",
-    "format",
-];
+const ASSERTIONS: &str =
+    "type enum const minimum exclusiveMinimum maximum exclusiveMaximum multipleOf minLength maxLength minItems \
+    maxItems minProperties maxProperties uniqueItems pattern required dependentRequired format";
 
 impl<'v, 'a> Site<'v, 'a> {
     /// Appends a keyword with its name and, for messages, the value of `source` in the schema.
@@ -70,57 +53,46 @@ impl<'v, 'a> Site<'v, 'a> {
     }
 }
 
-/// Returns a value as messages show it, or an empty text for an array or object: a string in quotes if `quotes` is set,
-/// and everything except numbers in backticks.
-fn shown(alloc: Global, value: &Json<'_>, quotes: bool) -> Result<String, AllocError> {
-    let mut out = String::new(alloc);
+/// Returns a value as messages show it. Of other values than constants, only numbers, strings and booleans are shown,
+/// numbers and strings without quotes.
+fn shown(alloc: Global, value: &Json<'_>, is_constant: bool) -> Result<String, AllocError> {
     match value {
-        Json::Number(text) => out.push_str(*text)?,
-        Json::String(text) if quotes => {
-            out.push('`')?;
+        Json::Number(text) if !is_constant => String::from_str(alloc, *text),
+        Json::Number(text) => format!(in alloc; "`{text}`"),
+        Json::Bool(truth) => format!(in alloc; "`{truth}`"),
+        Json::String(text) if !is_constant => format!(in alloc; "`{text}`"),
+        Json::String(text) => {
+            let mut out = String::from_str(alloc, "`")?;
             push_quoted(alloc, &mut out, *text)?;
             out.push('`')?;
+            Ok(out)
         }
-        Json::String(text) => return format!(in alloc; "`{text}`"),
-        Json::Bool(truth) => return format!(in alloc; "`{truth}`"),
-        Json::Null | Json::Array(_) | Json::Object(_) => {}
-    }
-    Ok(out)
-}
-
-/// Returns the keyword that requires a value to be valid against the subschema at index `schema`.
-fn all_of(alloc: Global, schema: usize) -> Result<Keyword, AllocError> {
-    let mut list = Vec::new(alloc);
-    list.push(schema)?;
-    Ok(Keyword::AllOf(list))
-}
-
-/// Adds the type called `name` to `types`. Adds nothing for `null` and unknown names.
-fn add_type(types: &mut Types, name: &str, draft: Draft) {
-    match name {
-        "boolean" => types.boolean = true,
-        "object" => types.object = true,
-        "array" => types.array = true,
-        "string" => types.string = true,
-        "number" => types.number = true,
-        "integer" => {
-            types.integer = true;
-            types.whole = draft > Draft::Four;
-        }
-        _ => {}
+        Json::Array(_) if is_constant => String::from_str(alloc, "a specific array"),
+        Json::Object(_) if is_constant => String::from_str(alloc, "a specific table"),
+        Json::Null | Json::Array(_) | Json::Object(_) => Ok(String::new(alloc)),
     }
 }
 
 /// Returns the types that `value`, the value of `type`, names. Leaves out what is not the name of a type.
-fn types_in(value: &Json<'_>, draft: Draft) -> Types {
+fn types_in(value: &Json<'_>, draft: u8) -> Types {
+    let names = match value {
+        Json::Array(names) => names.as_slice(),
+        _ => slice::from_ref(value),
+    };
     let mut types = Types::NONE;
-    match value {
-        Json::Array(names) => {
-            for name in names.as_slice() {
-                add_type(&mut types, name.as_str().unwrap_or(""), draft);
+    for name in names {
+        match name.as_str().unwrap_or("") {
+            "boolean" => types.boolean = true,
+            "object" => types.object = true,
+            "array" => types.array = true,
+            "string" => types.string = true,
+            "number" => types.number = true,
+            "integer" => {
+                types.integer = true;
+                types.whole = draft > 4;
             }
+            _ => {}
         }
-        _ => add_type(&mut types, value.as_str().unwrap_or(""), draft),
     }
     types
 }
@@ -133,23 +105,14 @@ fn constants(alloc: Global, list: &[Json<'_>]) -> Result<Keyword, SchemaError> {
     for value in list {
         if let Some(constant) = to_toml(alloc, value, DEPTH)? {
             let _new = values.insert(canonical(alloc, &constant)?)?;
-            words.push(shown_constant(alloc, value)?)?;
+            words.push(shown(alloc, value, true)?)?;
         }
     }
     Ok(Keyword::Enum(values, words))
 }
 
-/// Returns a constant as messages show it.
-fn shown_constant(alloc: Global, value: &Json<'_>) -> Result<String, AllocError> {
-    match value {
-        Json::Number(text) => format!(in alloc; "`{text}`"),
-        Json::Array(_) => String::from_str(alloc, "a specific array"),
-        Json::Object(_) => String::from_str(alloc, "a specific table"),
-        _ => shown(alloc, value, true),
-    }
-}
-
-/// Converts a JSON value to a TOML value. Returns `None` if the value is or contains `null`, or nests `depth` or more
+/// Converts a JSON value to a TOML value. A number becomes an integer if it is written as a 64-bit signed integer,
+/// otherwise a float. Returns `None` if the value is or contains `null`, or nests `depth` or more
 /// levels deep.
 #[cycle(to_toml)]
 pub(crate) fn to_toml(
@@ -163,7 +126,10 @@ pub(crate) fn to_toml(
     let inner = match value {
         Json::Null => return Ok(None),
         Json::Bool(truth) => ValueInner::Boolean(*truth),
-        Json::Number(text) => number(alloc, *text)?,
+        Json::Number(text) => match fast_float::parse_i64(text.as_bytes()) {
+            Ok(integer) => ValueInner::Integer(integer),
+            Err(_) => ValueInner::Float(FloatText::Finite(String::from_str(alloc, *text)?)),
+        },
         Json::String(text) => { ValueInner::String(CowStr::Owned(String::from_str(alloc, *text)?)) }
         Json::Array(items) => match elements(alloc, items.as_slice(), depth - 1)? {
             Some(array) => ValueInner::Array(array),
@@ -175,14 +141,6 @@ pub(crate) fn to_toml(
         },
     };
     Ok(Some(Value::new(inner)))
-}
-
-/// Converts a JSON number to a TOML integer if the number is written as a 64-bit signed integer, otherwise to a float.
-fn number(alloc: Global, text: &str) -> Result<ValueInner<'static>, AllocError> {
-    match fast_float::parse_i64(text.as_bytes()) {
-        Ok(integer) => Ok(ValueInner::Integer(integer)),
-        Err(_) => Ok(ValueInner::Float(FloatText::Finite(String::from_str(alloc, text)?))),
-    }
 }
 
 /// Converts the elements of a JSON array to TOML values. Returns `None` if an element is or contains `null`, or nests
@@ -271,28 +229,6 @@ fn names_by_key(
     Ok(list)
 }
 
-/// Returns the keyword that combines the subschemas `nodes` and has this name.
-fn combination(name: &str, nodes: Vec<usize>) -> Keyword {
-    match name {
-        "allOf" => Keyword::AllOf(nodes),
-        "anyOf" => Keyword::AnyOf(nodes),
-        _ => Keyword::OneOf(nodes),
-    }
-}
-
-/// Returns a map from names to the indices of their schemas. If a name occurs twice, its last schema counts.
-fn by_name(
-    alloc: Global,
-    members: Vec<(String, usize)>,
-) -> Result<BTreeMap<String, usize>, AllocError> {
-    let mut map = BTreeMap::new(alloc);
-    for member in members {
-        let (name, node) = member;
-        let _earlier = map.insert(name, node)?;
-    }
-    Ok(map)
-}
-
 impl<'v, 'a> Compiler<'v, 'a> {
     /// Compiles the schema `site`, and adds an error if the schema is neither an object nor a boolean. Fails like
     /// `read_object`.
@@ -305,16 +241,12 @@ impl<'v, 'a> Compiler<'v, 'a> {
             other => {
                 let place = site.pointer.as_str();
                 self.sources
-                    .refuse_value(alloc, site.source, place, Want::Schema, other)?;
+                    .refuse_value(site.source, place, Want::Schema, other)?;
             }
         }
-        let title = match text_of(site.value, "title") {
+        let title = match text_in(alloc, site.value, "title")? {
             Some(title) => Some(title),
-            None => text_of(site.value, "description"),
-        };
-        let title = match title {
-            Some(title) => Some(String::from_str(alloc, title)?),
-            None => None,
+            None => text_in(alloc, site.value, "description")?,
         };
         Ok(Node {
             place: self.place_of(&site)?,
@@ -330,18 +262,18 @@ impl<'v, 'a> Compiler<'v, 'a> {
     fn read_object(&mut self, site: &mut Site<'v, 'a>) -> Result<(), SchemaError> {
         let draft = site.dialect.draft;
         self.read_reference(site, "$ref")?;
-        if text_of(site.value, "$ref").is_some() && draft <= Draft::Seven {
+        if text_of(site.value, "$ref").is_some() && draft <= 7 {
             return Ok(());
         }
         let items = site.value.get("unevaluatedItems").is_some();
         let properties = site.value.get("unevaluatedProperties").is_some();
-        if draft >= Draft::Of2019 && !site.without_unevaluated && (items || properties) {
+        if draft >= 19 && !site.without_unevaluated && (items || properties) {
             site.keywords.clear();
             return self.read_unevaluated(site);
         }
         match draft {
-            Draft::Of2020 => self.read_reference(site, "$dynamicRef")?,
-            Draft::Of2019 => self.read_reference(site, "$recursiveRef")?,
+            20 => self.read_reference(site, "$dynamicRef")?,
+            19 => self.read_reference(site, "$recursiveRef")?,
             _ => {}
         }
         if site.dialect.validates {
@@ -357,8 +289,13 @@ impl<'v, 'a> Compiler<'v, 'a> {
     /// Reads `unevaluatedItems` and `unevaluatedProperties`. The other keywords of the schema become a compiled schema
     /// of their own, which is added as if it were the only one in `allOf`. Fails like `Compiler::node`.
     fn read_unevaluated(&mut self, site: &mut Site<'v, 'a>) -> Result<(), SchemaError> {
-        let others = self.without_unevaluated(site)?;
-        site.put("allOf", "allOf", all_of(self.alloc, others)?)?;
+        let pointer = site.pointer.as_str();
+        let others = self.node(site.value, site.source, pointer, site.scope, true)?;
+        site.put(
+            "allOf",
+            "allOf",
+            Keyword::AllOf(vec![in self.alloc; others]?),
+        )?;
         for name in ["unevaluatedItems", "unevaluatedProperties"] {
             if let Some(schema) = self.one(site, name)? {
                 let keyword = if name == "unevaluatedItems" {
@@ -380,7 +317,7 @@ impl<'v, 'a> Compiler<'v, 'a> {
     ) -> Result<(), SchemaError> {
         if let Some(text) = text_of(site.value, name) {
             if let Some(target) = self.reference(site, name, text)? {
-                site.put(name, name, all_of(self.alloc, target)?)?;
+                site.put(name, name, Keyword::AllOf(vec![in self.alloc; target]?))?;
             }
         }
         Ok(())
@@ -389,8 +326,8 @@ impl<'v, 'a> Compiler<'v, 'a> {
     /// Reads the keywords without subschemas, except references. In draft 4, `exclusiveMinimum` and `exclusiveMaximum`
     /// say whether the limits in `minimum` and `maximum` are excluded.
     fn read_assertions(&mut self, site: &mut Site<'v, 'a>) -> Result<(), SchemaError> {
-        let is_old = site.dialect.draft == Draft::Four;
-        for name in ASSERTIONS {
+        let is_old = site.dialect.draft == 4;
+        for name in ASSERTIONS.split(' ') {
             let Some(value) = site.value.get(name) else {
                 continue;
             };
@@ -525,7 +462,7 @@ impl<'v, 'a> Compiler<'v, 'a> {
         let mut nodes = Vec::new(self.alloc);
         for (at, value) in items.as_slice().iter().enumerate() {
             let at_text = format!(in self.alloc; "{at}")?;
-            nodes.push(self.inside(site, name, at_text.as_str(), value)?)?;
+            nodes.push(self.under(site, name, Some(at_text.as_str()), value)?)?;
         }
         Ok(Some(nodes))
     }
@@ -538,7 +475,7 @@ impl<'v, 'a> Compiler<'v, 'a> {
         name: &'static str,
     ) -> Result<Option<usize>, SchemaError> {
         match site.value.get(name) {
-            Some(value) => Ok(Some(self.under(site, name, value)?)),
+            Some(value) => Ok(Some(self.under(site, name, None, value)?)),
             None => Ok(None),
         }
     }
@@ -547,13 +484,18 @@ impl<'v, 'a> Compiler<'v, 'a> {
     fn read_combined(&mut self, site: &mut Site<'v, 'a>) -> Result<(), SchemaError> {
         for name in ["allOf", "anyOf", "oneOf"] {
             if let Some(nodes) = self.list(site, name)? {
-                site.put(name, name, combination(name, nodes))?;
+                let keyword = match name {
+                    "allOf" => Keyword::AllOf(nodes),
+                    "anyOf" => Keyword::AnyOf(nodes),
+                    _ => Keyword::OneOf(nodes),
+                };
+                site.put(name, name, keyword)?;
             }
         }
         if let Some(node) = self.one(site, "not")? {
             site.put("not", "not", Keyword::Not(node))?;
         }
-        if site.dialect.draft < Draft::Seven {
+        if site.dialect.draft < 7 {
             return Ok(());
         }
         if let Some(condition) = self.one(site, "if")? {
@@ -569,7 +511,7 @@ impl<'v, 'a> Compiler<'v, 'a> {
     /// `list`.
     fn read_items(&mut self, site: &mut Site<'v, 'a>) -> Result<(), SchemaError> {
         let is_list = matches!(site.value.get("items"), Some(Json::Array(_)));
-        let (prefix, rest) = if site.dialect.draft >= Draft::Of2020 {
+        let (prefix, rest) = if site.dialect.draft >= 20 {
             ("prefixItems", "items")
         } else if is_list {
             ("items", "additionalItems")
@@ -590,52 +532,36 @@ impl<'v, 'a> Compiler<'v, 'a> {
     /// `Compiler::node`.
     fn read_contains(&mut self, site: &mut Site<'v, 'a>) -> Result<(), SchemaError> {
         let draft = site.dialect.draft;
-        if draft == Draft::Four {
+        if draft == 4 {
             return Ok(());
         }
         if let Some(schema) = self.one(site, "contains")? {
-            let counts = draft >= Draft::Of2019 && site.dialect.validates;
+            let counts = draft >= 19 && site.dialect.validates;
             let (mut least, mut most) = (1, u64::MAX);
             if counts {
                 least = count_or(least, site.value.get("minContains"));
                 most = count_or(most, site.value.get("maxContains"));
             }
-            let keyword = Keyword::Contains(schema, least, most, draft >= Draft::Of2020);
+            let keyword = Keyword::Contains(schema, least, most, draft >= 20);
             site.put("contains", "contains", keyword)?;
         }
         Ok(())
     }
 
-    /// Returns the names in the object `name` of the schema `site`, each with the index of the compiled form of its
-    /// schema. The list is empty if the member `name` is missing or not an object. Fails like `Compiler::node`.
-    fn members(
-        &mut self,
-        site: &Site<'v, 'a>,
-        name: &'static str,
-    ) -> Result<Vec<(String, usize)>, SchemaError> {
-        let alloc = self.alloc;
-        let mut list = Vec::new(alloc);
-        if let Some(Json::Object(members)) = site.value.get(name) {
-            for member in members.as_slice() {
-                let node = self.inside(site, name, member.0, &member.1)?;
-                list.push((String::from_str(alloc, member.0)?, node))?;
-            }
-        }
-        Ok(list)
-    }
-
     /// Returns the regular expressions in `patternProperties`, each with the index of its schema. A pattern that is not
-    /// supported matches all keys, with the schema `true`. Fails like `members` and `add_pattern`.
+    /// supported matches all keys, with the schema `true`, which is the last document. Fails like `Compiler::node` and
+    /// `add_pattern`.
     fn patterns(&mut self, site: &Site<'v, 'a>) -> Result<Vec<(usize, usize)>, SchemaError> {
         let mut matching = Vec::new(self.alloc);
         if let Some(Json::Object(members)) = site.value.get("patternProperties") {
             for member in members.as_slice() {
-                let mut node = self.inside(site, "patternProperties", member.0, &member.1)?;
                 let steps = &["patternProperties", member.0];
+                let mut node = self.under(site, "patternProperties", Some(member.0), &member.1)?;
                 let pattern = match self.add_pattern(site, steps, member.0)? {
                     Some(pattern) => pattern,
                     None => {
-                        node = self.anything()?;
+                        let last = self.sources.documents.len().saturating_sub(1);
+                        node = self.node_at(last, "", 0)?.unwrap_or(0);
                         self.format("")?
                     }
                 };
@@ -645,10 +571,16 @@ impl<'v, 'a> Compiler<'v, 'a> {
         Ok(matching)
     }
 
-    /// Reads `properties`, `patternProperties`, `additionalProperties` and, from draft 6 on, `propertyNames`. Fails like
-    /// `members` and `patterns`.
+    /// Reads `properties`, `patternProperties`, `additionalProperties` and, from draft 6 on, `propertyNames`. If a name
+    /// occurs twice in `properties`, its last schema counts. Fails like `patterns`.
     fn read_properties(&mut self, site: &mut Site<'v, 'a>) -> Result<(), SchemaError> {
-        let named = self.members(site, "properties")?;
+        let mut named = BTreeMap::new(self.alloc);
+        if let Some(Json::Object(members)) = site.value.get("properties") {
+            for member in members.as_slice() {
+                let node = self.under(site, "properties", Some(member.0), &member.1)?;
+                let _earlier = named.insert(String::from_str(self.alloc, member.0)?, node)?;
+            }
+        }
         let matching = self.patterns(site)?;
         let rest = self.one(site, "additionalProperties")?;
         if !named.is_empty() || !matching.is_empty() || rest.is_some() {
@@ -657,58 +589,48 @@ impl<'v, 'a> Compiler<'v, 'a> {
             } else {
                 "properties"
             };
-            let named = by_name(self.alloc, named)?;
             site.put(name, name, Keyword::Properties(named, matching, rest))?;
         }
-        if site.dialect.draft > Draft::Four {
-            if let Some(node) = self.one(site, "propertyNames")? {
-                site.put(
-                    "propertyNames",
-                    "propertyNames",
-                    Keyword::PropertyNames(node),
-                )?;
+        if site.dialect.draft > 4 {
+            let name = "propertyNames";
+            if let Some(node) = self.one(site, name)? {
+                site.put(name, name, Keyword::PropertyNames(node))?;
             }
         }
         Ok(())
     }
 
-    /// Reads `dependentSchemas`, or `dependencies` before draft 2019-09. Fails like `members`.
+    /// Reads `dependentSchemas`, or `dependencies` before draft 2019-09. A member of `dependencies` that is an array of
+    /// strings names required keys; any other member is a subschema. Ignores a value that is not an object. Fails like
+    /// `Compiler::node`.
     fn read_dependencies(&mut self, site: &mut Site<'v, 'a>) -> Result<(), SchemaError> {
-        if site.dialect.draft < Draft::Of2019 {
-            return self.read_old_dependencies(site);
-        }
-        let schemas = self.members(site, "dependentSchemas")?;
-        if !schemas.is_empty() {
-            let keyword = Keyword::DependentSchemas(schemas);
-            site.put("dependentSchemas", "dependentSchemas", keyword)?;
-        }
-        Ok(())
-    }
-
-    /// Reads `dependencies`. A member that is an array of strings names required keys; any other member is a subschema.
-    /// Ignores a `dependencies` that is not an object. Fails like `Compiler::node`.
-    fn read_old_dependencies(&mut self, site: &mut Site<'v, 'a>) -> Result<(), SchemaError> {
         let alloc = self.alloc;
-        let Some(Json::Object(members)) = site.value.get("dependencies") else {
+        let is_old = site.dialect.draft < 19;
+        let name = if is_old {
+            "dependencies"
+        } else {
+            "dependentSchemas"
+        };
+        let Some(Json::Object(members)) = site.value.get(name) else {
             return Ok(());
         };
         let mut names = Vec::new(alloc);
         let mut schemas = Vec::new(alloc);
         for member in members.as_slice() {
             let key = String::from_str(alloc, member.0)?;
-            if let Json::Array(_) = &member.1 {
+            if is_old && matches!(&member.1, Json::Array(_)) {
                 names.push((key, texts(alloc, &member.1)?))?;
             } else {
-                let node = self.inside(site, "dependencies", member.0, &member.1)?;
+                let node = self.under(site, name, Some(member.0), &member.1)?;
                 schemas.push((key, node))?;
             }
         }
-        if site.dialect.validates {
-            let keyword = Keyword::DependentRequired(names);
-            site.put("dependencies", "dependencies", keyword)?;
+        if is_old && site.dialect.validates {
+            site.put(name, name, Keyword::DependentRequired(names))?;
         }
-        let keyword = Keyword::DependentSchemas(schemas);
-        site.put("dependencies", "dependencies", keyword)?;
+        if is_old || !schemas.is_empty() {
+            site.put(name, name, Keyword::DependentSchemas(schemas))?;
+        }
         Ok(())
     }
 }

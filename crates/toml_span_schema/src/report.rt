@@ -8,7 +8,7 @@ use crate::canonical::canonical;
 use crate::error::CheckError;
 use crate::keyword::{Keyword, Node};
 use crate::listed::Part;
-use crate::messages::{Listed, Text, is_among, push_code};
+use crate::messages::{Listed, Text, push_code};
 use crate::schema::Schema;
 use crate::valid::MOST_STEPS;
 use crate::walk::{Cause, MOST, Violation, is_plain};
@@ -35,18 +35,10 @@ impl Schema {
         ensures errors { IfOk result (λ reports. All IsError reports.items) }
     {
         let mut left = MOST_STEPS;
-        if self.is_valid(alloc, &mut left, self.depth, 0, value)? {
+        if self.is_valid(&mut left, self.depth, 0, value)? {
             return Ok(Vec::new(alloc));
         }
-        self.reports(alloc, value)
-    }
-
-    /// Returns the reports on a value that is not valid, at least one. Fails like `check`.
-    fn reports(&self, alloc: Global, value: &Value<'_>) -> Result<Vec<Report>, CheckError>
-        ensures some { IfOk result (λ reports. 0 < length reports.items) }
-        ensures errors { IfOk result (λ reports. All IsError reports.items) }
-    {
-        let mut reports = self.violations(alloc, value)?;
+        let mut reports = self.violations(value)?;
         if !reports.is_empty() {
             return Ok(reports);
         }
@@ -55,40 +47,39 @@ impl Schema {
         Ok(reports)
     }
 
-    /// Returns a report for each violation that no other one implies, each once. `others` are all violations. Fails like
-    /// `check`.
+    /// Returns a report for each violation that no other one implies, each once. `others` are all violations. Fails
+    /// like `check`.
     fn distinct<'s, 'v, 'de>(
         &'s self,
-        alloc: Global,
         found: &[Violation<'s, 'v, 'de>],
         others: &[Violation<'s, 'v, 'de>],
     ) -> Result<Vec<Report>, CheckError>
         ensures { IfOk result (λ reports. All IsError reports.items) }
     {
-        let mut reports: Vec<Report> = Vec::new(alloc);
+        let mut reports: Vec<Report> = Vec::new(self.alloc());
         for violation in found {
-            if self.is_implied(alloc, violation, others)? {
+            if self.is_implied(violation, others)? {
                 continue;
             }
-            let report = self.report(alloc, violation)?;
+            let report = self.report(violation)?;
             push_new(&mut reports, report)?;
         }
         Ok(reports)
     }
 
     /// Returns a report for each violation, in the order of the text. Fails like `check`.
-    fn violations(&self, alloc: Global, value: &Value<'_>) -> Result<Vec<Report>, CheckError>
+    fn violations(&self, value: &Value<'_>) -> Result<Vec<Report>, CheckError>
         ensures { IfOk result (λ reports. All IsError reports.items) }
     {
         let mut left = MOST_STEPS;
-        let found = self.walked(alloc, &mut left, 0, value)?.violations;
+        let found = self.walked(&mut left, 0, value)?.violations;
         let all = found.as_slice();
-        let reports = self.distinct(alloc, all.get(..MOST - 1).unwrap_or(all), all)?;
+        let reports = self.distinct(all.get(..MOST - 1).unwrap_or(all), all)?;
         let mut reports = in_order(reports)?;
         if all.len() < MOST {
             return Ok(reports);
         }
-        let last = Report::error(alloc, "too-many-errors", "too many errors")?;
+        let last = Report::error(self.alloc(), "too-many-errors", "too many errors")?;
         push_error(&mut reports, last)?;
         Ok(reports)
     }
@@ -104,9 +95,13 @@ impl Schema {
             return Ok(reports);
         }
         let mut left = MOST_STEPS;
-        for (node, part) in self.walked(alloc, &mut left, 0, value)?.deprecated {
+        for (node, part) in self.walked(&mut left, 0, value)?.deprecated {
             let report = Report::warning(alloc, "schema-deprecated", "this is deprecated")?;
-            let report = report.primary(key_span(part), "")?;
+            let span = match part {
+                Part::Member(key, _) => key.span,
+                Part::Element(_, value) | Part::Whole(value) => value.span,
+            };
+            let report = report.primary(span, "")?;
             reports.push(self.with_title(report, node)?)?;
         }
         Ok(in_order(reports)?)
@@ -126,7 +121,6 @@ impl Schema {
     /// that is near to it. `violation` is the one for the missing key.
     fn is_misspelled<'s>(
         &'s self,
-        alloc: Global,
         name: &str,
         violation: &Violation<'s, '_, '_>,
         others: &[Violation<'s, '_, '_>],
@@ -137,7 +131,7 @@ impl Schema {
         for other in others {
             if let (Cause::Never, Part::Member(key, _)) = (other.cause, other.part) {
                 let is_here = other.level == violation.level && has_key_at(table, key.span);
-                if is_here && self.meant(alloc, other)? == Some(name) {
+                if is_here && self.meant(other)? == Some(name) {
                     return Ok(true);
                 }
             }
@@ -145,31 +139,10 @@ impl Schema {
         Ok(false)
     }
 
-    /// Returns whether the schema at index `node`, which `unevaluatedProperties` is in, knows a key but does not allow
-    /// its table, so that `others` has violations of other keywords.
-    fn is_consequence(
-        &self,
-        alloc: Global,
-        node: usize,
-        key: &str,
-        others: &[Violation<'_, '_, '_>],
-    ) -> Result<bool, AllocError> {
-        for other in others {
-            if !matches!(
-                &other.at.placed.keyword,
-                Keyword::UnevaluatedProperties(_, _)
-            ) {
-                let known = self.known_keys(alloc, &[node])?;
-                return Ok(is_among(known.as_slice(), key));
-            }
-        }
-        Ok(false)
-    }
-
-    /// Returns whether a violation needs no report, since another one in `others` has one that says more.
+    /// Returns whether a violation needs no report, since another one in `others` has one that says more. A key that
+    /// the schema of `unevaluatedProperties` knows is only unevaluated since other keywords do not allow its table.
     fn is_implied<'s>(
         &'s self,
-        alloc: Global,
         violation: &Violation<'s, '_, '_>,
         others: &[Violation<'s, '_, '_>],
     ) -> Result<bool, AllocError> {
@@ -178,9 +151,17 @@ impl Schema {
             &violation.at.placed.keyword,
             violation.part,
         ) {
-            (Cause::Missing(name), _, _) => self.is_misspelled(alloc, name, violation, others),
+            (Cause::Missing(name), _, _) => self.is_misspelled(name, violation, others),
             (_, Keyword::UnevaluatedProperties(node, _), Part::Member(key, _)) => {
-                self.is_consequence(alloc, *node, key.name.as_ref(), others)
+                for other in others {
+                    if !matches!(
+                        &other.at.placed.keyword,
+                        Keyword::UnevaluatedProperties(_, _)
+                    ) {
+                        return Ok(self.known_keys(&[*node])?.contains(&key.name.as_ref()));
+                    }
+                }
+                Ok(false)
             }
             _ => Ok(false),
         }
@@ -189,33 +170,33 @@ impl Schema {
     /// Returns the report on a violation.
     fn report<'s, 'v, 'de>(
         &'s self,
-        alloc: Global,
         violation: &Violation<'s, 'v, 'de>,
     ) -> Result<Report, CheckError>
         ensures { IfOk result IsError }
     {
-        let listed = self.listed(alloc, violation)?;
-        let span = self.span_of(alloc, violation)?;
-        let report = self.headline(alloc, violation, &listed)?.primary(span, "")?;
+        let alloc = self.alloc();
+        let listed = self.listed(violation)?;
+        let span = self.span_of(violation)?;
+        let report = self.headline(violation, &listed)?.primary(span, "")?;
         let report = with_equal(alloc, report, violation)?;
-        let report = with_meant(alloc, report, self.meant(alloc, violation)?, span)?;
-        let report = self.with_help(alloc, report, violation, &listed)?;
-        Ok(self.with_place(alloc, report, violation)?)
+        let report = with_meant(alloc, report, self.meant(violation)?, span)?;
+        let report = self.with_help(report, violation, &listed)?;
+        Ok(self.with_place(report, violation)?)
     }
 
     /// Returns a report with the code and the message of a violation.
     fn headline(
         &self,
-        alloc: Global,
         violation: &Violation<'_, '_, '_>,
         listed: &Listed<'_>,
     ) -> Result<Report, CheckError>
         ensures { IfOk result IsError }
     {
+        let alloc = self.alloc();
         let mut code = Text::new(alloc);
         push_code(&mut code, violation);
         let mut message = Text::new(alloc);
-        self.push_message(alloc, &mut message, violation, listed)?;
+        self.push_message(&mut message, violation, listed)?;
         let code = code.finish()?;
         let message = message.finish()?;
         Ok(Report::error(alloc, code.as_str(), message.as_str())?)
@@ -223,11 +204,7 @@ impl Schema {
 
     /// Returns the span that the report on a violation marks: a key that is not allowed, the key of a table that lacks
     /// a key, or otherwise the value.
-    fn span_of<'s>(
-        &'s self,
-        alloc: Global,
-        violation: &Violation<'s, '_, '_>,
-    ) -> Result<Span, CheckError> {
+    fn span_of<'s>(&'s self, violation: &Violation<'s, '_, '_>) -> Result<Span, CheckError> {
         let part = violation.part;
         let name = match (violation.cause, &violation.at.placed.keyword, part) {
             (Cause::Missing(_) | Cause::Never | Cause::Name, _, Part::Member(key, _)) => {
@@ -239,7 +216,7 @@ impl Schema {
                 [] => None,
             },
             (_, Keyword::UniqueItems, _) => {
-                if let Some(pair) = equal_elements(alloc, part.value())? {
+                if let Some(pair) = equal_elements(self.alloc(), part.value())? {
                     return Ok(pair.1);
                 }
                 None
@@ -271,7 +248,6 @@ impl Schema {
     /// of the keys that the schema knows or the strings that it lists.
     pub(crate) fn meant<'s>(
         &'s self,
-        alloc: Global,
         violation: &Violation<'s, '_, '_>,
     ) -> Result<Option<&'s str>, AllocError> {
         let word = match (violation.cause, violation.part) {
@@ -284,27 +260,24 @@ impl Schema {
         };
         let known = match (&violation.at.placed.keyword, violation.cause) {
             (Keyword::Properties(named, _, _), Cause::Never) if named.get(word).is_none() => {
-                self.known_keys(alloc, &[violation.at.node])?
+                self.known_keys(&[violation.at.node])?
             }
             (Keyword::UnevaluatedProperties(others, _), Cause::Never) => {
-                self.known_keys(alloc, &[*others])?
+                self.known_keys(&[*others])?
             }
-            (Keyword::Enum(_, _), _) | (_, Cause::Unlisted(_)) => {
-                self.words_listed(alloc, violation)?
-            }
+            (Keyword::Enum(_, _), _) | (_, Cause::Unlisted(_)) => { self.words_listed(violation)? }
             _ => return Ok(None),
         };
-        same_or_nearest(alloc, word, known.as_slice())
+        same_or_nearest(self.alloc(), word, known.as_slice())
     }
 
     /// Returns the strings without escapes among the constants that a violation's keyword or alternatives list.
     fn words_listed<'s>(
         &'s self,
-        alloc: Global,
         violation: &Violation<'s, '_, '_>,
     ) -> Result<Vec<&'s str>, AllocError> {
-        let mut words = Vec::new(alloc);
-        for constant in self.listed(alloc, violation)?.constants {
+        let mut words = Vec::new(self.alloc());
+        for constant in self.listed(violation)?.constants {
             if let Some(word) = word_in(constant) {
                 words.push(word)?;
             }
@@ -315,15 +288,14 @@ impl Schema {
     /// Adds a line of help, if there is any.
     fn with_help(
         &self,
-        alloc: Global,
         report: Report,
         violation: &Violation<'_, '_, '_>,
         listed: &Listed<'_>,
     ) -> Result<Report, AllocError>
         ensures { IfOk result (λ made. made.severity ≡ report.severity) }
     {
-        let mut text = Text::new(alloc);
-        self.push_help(alloc, &mut text, violation, listed)?;
+        let mut text = Text::new(self.alloc());
+        self.push_help(&mut text, violation, listed)?;
         let help = text.finish()?;
         if help.is_empty() {
             Ok(report)
@@ -335,7 +307,6 @@ impl Schema {
     /// Adds the notes that name the place of a violation's keyword and the title of its schema, if it has one.
     fn with_place(
         &self,
-        alloc: Global,
         report: Report,
         violation: &Violation<'_, '_, '_>,
     ) -> Result<Report, AllocError>
@@ -351,7 +322,7 @@ impl Schema {
         } else {
             " in the schema"
         };
-        let note = format!(in alloc; "required by `{place}/{name}`{whose}")?;
+        let note = format!(in self.alloc(); "required by `{place}/{name}`{whose}")?;
         self.with_title(report.note(note.as_str())?, violation.at.node)
     }
 
@@ -449,9 +420,8 @@ fn start_of(report: &Report) -> usize {
 /// Returns whether one of `reports` says the same of the same place as `report`.
 fn is_reported(reports: &[Report], report: &Report) -> bool {
     for other in reports {
-        if start_of(other) == start_of(report)
-            && other.message.as_str() == report.message.as_str()
-        {
+        let is_here = start_of(other) == start_of(report);
+        if is_here && other.message.as_str() == report.message.as_str() {
             return true;
         }
     }
@@ -466,14 +436,6 @@ fn has_key_at(table: &Table<'_>, span: Span) -> bool {
         }
     }
     false
-}
-
-/// Returns the span of the key of an entry, or otherwise that of the value.
-fn key_span(part: Part<'_, '_>) -> Span {
-    match part {
-        Part::Member(key, _) => key.span,
-        Part::Element(_, value) | Part::Whole(value) => value.span,
-    }
 }
 
 /// Returns the spans of the first element that is equal to an earlier one, after the span of the earlier one, or `None`
@@ -499,7 +461,7 @@ fn same_or_nearest<'s>(
     word: &str,
     known: &[&'s str],
 ) -> Result<Option<&'s str>, AllocError> {
-    if is_among(known, word) {
+    if (&*known).contains(&word) {
         return Ok(None);
     }
     for name in known {

@@ -1,6 +1,5 @@
 //! A compiled schema.
 
-use crate::compile::compile;
 use crate::documents::Document;
 use crate::error::SchemaError;
 use crate::guide::Guide;
@@ -36,11 +35,7 @@ impl Schema {
     ) -> Result<Schema, SchemaError>
         ensures { IfOk result (λ schema. IsCompiled text.now schema) }
     {
-        let root = Document {
-            address: "file:///schema.json",
-            text,
-        };
-        let Guide { schema, .. } = compile(alloc, root, others, false)?;
+        let Guide { schema, .. } = Guide::from_json(alloc, text, others)?;
         Ok(schema)
     }
 
@@ -49,6 +44,11 @@ impl Schema {
         ensures { self.new ≡ record self.old { formats = on } }
     {
         self.formats = on;
+    }
+
+    /// Returns the allocator of the schema.
+    pub(crate) fn alloc(&self) -> Global {
+        *self.nodes.allocator()
     }
 
     /// Returns the keywords of the schema at index `node`, or an empty slice if `node` is out of range.

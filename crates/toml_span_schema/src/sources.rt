@@ -6,10 +6,10 @@ ghost use Rattle.toml_span_schema.specs.Agrees.{is_true};
 
 use crate::error::{Flaw, SchemaError};
 use crate::keywords::{
-    ASSERTING, FORMATS, TYPES, Want, chosen, expected_text, fits, found_text, is_keyword, part_of,
-    want_of,
+    ASSERTING, FORMATS, TYPES, Want, chosen, expected_text, fits, found_text, has_word, is_keyword,
+    part_of, want_of,
 };
-use crate::pointers::{pointed, with_step};
+use crate::pointers::{pointed, push_step, with_step};
 use json::Value as Json;
 use percent_encoding::{DecodeError, percent_decode};
 use std::alloc::{AllocError, Global};
@@ -20,25 +20,36 @@ use url::{ParseError, Url};
 /// Compiling fails if a document has this many schemas, or if this many schemas must be compiled.
 pub(crate) const MOST_SCHEMAS: usize = 1_000_000;
 
+/// The limit that a schema with too many schemas exceeds.
+pub(crate) const TOO_MANY: &str = "it has more than 1,000,000 schemas";
+
 /// The maximum number of errors, of warnings, and of different unknown words that are compared with known ones.
 const MOST_FLAWS: usize = 100;
 
-/// A version of JSON Schema.
-#[derive(Clone, Copy, PartialEq, Eq, PartialOrd, Ord)]
-pub(crate) enum Draft {
-    Four,
-    Six,
-    Seven,
-    Of2019,
-    Of2020,
-}
+/// The keywords that define anchors, and whether these are dynamic.
+const ANCHORS: [(&str, bool); 5] = [
+    ("id", false),
+    ("$id", false),
+    ("$anchor", false),
+    ("$dynamicAnchor", true),
+    ("$recursiveAnchor", true),
+];
 
 /// The rules by which the keywords of a schema are read.
 #[derive(Clone, Copy)]
 pub(crate) struct Dialect {
-    pub(crate) draft: Draft,
+    /// The number of the draft or, for a draft that is named by its year, the end of the year: 4, 6, 7, 19 or 20.
+    pub(crate) draft: u8,
     /// Whether the keywords of the validation vocabulary are used.
     pub(crate) validates: bool,
+}
+
+impl Dialect {
+    /// The dialect of a schema that names none.
+    pub(crate) const LATEST: Dialect = Dialect {
+        draft: 20,
+        validates: true,
+    };
 }
 
 /// A parsed JSON document with its address.
@@ -78,6 +89,7 @@ impl Anchor {
 /// The documents with their resources and anchors, and what is wrong with them.
 #[derive(Drop)]
 pub(crate) struct Sources<'v, 'a> {
+    alloc: Global,
     pub(crate) documents: Vec<Source<'v, 'a>>,
     pub(crate) resources: Vec<Resource>,
     pub(crate) anchors: Vec<Anchor>,
@@ -91,11 +103,12 @@ pub(crate) struct Sources<'v, 'a> {
     unknown: BTreeSet<String>,
 }
 
-/// A value that fits `want`, its JSON pointer, and the position of the resource around it.
+/// A value that fits `want`, its place, and the position of the resource around it.
 #[derive(Drop)]
 struct Visit<'v, 'a> {
     want: Want,
     value: &'v Json<'a>,
+    source: usize,
     pointer: String,
     resource: usize,
     /// Whether schemas in the value may have addresses and anchors.
@@ -110,20 +123,15 @@ fn without_scheme(address: &str) -> &str {
 }
 
 /// Returns the draft that `address`, the value of `$schema`, names, or `None` if the draft is unknown.
-fn draft_of(address: &str) -> Option<Draft> {
+fn draft_of(address: &str) -> Option<u8> {
     match without_scheme(address) {
-        "json-schema.org/draft-04/schema" => Some(Draft::Four),
-        "json-schema.org/draft-06/schema" => Some(Draft::Six),
-        "json-schema.org/draft-07/schema" => Some(Draft::Seven),
-        "json-schema.org/draft/2019-09/schema" => Some(Draft::Of2019),
-        "json-schema.org/draft/2020-12/schema" => Some(Draft::Of2020),
+        "json-schema.org/draft-04/schema" => Some(4),
+        "json-schema.org/draft-06/schema" => Some(6),
+        "json-schema.org/draft-07/schema" => Some(7),
+        "json-schema.org/draft/2019-09/schema" => Some(19),
+        "json-schema.org/draft/2020-12/schema" => Some(20),
         _ => None,
     }
-}
-
-/// Returns whether an address is that of a metaschema of any draft.
-pub(crate) fn is_metaschema(address: &str) -> bool {
-    without_scheme(address).starts_with("json-schema.org/")
 }
 
 /// Resolves a reference against the address `base`. Returns `None` if `base` or the result is not a URL.
@@ -162,7 +170,7 @@ pub(crate) fn decoded(alloc: Global, fragment: &str) -> Result<String, AllocErro
 
 /// Returns the string in the member `name`, or `None` if the member is missing or not a string.
 pub(crate) fn text_of<'v, 'a>(value: &'v Json<'a>, name: &str) -> Option<&'a str> {
-    value.get(name).and_then(|member| member.as_str())
+    value.get(name)?.as_str()
 }
 
 /// Adds a flaw, unless there is one at the same place or there are too many.
@@ -179,13 +187,6 @@ pub(crate) fn push_flaw(flaws: &mut Vec<Flaw>, flaw: Flaw) -> Result<(), AllocEr
     Ok(())
 }
 
-/// Returns the error that there are too many schemas.
-pub(crate) fn too_many() -> SchemaError {
-    SchemaError::TooLarge {
-        limit: "it has more than 1,000,000 schemas",
-    }
-}
-
 impl<'v, 'a> Sources<'v, 'a> {
     /// Finds the resources and anchors of the documents, and what is wrong with their keywords. Fails with `TooLarge`
     /// if there are too many schemas.
@@ -194,6 +195,7 @@ impl<'v, 'a> Sources<'v, 'a> {
         documents: Vec<Source<'v, 'a>>,
     ) -> Result<Sources<'v, 'a>, SchemaError> {
         let mut made = Sources {
+            alloc,
             documents,
             resources: Vec::new(alloc),
             anchors: Vec::new(alloc),
@@ -204,29 +206,36 @@ impl<'v, 'a> Sources<'v, 'a> {
             unknown: BTreeSet::new(alloc),
         };
         for source in 0..made.documents.len() {
-            made.read_document(alloc, source)?;
+            made.read_document(source)?;
         }
         Ok(made)
     }
 
-    /// Returns a flaw at the JSON pointer `place` of the document `source`.
+    /// Returns a flaw of the value to which `steps` lead from the JSON pointer `pointer` of the document `source`.
     pub(crate) fn flaw(
         &self,
-        alloc: Global,
         source: usize,
-        place: &str,
+        pointer: &str,
+        steps: &[&str],
         message: &str,
     ) -> Result<Flaw, AllocError> {
-        let document = self
-            .documents
-            .get(source)
-            .map_or("", |document| document.address.as_str());
-        let resource = self.resources.get(self.resource_at(source, place));
-        let base = resource.map_or("", |resource| resource.address.as_str());
+        let alloc = self.alloc;
+        let mut place = String::from_str(alloc, pointer)?;
+        for step in steps {
+            push_step(&mut place, *step)?;
+        }
+        let document = match self.documents.get(source) {
+            Some(document) => document.address.as_str(),
+            None => "",
+        };
+        let base = match self.resources.get(self.resource_at(source, place.as_str())) {
+            Some(resource) => resource.address.as_str(),
+            None => "",
+        };
         Ok(Flaw {
             document: String::from_str(alloc, document)?,
             base: String::from_str(alloc, base)?,
-            place: String::from_str(alloc, place)?,
+            place,
             message: String::from_str(alloc, message)?,
             help: String::new(alloc),
             missing: String::new(alloc),
@@ -237,7 +246,6 @@ impl<'v, 'a> Sources<'v, 'a> {
     /// neither a known draft nor one of the documents, adds an error, and returns `other`.
     fn dialect(
         &mut self,
-        alloc: Global,
         source: usize,
         pointer: &str,
         value: &'v Json<'a>,
@@ -257,16 +265,17 @@ impl<'v, 'a> Sources<'v, 'a> {
                 return Ok(own_dialect(document.value, other));
             }
         }
-        let place = with_step(alloc, pointer, "$schema")?;
-        let message = if is_metaschema(address) {
+        let alloc = self.alloc;
+        let is_metaschema = without_scheme(address).starts_with("json-schema.org/");
+        let message = if is_metaschema {
             format!(in alloc;
                 "`{address}` is not supported, only drafts 4, 6, 7, 2019-09 and 2020-12"
             )?
         } else {
             format!(in alloc; "there is no `{address}`")?
         };
-        let mut flaw = self.flaw(alloc, source, place.as_str(), message.as_str())?;
-        if !is_metaschema(address) {
+        let mut flaw = self.flaw(source, pointer, &["$schema"], message.as_str())?;
+        if !is_metaschema {
             flaw.missing.push_str(address)?;
         }
         push_flaw(&mut self.errors, flaw)?;
@@ -275,41 +284,28 @@ impl<'v, 'a> Sources<'v, 'a> {
 
     /// Adds the resources and anchors of the document at the position `source`, and what is wrong with its keywords.
     /// Fails like `new`.
-    fn read_document(&mut self, alloc: Global, source: usize) -> Result<(), SchemaError> {
+    fn read_document(&mut self, source: usize) -> Result<(), SchemaError> {
         let Some(document) = self.documents.get(source) else {
             return Ok(());
         };
         let value = document.value;
-        let address = String::from_str(alloc, document.address.as_str())?;
-        let first = Dialect {
-            draft: Draft::Of2020,
-            validates: true,
-        };
-        let dialect = self.dialect(alloc, source, "", value, first)?;
+        let address = String::from_str(self.alloc, document.address.as_str())?;
+        let dialect = self.dialect(source, "", value, Dialect::LATEST)?;
         let resource = self.resources.len();
+        let pointer = String::new(self.alloc);
         self.resources.push(Resource {
             source,
-            pointer: String::new(alloc),
+            pointer,
             address,
             dialect,
         })?;
-        self.walk(
-            alloc,
-            Visit {
-                want: Want::Schema,
-                value,
-                pointer: String::new(alloc),
-                resource,
-                has_names: true,
-            },
-        )
+        self.walk(value, source, "", resource, true)
     }
 
     /// Checks the keywords of a schema that no keyword contains, and of its subschemas. Does nothing if a keyword
     /// contains the schema, which is at the JSON pointer `pointer` of the document `source`. Fails like `new`.
     pub(crate) fn read_hidden(
         &mut self,
-        alloc: Global,
         source: usize,
         pointer: &str,
         value: &'v Json<'a>,
@@ -328,76 +324,76 @@ impl<'v, 'a> Sources<'v, 'a> {
         if matches!(want, Some(Want::Schema | Want::Items | Want::Dependency)) {
             return Ok(());
         }
-        self.walk(
-            alloc,
-            Visit {
-                want: Want::Schema,
-                value,
-                pointer: String::from_str(alloc, pointer)?,
-                resource,
-                has_names: false,
-            },
-        )
-    }
-
-    /// Returns the position in `documents` of the document with a resource.
-    fn source_of(&self, resource: usize) -> usize {
-        self.resources
-            .get(resource)
-            .map_or(0, |resource| resource.source)
+        self.walk(value, source, pointer, resource, false)
     }
 
     /// Returns the draft of a resource.
-    fn draft_in(&self, resource: usize) -> Draft {
-        self.resources
-            .get(resource)
-            .map_or(Draft::Of2020, |resource| resource.dialect.draft)
+    fn draft_in(&self, resource: usize) -> u8 {
+        match self.resources.get(resource) {
+            Some(resource) => resource.dialect.draft,
+            None => 20,
+        }
     }
 
-    /// Visits a value and the values inside it, as `visit` does. Fails like `new`.
-    fn walk(&mut self, alloc: Global, first: Visit<'v, 'a>) -> Result<(), SchemaError> {
-        let mut visits = Vec::new(alloc);
-        visits.push(first)?;
+    /// Visits a schema and the values inside it, as `visit` does. The parameters are as in `Visit`. Fails like `new`.
+    fn walk(
+        &mut self,
+        value: &'v Json<'a>,
+        source: usize,
+        pointer: &str,
+        resource: usize,
+        has_names: bool,
+    ) -> Result<(), SchemaError> {
+        let mut visits = Vec::new(self.alloc);
+        visits.push(Visit {
+            want: Want::Schema,
+            value,
+            source,
+            pointer: String::from_str(self.alloc, pointer)?,
+            resource,
+            has_names,
+        })?;
         for _step in 0..MOST_SCHEMAS {
             let Some(visit) = visits.pop() else {
                 return Ok(());
             };
-            self.visit(alloc, visit, &mut visits)?;
+            self.visit(visit, &mut visits)?;
         }
-        Err(too_many())
+        Err(SchemaError::TooLarge { limit: TOO_MANY })
     }
 
     /// Adds the resource and the anchors that a schema defines, and what is wrong with the elements or members of a
     /// value. Adds those elements and members to `visits` that have parts themselves. Fails like `new`.
     fn visit(
         &mut self,
-        alloc: Global,
         mut visit: Visit<'v, 'a>,
         visits: &mut Vec<Visit<'v, 'a>>,
     ) -> Result<(), SchemaError> {
-        let value = visit.value;
+        let (alloc, value) = (self.alloc, visit.value);
         match value {
             Json::Object(members) => {
-                let is_schema = visit.want == Want::Schema;
+                let is_schema = matches!(visit.want, Want::Schema);
                 if is_schema && visit.has_names {
-                    self.note_schema(alloc, &visit)?;
-                    visit.resource = self.read_address(alloc, &visit)?;
-                    self.read_anchors(alloc, &visit)?;
+                    let (source, pointer) = (visit.source, visit.pointer.as_str());
+                    let key = format!(in alloc; "{source} {pointer}")?;
+                    let _other = self.schemas.insert(key, value)?;
+                    visit.resource = self.read_address(&visit)?;
+                    self.read_anchors(&visit)?;
                 }
                 for member in members.as_slice() {
                     let want = if is_schema {
-                        self.want_in(alloc, &visit, member.0, &member.1)?
+                        self.want_in(&visit, member.0, &member.1)?
                     } else {
                         part_of(visit.want)
                     };
-                    self.push_visit(alloc, &visit, member.0, want, &member.1, visits)?;
+                    self.push_visit(&visit, member.0, want, &member.1, visits)?;
                 }
             }
             Json::Array(items) => {
                 for (i, item) in items.as_slice().iter().enumerate() {
                     let step = format!(in alloc; "{i}")?;
                     let want = part_of(visit.want);
-                    self.push_visit(alloc, &visit, step.as_str(), want, item, visits)?;
+                    self.push_visit(&visit, step.as_str(), want, item, visits)?;
                 }
             }
             _ => {}
@@ -405,19 +401,10 @@ impl<'v, 'a> Sources<'v, 'a> {
         Ok(())
     }
 
-    /// Adds a schema to `schemas`.
-    fn note_schema(&mut self, alloc: Global, visit: &Visit<'v, 'a>) -> Result<(), AllocError> {
-        let (source, pointer) = (self.source_of(visit.resource), visit.pointer.as_str());
-        let key = format!(in alloc; "{source} {pointer}")?;
-        let _other = self.schemas.insert(key, visit.value)?;
-        Ok(())
-    }
-
     /// Adds an error if a value is not what `want` says. Otherwise adds the value to `visits` if it has parts. `step`
     /// is its name or position in `outer`. Does nothing if `want` is `None`.
     fn push_visit(
         &mut self,
-        alloc: Global,
         outer: &Visit<'v, 'a>,
         step: &str,
         want: Option<Want>,
@@ -428,37 +415,37 @@ impl<'v, 'a> Sources<'v, 'a> {
             return Ok(());
         };
         let want = chosen(want, value);
-        let is_right = fits(alloc, want, value)?;
-        if is_right && want != Want::Schema && part_of(want).is_none() {
+        let is_right = fits(self.alloc, want, value)?;
+        if is_right && !matches!(want, Want::Schema) && part_of(want).is_none() {
             return Ok(());
         }
-        let pointer = with_step(alloc, outer.pointer.as_str(), step)?;
+        let pointer = with_step(self.alloc, outer.pointer.as_str(), step)?;
         if is_right {
             visits.push(Visit {
                 want,
                 value,
+                source: outer.source,
                 pointer,
                 resource: outer.resource,
                 has_names: outer.has_names,
             })?;
             return Ok(());
         }
-        let source = self.source_of(outer.resource);
-        self.refuse_value(alloc, source, pointer.as_str(), want, value)
+        self.refuse_value(outer.source, pointer.as_str(), want, value)
     }
 
     /// Adds the error that a value at a place is not what `want` says.
     pub(crate) fn refuse_value(
         &mut self,
-        alloc: Global,
         source: usize,
         pointer: &str,
         want: Want,
         value: &Json<'_>,
     ) -> Result<(), SchemaError> {
+        let alloc = self.alloc;
         let (expected, found) = (expected_text(want), found_text(alloc, value)?);
         let message = format!(in alloc; "expected {expected}, found {found}")?;
-        let mut flaw = self.flaw(alloc, source, pointer, message.as_str())?;
+        let mut flaw = self.flaw(source, pointer, &[], message.as_str())?;
         if let (Want::TypeName, Some(word)) = (want, value.as_str()) {
             flaw.help = meant_help(alloc, word, TYPES)?.unwrap_or(String::new(alloc));
         }
@@ -470,28 +457,28 @@ impl<'v, 'a> Sources<'v, 'a> {
     /// Adds a warning if the keyword, or the format that `value` names, is unknown and near to a known one.
     fn want_in(
         &mut self,
-        alloc: Global,
         visit: &Visit<'v, 'a>,
         name: &str,
         value: &Json<'_>,
     ) -> Result<Option<Want>, AllocError> {
         if name == "format" {
             if let Some(format) = value.as_str() {
-                self.warn_unknown(alloc, visit, name, ("format", format), FORMATS)?;
+                self.warn_unknown(visit, name, ("format", format), FORMATS)?;
             }
         } else if !is_keyword(name) {
-            self.warn_unknown(alloc, visit, name, ("keyword", name), ASSERTING)?;
+            self.warn_unknown(visit, name, ("keyword", name), ASSERTING)?;
         }
-        let draft = self.draft_in(visit.resource);
+        let (alloc, draft) = (self.alloc, self.draft_in(visit.resource));
         let want = want_of(name, draft);
-        let is_old = name == "dependencies" && draft >= Draft::Of2019;
+        let is_old = name == "dependencies" && draft >= 19;
         let is_unused = (want.is_none() || is_old) && is_keyword(name);
-        let is_asserting = ASSERTING.split(' ').any(|other| other == name);
-        if is_unused && is_asserting && self.unknown.insert(String::from_str(alloc, name)?)? {
-            let place = with_step(alloc, visit.pointer.as_str(), name)?;
+        if is_unused
+            && has_word(ASSERTING, name)
+            && self.unknown.insert(String::from_str(alloc, name)?)?
+        {
             let message = format!(in alloc; "not checked: this draft has no keyword `{name}`")?;
-            let source = self.source_of(visit.resource);
-            let flaw = self.flaw(alloc, source, place.as_str(), message.as_str())?;
+            let pointer = visit.pointer.as_str();
+            let flaw = self.flaw(visit.source, pointer, &[name], message.as_str())?;
             push_flaw(&mut self.warnings, flaw)?;
         }
         Ok(want)
@@ -501,24 +488,22 @@ impl<'v, 'a> Sources<'v, 'a> {
     /// them, and has not been seen yet. `name` is the keyword in the schema of `visit`.
     fn warn_unknown(
         &mut self,
-        alloc: Global,
         visit: &Visit<'v, 'a>,
         name: &str,
         word: (&str, &str),
         known: &'static str,
     ) -> Result<(), AllocError> {
-        let (kind, word) = word;
-        if self.unknown.len() >= MOST_FLAWS || known.split(' ').any(|other| other == word) {
+        let (alloc, (kind, word)) = (self.alloc, word);
+        if self.unknown.len() >= MOST_FLAWS || has_word(known, word) {
             return Ok(());
         }
         if !self.unknown.insert(String::from_str(alloc, word)?)? {
             return Ok(());
         }
         if let Some(help) = meant_help(alloc, word, known)? {
-            let place = with_step(alloc, visit.pointer.as_str(), name)?;
             let message = format!(in alloc; "unknown {kind} `{word}`, which is not checked")?;
-            let source = self.source_of(visit.resource);
-            let mut flaw = self.flaw(alloc, source, place.as_str(), message.as_str())?;
+            let pointer = visit.pointer.as_str();
+            let mut flaw = self.flaw(visit.source, pointer, &[name], message.as_str())?;
             flaw.help = help;
             push_flaw(&mut self.warnings, flaw)?;
         }
@@ -527,31 +512,30 @@ impl<'v, 'a> Sources<'v, 'a> {
 
     /// Adds a resource if a schema has an address of its own. Returns the position of the innermost resource that
     /// contains the schema. Fails like `new`.
-    fn read_address(&mut self, alloc: Global, visit: &Visit<'v, 'a>) -> Result<usize, SchemaError> {
+    fn read_address(&mut self, visit: &Visit<'v, 'a>) -> Result<usize, SchemaError> {
         let Some(outer) = self.resources.get(visit.resource) else {
             return Ok(visit.resource);
         };
-        let (draft, source) = (outer.dialect.draft, outer.source);
-        let keyword = if draft == Draft::Four { "id" } else { "$id" };
+        let (alloc, source, pointer) = (self.alloc, visit.source, visit.pointer.as_str());
+        let (draft, other) = (outer.dialect.draft, outer.dialect);
+        let keyword = if draft == 4 { "id" } else { "$id" };
         let Some(id) = text_of(visit.value, keyword) else {
             return Ok(visit.resource);
         };
-        if draft <= Draft::Seven && (id.starts_with("#") || visit.value.get("$ref").is_some()) {
+        if draft <= 7 && (id.starts_with("#") || visit.value.get("$ref").is_some()) {
             return Ok(visit.resource);
         }
-        let other = outer.dialect;
         let Some(url) = joined(alloc, outer.address.as_str(), id)? else {
-            let place = with_step(alloc, visit.pointer.as_str(), keyword)?;
-            let flaw = self.flaw(alloc, source, place.as_str(), "this is not a URL")?;
+            let flaw = self.flaw(source, pointer, &[keyword], "this is not a URL")?;
             push_flaw(&mut self.errors, flaw)?;
             return Ok(visit.resource);
         };
         let address = String::from_str(alloc, without_fragment(url.as_str()))?;
-        let dialect = self.dialect(alloc, source, visit.pointer.as_str(), visit.value, other)?;
+        let dialect = self.dialect(source, pointer, visit.value, other)?;
         let made = self.resources.len();
         self.resources.push(Resource {
             source,
-            pointer: String::from_str(alloc, visit.pointer.as_str())?,
+            pointer: String::from_str(alloc, pointer)?,
             address,
             dialect,
         })?;
@@ -559,45 +543,25 @@ impl<'v, 'a> Sources<'v, 'a> {
     }
 
     /// Adds the anchors that a schema defines.
-    fn read_anchors(&mut self, alloc: Global, visit: &Visit<'v, 'a>) -> Result<(), SchemaError> {
+    fn read_anchors(&mut self, visit: &Visit<'v, 'a>) -> Result<(), AllocError> {
         let Some(resource) = self.resources.get(visit.resource) else {
             return Ok(());
         };
-        let draft = resource.dialect.draft;
-        for keyword in ["id", "$id", "$anchor", "$dynamicAnchor"] {
-            let name = text_of(visit.value, keyword).and_then(|text| anchor_in(
-                draft, keyword, text,
-            ));
-            if let Some(name) = name {
-                self.push_anchor(alloc, visit, name, keyword == "$dynamicAnchor")?;
+        let (alloc, draft) = (self.alloc, resource.dialect.draft);
+        for (keyword, is_dynamic) in ANCHORS {
+            let Some(name) = anchor_in(draft, keyword, visit.value) else {
+                continue;
+            };
+            if is_dynamic {
+                self.dynamic.push(self.anchors.len())?;
             }
+            self.anchors.push(Anchor {
+                source: resource.source,
+                base: String::from_str(alloc, resource.pointer.as_str())?,
+                name: String::from_str(alloc, name)?,
+                pointer: String::from_str(alloc, visit.pointer.as_str())?,
+            })?;
         }
-        if draft == Draft::Of2019 && is_true(visit.value, "$recursiveAnchor") {
-            self.push_anchor(alloc, visit, "", true)?;
-        }
-        Ok(())
-    }
-
-    /// Adds an anchor with this name of the schema of `visit`.
-    fn push_anchor(
-        &mut self,
-        alloc: Global,
-        visit: &Visit<'v, 'a>,
-        name: &str,
-        is_dynamic: bool,
-    ) -> Result<(), AllocError> {
-        let Some(resource) = self.resources.get(visit.resource) else {
-            return Ok(());
-        };
-        if is_dynamic {
-            self.dynamic.push(self.anchors.len())?;
-        }
-        self.anchors.push(Anchor {
-            source: resource.source,
-            base: String::from_str(alloc, resource.pointer.as_str())?,
-            name: String::from_str(alloc, name)?,
-            pointer: String::from_str(alloc, visit.pointer.as_str())?,
-        })?;
         Ok(())
     }
 
@@ -622,16 +586,15 @@ impl<'v, 'a> Sources<'v, 'a> {
     /// Returns the value at the place `pointer` of the document `source`, or `None` if it does not exist.
     pub(crate) fn value_at(
         &self,
-        alloc: Global,
         source: usize,
         pointer: &str,
     ) -> Result<Option<&'v Json<'a>>, AllocError> {
-        let key = format!(in alloc; "{source} {pointer}")?;
+        let key = format!(in self.alloc; "{source} {pointer}")?;
         if let Some(value) = self.schemas.get(key.as_str()) {
             return Ok(Some(*value));
         }
         match self.documents.get(source) {
-            Some(document) => pointed(alloc, document.value, pointer),
+            Some(document) => pointed(self.alloc, document.value, pointer),
             None => Ok(None),
         }
     }
@@ -677,14 +640,16 @@ pub(crate) fn is_true(value: &Json<'_>, name: &str) -> bool
     matches!(value.get(name), Some(Json::Bool(true)))
 }
 
-/// Returns the name of the anchor that `keyword` with the value `text` defines in this draft, or `None` if it defines
-/// no anchor.
-fn anchor_in<'t>(draft: Draft, keyword: &str, text: &'t str) -> Option<&'t str> {
+/// Returns the name of the anchor that `keyword` of a schema defines in this draft, or `None` if it defines no anchor.
+/// The name is empty for `$recursiveAnchor`.
+fn anchor_in<'v, 'a>(draft: u8, keyword: &str, schema: &'v Json<'a>) -> Option<&'a str> {
+    let text = text_of(schema, keyword);
     match keyword {
-        "id" if draft == Draft::Four => text.strip_prefix("#"),
-        "$id" if draft > Draft::Four && draft <= Draft::Seven => text.strip_prefix("#"),
-        "$anchor" if draft >= Draft::Of2019 => Some(text),
-        "$dynamicAnchor" if draft == Draft::Of2020 => Some(text),
+        "id" if draft == 4 => text?.strip_prefix("#"),
+        "$id" if draft > 4 && draft <= 7 => text?.strip_prefix("#"),
+        "$anchor" if draft >= 19 => text,
+        "$dynamicAnchor" if draft == 20 => text,
+        "$recursiveAnchor" if draft == 19 && is_true(schema, keyword) => Some(""),
         _ => None,
     }
 }
@@ -700,9 +665,10 @@ fn is_within(pointer: &str, outer: &str) -> bool {
 /// Returns the dialect that a metaschema describes. The draft is that of `other` if the metaschema names no known
 /// draft.
 fn own_dialect(metaschema: &Json<'_>, other: Dialect) -> Dialect {
-    let draft = text_of_any(metaschema, "$schema")
-        .and_then(|address| draft_of(address))
-        .unwrap_or(other.draft);
+    let draft = match text_of(metaschema, "$schema") {
+        Some(address) => draft_of(address).unwrap_or(other.draft),
+        None => other.draft,
+    };
     let validates = match metaschema.get("$vocabulary") {
         Some(vocabulary) => {
             vocabulary
@@ -715,13 +681,4 @@ fn own_dialect(metaschema: &Json<'_>, other: Dialect) -> Dialect {
         None => true,
     };
     Dialect { draft, validates }
-}
-
-/// Returns the string in the member `name`, or `None` if the member is missing or not a string. The string borrows from
-/// `value`, unlike the result of `text_of`.
-fn text_of_any<'t>(value: &'t Json<'_>, name: &str) -> Option<&'t str> {
-    match value.get(name) {
-        Some(member) => member.as_str(),
-        None => None,
-    }
 }

@@ -94,30 +94,14 @@ impl Kinds {
             _ => self.string = true,
         }
     }
-
-    /// Adds the kinds of value that `keyword` is about: those that `Type` lists, tables for `Required` and
-    /// `Properties`, arrays for `Items`, and none for any other keyword.
-    fn add_keyword(&mut self, keyword: &Keyword) {
-        match keyword {
-            Keyword::Type(types) => self.add_types(types),
-            Keyword::Properties(_, _, _) | Keyword::Required(_) => self.table = true,
-            Keyword::Items(_, _) => self.array = true,
-            _ => {}
-        }
-    }
 }
 
-/// Appends the index of a compiled schema, unless `nodes` has it or has `MOST_SUBSCHEMAS` indices.
-fn push_node(nodes: &mut Indices, node: usize) {
-    if nodes.list.len() < MOST_SUBSCHEMAS && !nodes.list.contains(&node) {
-        nodes.push(node);
-    }
-}
-
-/// Appends the indices of compiled schemas, as `push_node` does.
+/// Appends the indices of compiled schemas, except for those that `nodes` has already, until it has `MOST_SUBSCHEMAS`.
 fn push_all(nodes: &mut Indices, more: &[usize]) {
     for node in more {
-        push_node(nodes, *node);
+        if nodes.list.len() < MOST_SUBSCHEMAS && !nodes.list.contains(node) {
+            nodes.push(*node);
+        }
     }
 }
 
@@ -146,7 +130,7 @@ impl Guide {
     ) -> Result<Subschemas, AllocError> {
         let mut nodes = Indices::new(alloc);
         nodes.push(0);
-        self.schema.with_applied(alloc, nodes, value)
+        self.schema.with_applied(nodes, value)
     }
 
     /// Returns the subschemas that apply to an entry or element. `outer` has the subschemas of the table or array
@@ -160,7 +144,6 @@ impl Guide {
         step: Step<'_>,
         value: Option<&Value<'_>>,
     ) -> Result<Subschemas, AllocError> {
-        let mut nodes = Indices::new(alloc);
         let any = Value::new(ValueInner::Boolean(true));
         let name = match step {
             Step::Key(name) => name,
@@ -174,11 +157,8 @@ impl Guide {
             Step::Key(_) => Part::Member(&key, &any),
             Step::Position(at) => Part::Element(at, &any),
         };
-        self.schema.push_inside(alloc, outer, part, &mut nodes)?;
-        if nodes.list.is_empty() {
-            self.schema.push_unevaluated(outer, part, &mut nodes);
-        }
-        self.schema.with_applied(alloc, nodes, value)
+        let nodes = self.schema.inside(outer, part)?;
+        self.schema.with_applied(nodes, value)
     }
 
     /// Returns the notes of each of the subschemas. Fails if an allocation fails.
@@ -202,7 +182,7 @@ impl Guide {
         alloc: Global,
         subschemas: &Subschemas,
     ) -> Result<Vec<&'s str>, AllocError> {
-        let mut keys = self.schema.keys_in(alloc, subschemas.nodes.as_slice())?;
+        let mut keys = self.schema.keys_in(subschemas.nodes.as_slice())?;
         keys.sort()?;
         keys.dedup();
         Ok(keys)
@@ -232,10 +212,12 @@ impl Guide {
         let mut implied = Kinds::NONE;
         for node in subschemas.nodes.as_slice() {
             for placed in self.schema.keywords(*node) {
-                if let Keyword::Type(types) = &placed.keyword {
-                    named.add_types(types);
+                match &placed.keyword {
+                    Keyword::Type(types) => named.add_types(types),
+                    Keyword::Properties(_, _, _) | Keyword::Required(_) => implied.table = true,
+                    Keyword::Items(_, _) => implied.array = true,
+                    _ => {}
                 }
-                implied.add_keyword(&placed.keyword);
             }
             if let Some(note) = self.notes.get(*node) {
                 for value in &note.values {
@@ -249,8 +231,8 @@ impl Guide {
 
 impl Schema {
     /// Returns the keys in `properties` of the schemas at the indices `nodes`.
-    fn keys_in<'s>(&'s self, alloc: Global, nodes: &[usize]) -> Result<Vec<&'s str>, AllocError> {
-        let mut keys: Vec<&'s str> = Vec::new(alloc);
+    fn keys_in<'s>(&'s self, nodes: &[usize]) -> Result<Vec<&'s str>, AllocError> {
+        let mut keys: Vec<&'s str> = Vec::new(self.alloc());
         for node in nodes {
             for placed in self.keywords(*node) {
                 if let Keyword::Properties(named, _, _) = &placed.keyword {
@@ -265,11 +247,8 @@ impl Schema {
 
     /// Returns the keys in `properties` of the schemas at the indices `nodes`, and of all schemas that they may apply
     /// to the same value.
-    pub(crate) fn known_keys<'s>(
-        &'s self,
-        alloc: Global,
-        nodes: &[usize],
-    ) -> Result<Vec<&'s str>, AllocError> {
+    pub(crate) fn known_keys<'s>(&'s self, nodes: &[usize]) -> Result<Vec<&'s str>, AllocError> {
+        let alloc = self.alloc();
         let mut all = Indices::new(alloc);
         all.push_all(nodes);
         for at in 0..MOST_SUBSCHEMAS {
@@ -282,14 +261,13 @@ impl Schema {
             }
         }
         let all = all.finish()?;
-        self.keys_in(alloc, all.as_slice())
+        self.keys_in(all.as_slice())
     }
 
     /// Returns the schemas at the indices `nodes`, and the schemas that they apply to the same value, such as those in
     /// `allOf`. Returns at most `MOST_SUBSCHEMAS` schemas. `value` is as for `subschemas`.
     fn with_applied(
         &self,
-        alloc: Global,
         mut nodes: Indices,
         value: Option<&Value<'_>>,
     ) -> Result<Subschemas, AllocError> {
@@ -299,7 +277,7 @@ impl Schema {
                 break;
             };
             for placed in self.keywords(node) {
-                self.push_applied(alloc, &mut left, &placed.keyword, value, &mut nodes);
+                self.push_applied(&mut left, &placed.keyword, value, &mut nodes);
             }
         }
         let nodes = nodes.finish()?;
@@ -311,7 +289,6 @@ impl Schema {
     /// both if `value` is `None`.
     fn push_applied(
         &self,
-        alloc: Global,
         left: &mut u64,
         keyword: &Keyword,
         value: Option<&Value<'_>>,
@@ -320,12 +297,12 @@ impl Schema {
         match keyword {
             Keyword::AllOf(list) => push_all(nodes, list.as_slice()),
             Keyword::AnyOf(list) | Keyword::OneOf(list) => {
-                self.push_fitting(alloc, left, list.as_slice(), value, nodes);
+                self.push_fitting(left, list.as_slice(), value, nodes);
             }
             Keyword::If(condition, yes, no) => {
                 let mut holds = true;
                 if let Some(value) = value {
-                    let found = self.is_valid(alloc, left, self.depth, *condition, value);
+                    let found = self.is_valid(left, self.depth, *condition, value);
                     holds = verdict(nodes, found);
                 }
                 if holds {
@@ -339,7 +316,7 @@ impl Schema {
                 if let Some(value) = value {
                     for entry in entries.as_slice() {
                         if has_key(value, entry.0.as_str()) {
-                            push_node(nodes, entry.1);
+                            push_all(nodes, &[entry.1]);
                         }
                     }
                 }
@@ -348,11 +325,11 @@ impl Schema {
         }
     }
 
-    /// Appends to `nodes` the schemas in `list`, given by their indices, for which `may_fit` accepts the value or exceeds
-    /// the limits. Appends the whole `list` if `may_fit` rejects the value for all of them, or if `value` is `None`.
+    /// Appends to `nodes` the schemas in `list`, given by their indices, for which `may_fit` accepts the value or
+    /// exceeds the limits. Appends the whole `list` if `may_fit` rejects the value for all of them, or if `value` is
+    /// `None`.
     fn push_fitting(
         &self,
-        alloc: Global,
         left: &mut u64,
         list: &[usize],
         value: Option<&Value<'_>>,
@@ -361,9 +338,9 @@ impl Schema {
         let mut is_any = false;
         if let Some(value) = value {
             for node in list {
-                let found = self.may_fit(alloc, left, *node, value);
+                let found = self.may_fit(left, *node, value);
                 if verdict(nodes, found) {
-                    push_node(nodes, *node);
+                    push_all(nodes, &[*node]);
                     is_any = true;
                 }
             }
@@ -373,50 +350,38 @@ impl Schema {
         }
     }
 
-    /// Appends to `nodes` the indices of the subschemas that the keywords of the schemas `outer` apply to `part`, an
-    /// entry or element (see `schemas_for`).
-    fn push_inside(
-        &self,
-        alloc: Global,
-        outer: &Subschemas,
-        part: Part<'_, '_>,
-        nodes: &mut Indices,
-    ) -> Result<(), AllocError> {
+    /// Returns the subschemas that the keywords of the schemas `outer` apply to `part`, an entry or element (see
+    /// `schemas_for`). If there are none, returns those of `unevaluatedProperties` or, for an element, of
+    /// `unevaluatedItems`.
+    fn inside(&self, outer: &Subschemas, part: Part<'_, '_>) -> Result<Indices, AllocError> {
+        let mut nodes = Indices::new(self.alloc());
+        let mut unevaluated = Indices::new(self.alloc());
         for node in outer.nodes.as_slice() {
             for placed in self.keywords(*node) {
-                let found = schemas_for(alloc, self, &placed.keyword, part)?;
-                push_all(nodes, found.as_slice());
-            }
-        }
-        Ok(())
-    }
-
-    /// Appends to `nodes` the indices of the subschemas of `unevaluatedProperties` in the schemas `outer` or, if `part`
-    /// is an element, of `unevaluatedItems`.
-    fn push_unevaluated(&self, outer: &Subschemas, part: Part<'_, '_>, nodes: &mut Indices) {
-        for node in outer.nodes.as_slice() {
-            for placed in self.keywords(*node) {
+                let found = schemas_for(self, &placed.keyword, part)?;
+                push_all(&mut nodes, found.as_slice());
                 match (&placed.keyword, part) {
                     (Keyword::UnevaluatedProperties(_, node), Part::Member(_, _))
                     | (Keyword::UnevaluatedItems(_, node), Part::Element(_, _)) => {
-                        push_node(nodes, *node);
+                        push_all(&mut unevaluated, &[*node]);
                     }
                     _ => {}
                 }
             }
         }
+        let is_none = nodes.list.is_empty() && !nodes.is_refused;
+        Ok(if is_none { unevaluated } else { nodes })
     }
 
     /// Returns whether a value may become valid against the schema at index `node` if more keys are added to it: no
     /// type, constant or key is wrong. Fails like `is_valid`.
     fn may_fit<'s, 'v, 'de>(
         &'s self,
-        alloc: Global,
         left: &mut u64,
         node: usize,
         value: &'v Value<'de>,
     ) -> Result<bool, CheckError> {
-        let walk = self.walked(alloc, left, node, value)?;
+        let walk = self.walked(left, node, value)?;
         for one in walk.violations.as_slice() {
             if one.is_unlisted() || one.is_never() {
                 return Ok(false);

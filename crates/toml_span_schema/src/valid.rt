@@ -1,10 +1,10 @@
 //! Decides whether a value is valid. In all functions, `depth` is the number of subschemas that may still be nested,
 //! and `left` the number that may still be applied.
-ghost use Rattle.std.specs.Prelude.{◌≡◌, ◌&&◌, nat_le, IfOk, Some, None, false, true, map, ℕ};
+ghost use Rattle.std.specs.Prelude.{◌≡◌, IfOk, Some, None, false, true, map};
 ghost use Rattle.toml_span_tree.specs.Value.{inner_of, view};
 ghost use Rattle.toml_span_schema.specs.Applied.{applied_of};
-ghost use Rattle.toml_span_schema.specs.Parts.{is_entry, part_of, value_of, whole};
-ghost use Rattle.toml_span_schema.specs.Valid.{allows, allows_other, any, both, contains_enough, count, covers, every};
+ghost use Rattle.toml_span_schema.specs.Parts.{part_of, whole};
+ghost use Rattle.toml_span_schema.specs.Valid.{allows, allows_other, any, contains_enough, count, covers, every};
 ghost use Rattle.toml_span_schema.specs.Valid.{is_evaluated_element, judged, optional, passes, reaches, reaches_simply};
 ghost use Rattle.toml_span_schema.specs.Valid.{refused, unevaluated_allow};
 
@@ -14,7 +14,7 @@ use crate::error::CheckError;
 use crate::keyword::Keyword;
 use crate::listed::{Part, parts_of_kind};
 use crate::schema::Schema;
-use std::alloc::{AllocError, Global};
+use std::alloc::AllocError;
 use toml_span_tree::{Value, ValueInner};
 
 /// The maximum number of subschemas that are applied to decide whether a value is valid. The same number can be applied
@@ -30,13 +30,6 @@ pub(crate) fn spend(left: &mut u64) -> Result<(), CheckError> {
     Ok(())
 }
 
-/// Returns whether `count` is at least `least` and at most `most`.
-fn is_between(least: u64, count: u64, most: u64) -> bool
-    ensures { result ≡ (nat_le least count && nat_le count most) }
-{
-    least <= count && count <= most
-}
-
 impl Schema {
     /// Returns whether a value is valid against the schema at index `node`. Takes 1 from `left` for each subschema that
     /// is applied. Fails with `TooDeep` if more than `depth` subschemas nest, or if a value that `enum`, `const` or
@@ -45,7 +38,6 @@ impl Schema {
     #[cycle(valid)]
     pub(crate) fn is_valid(
         &self,
-        alloc: Global,
         left: &mut u64,
         depth: usize,
         node: usize,
@@ -58,7 +50,7 @@ impl Schema {
             return Err(CheckError::TooDeep);
         }
         for placed in self.keywords(node) {
-            if !self.allows(alloc, left, depth - 1, &placed.keyword, value)? {
+            if !self.allows(left, depth - 1, &placed.keyword, value)? {
                 return Ok(false);
             }
         }
@@ -70,7 +62,6 @@ impl Schema {
     #[tactic(auto, unfolding(crate::specs::Valid::allows))]
     pub(crate) fn allows(
         &self,
-        alloc: Global,
         left: &mut u64,
         depth: usize,
         keyword: &Keyword,
@@ -83,27 +74,27 @@ impl Schema {
             | Keyword::DependentSchemas(_)
             | Keyword::Items(_, _)
             | Keyword::Properties(_, _, _) => {
-                let list = applied(alloc, self, keyword, Part::Whole(value))?;
-                self.all_valid(alloc, left, depth, list.as_slice())
+                let list = applied(self, keyword, Part::Whole(value))?;
+                self.all_valid(left, depth, list.as_slice())
             }
             Keyword::AnyOf(_) => {
-                let list = applied(alloc, self, keyword, Part::Whole(value))?;
-                self.any_valid(alloc, left, depth, list.as_slice())
+                let list = applied(self, keyword, Part::Whole(value))?;
+                self.any_valid(left, depth, list.as_slice())
             }
             Keyword::OneOf(_) => {
-                let list = applied(alloc, self, keyword, Part::Whole(value))?;
-                let count = self.count_valid(alloc, left, depth, list.as_slice())?;
+                let list = applied(self, keyword, Part::Whole(value))?;
+                let count = self.count_valid(left, depth, list.as_slice())?;
                 Ok(count == 1)
             }
-            Keyword::Not(node) => Ok(!self.is_valid(alloc, left, depth, *node, value)?),
+            Keyword::Not(node) => Ok(!self.is_valid(left, depth, *node, value)?),
             Keyword::If(condition, yes, no) => {
-                if self.is_valid(alloc, left, depth, *condition, value)? {
-                    self.maybe_allows(alloc, left, depth, *yes, value)
-                } else {
-                    self.maybe_allows(alloc, left, depth, *no, value)
+                let holds = self.is_valid(left, depth, *condition, value)?;
+                match if holds { *yes } else { *no } {
+                    Some(next) => self.is_valid(left, depth, next, value),
+                    None => Ok(true),
                 }
             }
-            _ => self.allows_other(alloc, left, depth, keyword, value),
+            _ => self.allows_other(left, depth, keyword, value),
         }
     }
 
@@ -113,7 +104,6 @@ impl Schema {
     #[tactic(auto, unfolding(crate::specs::Valid::allows_other))]
     fn allows_other(
         &self,
-        alloc: Global,
         left: &mut u64,
         depth: usize,
         keyword: &Keyword,
@@ -124,20 +114,20 @@ impl Schema {
     {
         match keyword {
             Keyword::PropertyNames(node) => {
-                let names = names(alloc, value)?;
-                self.allows_each(alloc, left, depth, *node, names.as_slice())
+                let names = names(self.alloc(), value)?;
+                self.allows_each(left, depth, *node, names.as_slice())
             }
             Keyword::Contains(_, least, most, _) => {
-                let list = applied(alloc, self, keyword, Part::Whole(value))?;
-                self.contains_enough(alloc, left, depth, list.as_slice(), (*least, *most), value)
+                let list = applied(self, keyword, Part::Whole(value))?;
+                self.contains_enough(left, depth, list.as_slice(), (*least, *most), value)
             }
             Keyword::UnevaluatedItems(others, node) => {
-                self.allows_unevaluated(alloc, left, depth, false, (*others, *node), value)
+                self.allows_unevaluated(left, depth, false, (*others, *node), value)
             }
             Keyword::UnevaluatedProperties(others, node) => {
-                self.allows_unevaluated(alloc, left, depth, true, (*others, *node), value)
+                self.allows_unevaluated(left, depth, true, (*others, *node), value)
             }
-            _ => allows_simple(alloc, self, keyword, value),
+            _ => allows_simple(self, keyword, value),
         }
     }
 
@@ -145,7 +135,6 @@ impl Schema {
     #[cycle(valid)]
     fn all_valid(
         &self,
-        alloc: Global,
         left: &mut u64,
         depth: usize,
         list: &[(usize, Part<'_, '_>)],
@@ -153,7 +142,7 @@ impl Schema {
         ensures { IfOk result (λ r. every (passes (judged self.now depth)) (map applied_of list.now) ≡ Some r) }
     {
         for pair in list {
-            if !self.is_valid(alloc, left, depth, pair.0, pair.1.value())? {
+            if !self.is_valid(left, depth, pair.0, pair.1.value())? {
                 return Ok(false);
             }
         }
@@ -164,7 +153,6 @@ impl Schema {
     #[cycle(valid)]
     fn any_valid(
         &self,
-        alloc: Global,
         left: &mut u64,
         depth: usize,
         list: &[(usize, Part<'_, '_>)],
@@ -172,7 +160,7 @@ impl Schema {
         ensures { IfOk result (λ r. any (passes (judged self.now depth)) (map applied_of list.now) ≡ Some r) }
     {
         for pair in list {
-            if self.is_valid(alloc, left, depth, pair.0, pair.1.value())? {
+            if self.is_valid(left, depth, pair.0, pair.1.value())? {
                 return Ok(true);
             }
         }
@@ -183,7 +171,6 @@ impl Schema {
     #[cycle(valid)]
     pub(crate) fn count_valid(
         &self,
-        alloc: Global,
         left: &mut u64,
         depth: usize,
         list: &[(usize, Part<'_, '_>)],
@@ -192,38 +179,17 @@ impl Schema {
     {
         let mut count = 0usize;
         for pair in list {
-            if self.is_valid(alloc, left, depth, pair.0, pair.1.value())? {
+            if self.is_valid(left, depth, pair.0, pair.1.value())? {
                 count += 1;
             }
         }
         Ok(count)
     }
 
-    /// Returns whether a value is valid against the subschema at index `node`, or true if `node` is `None`. Fails like
-    /// `is_valid`.
-    #[cycle(valid)]
-    fn maybe_allows(
-        &self,
-        alloc: Global,
-        left: &mut u64,
-        depth: usize,
-        node: Option<usize>,
-        value: &Value<'_>,
-    ) -> Result<bool, CheckError>
-        ensures { IfOk result (λ r.
-            optional (λ k. (judged self.now depth).valid k (view value.now)) (Some true) node ≡ Some r) }
-    {
-        match node {
-            Some(node) => self.is_valid(alloc, left, depth, node, value),
-            None => Ok(true),
-        }
-    }
-
     /// Returns whether all of `values` are valid against the subschema at index `node`. Fails like `is_valid`.
     #[cycle(valid)]
     fn allows_each(
         &self,
-        alloc: Global,
         left: &mut u64,
         depth: usize,
         node: usize,
@@ -232,7 +198,7 @@ impl Schema {
         ensures { IfOk result (λ r. every (λ n. (judged self.now depth).valid node n) (map view values.now) ≡ Some r) }
     {
         for value in values {
-            if !self.is_valid(alloc, left, depth, node, value)? {
+            if !self.is_valid(left, depth, node, value)? {
                 return Ok(false);
             }
         }
@@ -245,7 +211,6 @@ impl Schema {
     #[cycle(valid)]
     fn contains_enough(
         &self,
-        alloc: Global,
         left: &mut u64,
         depth: usize,
         list: &[(usize, Part<'_, '_>)],
@@ -260,8 +225,8 @@ impl Schema {
         }
         match value.as_ref() {
             ValueInner::Array(_) => {
-                let count = self.count_valid(alloc, left, depth, list)?;
-                Ok(is_between(bounds.0, count as u64, bounds.1))
+                let count = self.count_valid(left, depth, list)?;
+                Ok(bounds.0 <= count as u64 && count as u64 <= bounds.1)
             }
             _ => Ok(true),
         }
@@ -273,7 +238,6 @@ impl Schema {
     #[cycle(valid)]
     fn allows_unevaluated(
         &self,
-        alloc: Global,
         left: &mut u64,
         depth: usize,
         entries: bool,
@@ -283,11 +247,12 @@ impl Schema {
         ensures { IfOk result (λ r.
             unevaluated_allow (judged self.now depth) entries nodes.0 nodes.1 (view value.now) ≡ Some r) }
     {
+        let alloc = self.alloc();
         let parts = parts_of_kind(alloc, value, entries)?;
-        let rest = self.unevaluated(alloc, left, depth, nodes.0, value, parts.as_slice())?;
+        let rest = self.unevaluated(left, depth, nodes.0, value, parts.as_slice())?;
         let mut list = Vec::new(alloc);
         push_to_each(&mut list, nodes.1, rest.as_slice())?;
-        Ok(self.all_valid(alloc, left, depth, list.as_slice())?)
+        Ok(self.all_valid(left, depth, list.as_slice())?)
     }
 
     /// Returns those of `parts`, entries or elements of `value`, that the schema at index `node` does not evaluate.
@@ -295,7 +260,6 @@ impl Schema {
     #[cycle(valid)]
     pub(crate) fn unevaluated<'v, 'de>(
         &self,
-        alloc: Global,
         left: &mut u64,
         depth: usize,
         node: usize,
@@ -309,16 +273,9 @@ impl Schema {
         if depth == 0 {
             return Err(CheckError::TooDeep);
         }
-        let mut rest = Vec::from_slice(alloc, parts)?;
+        let mut rest = Vec::from_slice(self.alloc(), parts)?;
         for placed in self.keywords(node) {
-            rest = self.unreached(
-                alloc,
-                left,
-                depth - 1,
-                &placed.keyword,
-                value,
-                rest.as_slice(),
-            )?;
+            rest = self.unreached(left, depth - 1, &placed.keyword, value, rest.as_slice())?;
         }
         Ok(rest)
     }
@@ -329,7 +286,6 @@ impl Schema {
     #[tactic(auto, unfolding(crate::specs::Valid::reaches))]
     fn unreached<'v, 'de>(
         &self,
-        alloc: Global,
         left: &mut u64,
         depth: usize,
         keyword: &Keyword,
@@ -344,23 +300,23 @@ impl Schema {
             | Keyword::AnyOf(_)
             | Keyword::OneOf(_)
             | Keyword::DependentSchemas(_) => {
-                let list = applied(alloc, self, keyword, Part::Whole(value))?;
-                Ok(self.uncovered(alloc, left, depth, list.as_slice(), parts)?)
+                let list = applied(self, keyword, Part::Whole(value))?;
+                Ok(self.uncovered(left, depth, list.as_slice(), parts)?)
             }
             Keyword::If(condition, yes, no) => {
-                if !self.is_valid(alloc, left, depth, *condition, value)? {
-                    return self.maybe_uncovered(alloc, left, depth, *no, value, parts);
+                if !self.is_valid(left, depth, *condition, value)? {
+                    return self.maybe_uncovered(left, depth, *no, value, parts);
                 }
-                let rest = self.unevaluated(alloc, left, depth, *condition, value, parts)?;
-                Ok(self.maybe_uncovered(alloc, left, depth, *yes, value, rest.as_slice())?)
+                let rest = self.unevaluated(left, depth, *condition, value, parts)?;
+                Ok(self.maybe_uncovered(left, depth, *yes, value, rest.as_slice())?)
             }
             Keyword::Contains(node, _, _, evaluates) => {
                 if *evaluates {
-                    return self.unmatched(alloc, left, depth, *node, parts);
+                    return self.unmatched(left, depth, *node, parts);
                 }
-                Ok(Vec::from_slice(alloc, parts)?)
+                Ok(Vec::from_slice(self.alloc(), parts)?)
             }
-            _ => Ok(simply_unreached(alloc, self, keyword, parts)?),
+            _ => Ok(simply_unreached(self, keyword, parts)?),
         }
     }
 
@@ -370,7 +326,6 @@ impl Schema {
     #[cycle(valid)]
     fn uncovered<'v, 'de>(
         &self,
-        alloc: Global,
         left: &mut u64,
         depth: usize,
         list: &[(usize, Part<'_, '_>)],
@@ -380,9 +335,9 @@ impl Schema {
             (λ p. any (covers (judged self.now depth) p) (map applied_of list.now))
             (map part_of parts.now) ≡ Some (map part_of rest.items)) }
     {
-        let mut rest = Vec::from_slice(alloc, parts)?;
+        let mut rest = Vec::from_slice(self.alloc(), parts)?;
         for pair in list {
-            rest = self.uncovered_by(alloc, left, depth, *pair, rest.as_slice())?;
+            rest = self.uncovered_by(left, depth, *pair, rest.as_slice())?;
         }
         Ok(rest)
     }
@@ -391,7 +346,6 @@ impl Schema {
     #[cycle(valid)]
     fn uncovered_by<'v, 'de>(
         &self,
-        alloc: Global,
         left: &mut u64,
         depth: usize,
         pair: (usize, Part<'_, '_>),
@@ -401,10 +355,10 @@ impl Schema {
             (map part_of parts.now) ≡ Some (map part_of rest.items)) }
     {
         let value = pair.1.value();
-        if self.is_valid(alloc, left, depth, pair.0, value)? {
-            self.unevaluated(alloc, left, depth, pair.0, value, parts)
+        if self.is_valid(left, depth, pair.0, value)? {
+            self.unevaluated(left, depth, pair.0, value, parts)
         } else {
-            Ok(Vec::from_slice(alloc, parts)?)
+            Ok(Vec::from_slice(self.alloc(), parts)?)
         }
     }
 
@@ -413,7 +367,6 @@ impl Schema {
     #[cycle(valid)]
     fn maybe_uncovered<'v, 'de>(
         &self,
-        alloc: Global,
         left: &mut u64,
         depth: usize,
         node: Option<usize>,
@@ -425,10 +378,8 @@ impl Schema {
             (map part_of parts.now) ≡ Some (map part_of rest.items)) }
     {
         match node {
-            Some(node) => {
-                self.uncovered_by(alloc, left, depth, (node, Part::Whole(value)), parts)
-            }
-            None => Ok(Vec::from_slice(alloc, parts)?),
+            Some(node) => { self.uncovered_by(left, depth, (node, Part::Whole(value)), parts) }
+            None => Ok(Vec::from_slice(self.alloc(), parts)?),
         }
     }
 
@@ -437,7 +388,6 @@ impl Schema {
     #[cycle(valid)]
     fn unmatched<'v, 'de>(
         &self,
-        alloc: Global,
         left: &mut u64,
         depth: usize,
         node: usize,
@@ -446,38 +396,23 @@ impl Schema {
         ensures { IfOk result (λ rest. refused (is_evaluated_element (judged self.now depth) node)
             (map part_of parts.now) ≡ Some (map part_of rest.items)) }
     {
-        let mut rest = Vec::new(alloc);
+        let mut rest = Vec::new(self.alloc());
         for part in parts {
-            if !self.element_is_valid(alloc, left, depth, node, *part)? {
+            let is_matched = match part {
+                Part::Element(_, element) => self.is_valid(left, depth, node, *element)?,
+                Part::Member(_, _) | Part::Whole(_) => false,
+            };
+            if !is_matched {
                 rest.push(*part)?;
             }
         }
         Ok(rest)
-    }
-
-    /// Returns whether `part` is an element, and is valid against the subschema at index `node`. Fails like `is_valid`.
-    #[cycle(valid)]
-    fn element_is_valid(
-        &self,
-        alloc: Global,
-        left: &mut u64,
-        depth: usize,
-        node: usize,
-        part: Part<'_, '_>,
-    ) -> Result<bool, CheckError>
-        ensures { IfOk result (λ r. is_evaluated_element (judged self.now depth) node (part_of part.entry) ≡ Some r) }
-    {
-        match part {
-            Part::Element(_, element) => self.is_valid(alloc, left, depth, node, element),
-            Part::Member(_, _) | Part::Whole(_) => Ok(false),
-        }
     }
 }
 
 /// Returns whether a keyword that needs no verdicts evaluates `part`, an entry or element.
 #[tactic(auto, unfolding(crate::specs::Valid::reaches_simply))]
 fn reaches_simply(
-    alloc: Global,
     schema: &Schema,
     keyword: &Keyword,
     part: Part<'_, '_>,
@@ -486,17 +421,16 @@ fn reaches_simply(
 {
     match keyword {
         Keyword::Items(_, _) | Keyword::Properties(_, _, _) => {
-            Ok(!schemas_for(alloc, schema, keyword, part)?.is_empty())
+            Ok(!schemas_for(schema, keyword, part)?.is_empty())
         }
-        Keyword::UnevaluatedItems(_, _) => Ok(!part.is_entry()),
-        Keyword::UnevaluatedProperties(_, _) => Ok(part.is_entry()),
+        Keyword::UnevaluatedItems(_, _) => Ok(!matches!(part, Part::Member(_, _))),
+        Keyword::UnevaluatedProperties(_, _) => Ok(matches!(part, Part::Member(_, _))),
         _ => Ok(false),
     }
 }
 
 /// Returns those of `parts` that a keyword does not evaluate. The keyword must be one that needs no verdicts.
 fn simply_unreached<'v, 'de>(
-    alloc: Global,
     schema: &Schema,
     keyword: &Keyword,
     parts: &[Part<'v, 'de>],
@@ -504,9 +438,9 @@ fn simply_unreached<'v, 'de>(
     ensures { IfOk result (λ rest. refused (λ p. Some (reaches_simply schema.now keyword.now p))
         (map part_of parts.now) ≡ Some (map part_of rest.items)) }
 {
-    let mut rest = Vec::new(alloc);
+    let mut rest = Vec::new(schema.alloc());
     for part in parts {
-        if !reaches_simply(alloc, schema, keyword, *part)? {
+        if !reaches_simply(schema, keyword, *part)? {
             rest.push(*part)?;
         }
     }

@@ -178,11 +178,11 @@ impl Schema {
     /// `is_valid`.
     pub(crate) fn walked<'s, 'v, 'de>(
         &'s self,
-        alloc: Global,
         left: &mut u64,
         node: usize,
         value: &'v Value<'de>,
     ) -> Result<Walk<'s, 'v, 'de>, CheckError> {
+        let alloc = self.alloc();
         let mut walk: Walk<'s, 'v, 'de> = Walk {
             alloc,
             left: *left,
@@ -217,7 +217,11 @@ impl Schema {
         if depth == 0 {
             return walk.fail(CheckError::TooDeep);
         }
-        if self.is_deprecated(node) && walk.deprecated.push((node, part)).is_err() {
+        let is_deprecated = match self.nodes.get(node) {
+            Some(node) => node.deprecated,
+            None => false,
+        };
+        if is_deprecated && walk.deprecated.push((node, part)).is_err() {
             walk.fail(CheckError::OutOfMemory);
         }
         for placed in self.keywords(node) {
@@ -251,7 +255,7 @@ impl Schema {
                 }
             }
             Keyword::If(condition, yes, no) => {
-                match self.is_valid(alloc, &mut walk.left, depth, *condition, value) {
+                match self.is_valid(&mut walk.left, depth, *condition, value) {
                     Ok(holds) => {
                         if let Some(next) = if holds { *yes } else { *no } {
                             self.explore(walk, depth, next, part);
@@ -264,12 +268,12 @@ impl Schema {
             | Keyword::Properties(_, _, _)
             | Keyword::UnevaluatedItems(_, _)
             | Keyword::UnevaluatedProperties(_, _) => {
-                match self.inner(alloc, &mut walk.left, depth, &at.placed.keyword, part) {
+                match self.inner(&mut walk.left, depth, &at.placed.keyword, part) {
                     Ok(list) => self.explore_parts(walk, depth, at, list.as_slice()),
                     Err(error) => walk.fail(error),
                 }
             }
-            _ => match self.allows(alloc, &mut walk.left, depth, &at.placed.keyword, value) {
+            _ => match self.allows(&mut walk.left, depth, &at.placed.keyword, value) {
                 Ok(true) => self.explore_valid(walk, depth, &at.placed.keyword, part),
                 Ok(false) => self.explore_refused(walk, depth, at, part),
                 Err(error) => walk.fail(error),
@@ -281,20 +285,20 @@ impl Schema {
     /// subschema. Fails like `is_valid`.
     fn inner<'v, 'de>(
         &self,
-        alloc: Global,
         left: &mut u64,
         depth: usize,
         keyword: &Keyword,
         part: Part<'v, 'de>,
     ) -> Result<Vec<(usize, Part<'v, 'de>)>, CheckError> {
+        let alloc = self.alloc();
         let (others, next, entries) = match keyword {
             Keyword::UnevaluatedItems(others, next) => (*others, *next, false),
             Keyword::UnevaluatedProperties(others, next) => (*others, *next, true),
-            _ => return Ok(applied(alloc, self, keyword, part)?),
+            _ => return Ok(applied(self, keyword, part)?),
         };
         let value = part.value();
         let all = parts_of_kind(alloc, value, entries)?;
-        let rest = self.unevaluated(alloc, left, depth, others, value, all.as_slice())?;
+        let rest = self.unevaluated(left, depth, others, value, all.as_slice())?;
         let mut list = Vec::new(alloc);
         push_to_each(&mut list, next, rest.as_slice())?;
         Ok(list)
@@ -344,7 +348,7 @@ impl Schema {
             if walk.stop.is_some() {
                 return;
             }
-            match self.is_valid(walk.alloc, &mut walk.left, depth, *next, part.value()) {
+            match self.is_valid(&mut walk.left, depth, *next, part.value()) {
                 Ok(true) => self.explore(walk, depth, *next, part),
                 Ok(false) => {}
                 Err(error) => walk.fail(error),
@@ -383,7 +387,7 @@ impl Schema {
                 }
             }
             Keyword::PropertyNames(node) => {
-                match self.wrong_names(alloc, &mut walk.left, depth, *node, value) {
+                match self.wrong_names(&mut walk.left, depth, *node, value) {
                     Ok(list) => {
                         for entry in list.as_slice() {
                             walk.push(at, Cause::Name, *entry);
@@ -393,7 +397,7 @@ impl Schema {
                 }
             }
             Keyword::Contains(_, _, _, _) => {
-                match self.matching(alloc, &mut walk.left, depth, &at.placed.keyword, part) {
+                match self.matching(&mut walk.left, depth, &at.placed.keyword, part) {
                     Ok(count) => walk.push(at, Cause::Count(count), part),
                     Err(error) => walk.fail(error),
                 }
@@ -406,16 +410,16 @@ impl Schema {
     /// `is_valid`.
     fn wrong_names<'v, 'de>(
         &self,
-        alloc: Global,
         left: &mut u64,
         depth: usize,
         node: usize,
         value: &'v Value<'de>,
     ) -> Result<Vec<Part<'v, 'de>>, CheckError> {
+        let alloc = self.alloc();
         let mut wrong = Vec::new(alloc);
         let entries = parts(alloc, value)?;
         for (entry, name) in entries.iter().zip(names(alloc, value)?.iter()) {
-            if !self.is_valid(alloc, left, depth, node, name)? {
+            if !self.is_valid(left, depth, node, name)? {
                 wrong.push(*entry)?;
             }
         }
@@ -425,14 +429,13 @@ impl Schema {
     /// Returns how many elements are valid against the subschema of `contains`. Fails like `is_valid`.
     fn matching(
         &self,
-        alloc: Global,
         left: &mut u64,
         depth: usize,
         keyword: &Keyword,
         part: Part<'_, '_>,
     ) -> Result<usize, CheckError> {
-        let list = applied(alloc, self, keyword, part)?;
-        self.count_valid(alloc, left, depth, list.as_slice())
+        let list = applied(self, keyword, part)?;
+        self.count_valid(left, depth, list.as_slice())
     }
 
     /// Returns whether the schema at index `node` is `false`.
@@ -440,14 +443,6 @@ impl Schema {
         match self.keywords(node) {
             [placed] => matches!(&placed.keyword, Keyword::Never),
             _ => false,
-        }
-    }
-
-    /// Returns `deprecated` of the compiled schema at index `node`, or false if `node` is out of range.
-    fn is_deprecated(&self, node: usize) -> bool {
-        match self.nodes.get(node) {
-            Some(node) => node.deprecated,
-            None => false,
         }
     }
 }

@@ -27,9 +27,6 @@ decreases-items_led l = 9 * l.left + 5
 abbrev pub decreases-are_led : goal.decreases-are_led
 decreases-are_led l = 9 * l.left + 4
 
-abbrev pub decreases-member_led : goal.decreases-member_led
-decreases-member_led l = 9 * l.left + 4
-
 abbrev pub decreases-is_led : goal.decreases-is_led
 decreases-is_led l = 9 * l.left + 3
 

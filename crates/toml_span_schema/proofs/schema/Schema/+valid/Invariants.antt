@@ -24,9 +24,6 @@ decreases-any_valid l = 6 * l.depth + 1
 abbrev pub decreases-count_valid : goal.decreases-count_valid
 decreases-count_valid l = 6 * l.depth + 1
 
-abbrev pub decreases-maybe_allows : goal.decreases-maybe_allows
-decreases-maybe_allows l = 6 * l.depth + 1
-
 abbrev pub decreases-allows_each : goal.decreases-allows_each
 decreases-allows_each l = 6 * l.depth + 1
 
@@ -53,9 +50,6 @@ decreases-maybe_uncovered l = 6 * l.depth + 2
 
 abbrev pub decreases-unmatched : goal.decreases-unmatched
 decreases-unmatched l = 6 * l.depth + 2
-
-abbrev pub decreases-element_is_valid : goal.decreases-element_is_valid
-decreases-element_is_valid l = 6 * l.depth + 1
 
 abbrev pub invariant-is_valid-loop-placed : goal.invariant-is_valid-loop-placed
 invariant-is_valid-loop-placed l =

@@ -1,8 +1,0 @@
-use Rattle.std.proofs.Common.{◌≡◌}
-use Rattle.toml_span_tree.specs.Value.{members_view}
-use Rattle.toml_span_schema.specs.Parts.{has_name}
-use Rattle.toml_span_schema.proofs.applied.has_entry.Given as goal
-
-abbrev pub invariant-loop-key : goal.invariant-loop-key
-invariant-loop-key l =
-    has_name l.name (members_view l.table.entries) ≡ has_name l.name (members_view l.key-iterator)

@@ -1,9 +1,0 @@
-use Rattle.std.proofs.Common.{◌≡◌, ◌++◌, map}
-use Rattle.toml_span_tree.specs.Value.{members_view, view}
-use Rattle.toml_span_schema.specs.Parts.{name_values}
-use Rattle.toml_span_schema.proofs.applied.push_names.Given as goal
-
-abbrev pub invariant-loop-key : goal.invariant-loop-key
-invariant-loop-key l =
-    map view l.list.items ++ name_values (members_view l.key-iterator)
-    ≡ map view l.fn.list.items ++ name_values (members_view l.table.entries)
