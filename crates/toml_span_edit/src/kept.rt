@@ -99,7 +99,7 @@ fn is_opening(bytes: &[u8]) -> bool
 }
 
 /// Returns whether `bytes` contains `wanted`.
-fn has_byte(bytes: &[u8], wanted: u8) -> bool
+pub(crate) fn has_byte(bytes: &[u8], wanted: u8) -> bool
     ensures { result ≡ list_any (λ c. c == wanted) bytes.now }
 {
     for byte in bytes {

@@ -7,7 +7,6 @@ pub mod changes;
 pub mod completion;
 mod context;
 pub mod conversions;
-mod converted;
 pub mod diagnostics;
 pub mod document;
 mod duplicates;
