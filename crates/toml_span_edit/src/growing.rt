@@ -3,9 +3,11 @@ use crate::document::{Document, written};
 use crate::given::check_value;
 use crate::headed::{element_place, end_place};
 use crate::items::{Item, bare, count_of, put_item};
-use crate::missing::{append_first, put_element};
+use crate::missing::{first_position, known_prefix_len, put_array, put_element, put_missing};
+use crate::paths::rest_of;
 use crate::plan::Plan;
 use crate::reason::{Edited, Reason};
+use crate::text::joined;
 use toml_span::Stop;
 use toml_span_read::{Val, ValKind};
 use toml_span_tree::pointer::position;
@@ -44,7 +46,12 @@ pub(crate) fn append(
     }
     let mentions = document.mentions(path)?;
     if mentions.is_empty() {
-        return append_first(document, path, value, plan);
+        let depth = known_prefix_len(document, path)?;
+        if first_position(rest_of(path, depth))?.is_none() {
+            return put_array(document, path, value, plan);
+        }
+        let array = joined(document.alloc, "[", value, "]")?;
+        return put_missing(document, path, bare(array.as_str()), plan);
     }
     if let Some(list) = written(mentions.as_slice()) {
         return put_at(document, list, count_of(list), bare(value), plan);

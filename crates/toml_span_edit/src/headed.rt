@@ -72,19 +72,6 @@ pub(crate) fn end_place<'s>(
     }
 }
 
-/// Returns how many of `mentions`, the mentions of an array of tables, are sections that open an element of the array.
-pub(crate) fn element_count(mentions: &[PathMention<'_, '_>]) -> usize {
-    let mut count: usize = 0;
-    for mention in mentions {
-        if let PathMention::Below(section, index) = mention {
-            if opens_element(*section, *index) {
-                count = count.saturating_add(1);
-            }
-        }
-    }
-    count
-}
-
 /// Returns where the sections of a new element of the array of tables at `array` can be written, before the element at
 /// the position `at`. Fails with `PastEnd` if there are fewer than `at` elements, and with `NoArray` if the value is
 /// not an array of tables. `path` is the path of the new element.
@@ -99,12 +86,22 @@ pub(crate) fn element_place<'s>(
     let (Some(end), false) = (end_place(document, mentions.as_slice()), array.is_empty()) else {
         return Err(Stop::Fault(Reason::NoArray));
     };
+    // The number of sections that open an element of the array.
+    let mut count: usize = 0;
+    for mention in &mentions {
+        match mention {
+            PathMention::Below(section, index) if opens_element(*section, *index) => {
+                count = count.saturating_add(1);
+            }
+            _ => {}
+        }
+    }
     match next.as_slice().first() {
         Some(PathMention::Own(next)) => Ok(ElementPlace {
             at: document.above(next.header_span.start),
             header: end.header,
         }),
-        _ if at == element_count(mentions.as_slice()) => Ok(end),
+        _ if at == count => Ok(end),
         _ => Err(Stop::Fault(Reason::PastEnd)),
     }
 }

@@ -1,6 +1,6 @@
 //! Finds out why edits are refused, from the tree of the document.
 ghost use Rattle.std.specs.Prelude.{◌≡◌, ℕ, List, map, true};
-ghost use Rattle.toml_span_tree.specs.Value.{inner_of, view};
+ghost use Rattle.toml_span_tree.specs.Value.{view};
 ghost use Rattle.toml_span_edit.specs.Refused as spec;
 ghost use Rattle.toml_span_edit.specs.declared.edits.Change.TheVariants as changes;
 
@@ -11,7 +11,7 @@ use crate::reach::named;
 use crate::reason::{Edited, Reason, already_there};
 use std::alloc::{AllocError, Global};
 use toml_span::Stop;
-use toml_span::value::{Value, ValueInner};
+use toml_span::value::Value;
 use toml_span_lex::lines::line_info;
 
 /// Returns the reason that something is at the byte offset `at` of `text`, with its line and column. Columns count
@@ -95,10 +95,7 @@ pub(crate) fn check_target(
 fn is_there(path: &[&str], value: &Value<'_>) -> bool
     ensures { result ≡ spec.is_there (map (λ s. s.now) path.now) (view value.now) }
 {
-    match value_at(path, value) {
-        Some(_) => true,
-        None => false,
-    }
+    value_at(path, value).is_some()
 }
 
 /// Returns whether the value at `path` in the tree `value` has the entry or element `name`.
@@ -108,10 +105,7 @@ fn has_child(path: &[&str], name: &str, value: &Value<'_>) -> bool
     let Some(table) = value_at(path, value) else {
         return false;
     };
-    match child(table, name) {
-        Some(_) => true,
-        None => false,
-    }
+    child(table, name).is_some()
 }
 
 /// Returns whether the value next to the one at `path` with the name `name` is in the tree `value`.
@@ -141,35 +135,14 @@ fn is_taken(edit: Edit<'_>, old: &Value<'_>) -> bool
     }
 }
 
-/// Returns whether `value` is a table or an array.
-fn is_container(value: &Value<'_>) -> bool
-    ensures { result ≡ spec.is_container (inner_of (view value.now)) }
-{
-    if value.is_taken() {
-        return false;
-    }
-    match value.as_ref() {
-        ValueInner::Array(_) => true,
-        ValueInner::Table(_) => true,
-        _ => false,
-    }
-}
-
 /// Returns whether the value at `path` in the tree `value` is a table or an array.
 fn is_container_at(path: &[&str], value: &Value<'_>) -> bool
     ensures { result ≡ spec.is_container_at (map (λ s. s.now) path.now) (view value.now) }
 {
     match value_at(path, value) {
-        Some(there) => is_container(there),
+        Some(there) => there.as_array().is_some() || there.as_table().is_some(),
         None => false,
     }
-}
-
-/// Returns whether a change is a move.
-fn is_move(change: Change<'_>) -> bool
-    ensures { result ≡ spec.is_move change.entry }
-{
-    matches!(change, Change::MoveTo(_))
 }
 
 /// Returns whether the tree `old` confirms that `reason` is true of `edit`. Returns true for a reason that says nothing
@@ -180,7 +153,7 @@ fn is_confirmed(reason: &Reason, edit: Edit<'_>, old: &Value<'_>) -> bool
 {
     match reason {
         Reason::InvalidDocument(_) => false,
-        Reason::ResultInvalid(_) => is_move(edit.change),
+        Reason::ResultInvalid(_) => matches!(edit.change, Change::MoveTo(_)),
         Reason::Nothing => !is_there(edit.path, old),
         Reason::Root => edit.path.is_empty(),
         Reason::NotLiteral => is_container_at(edit.path, old),

@@ -14,23 +14,18 @@ use std::alloc::{AllocError, Global};
 use toml_span::value::Value;
 use toml_span_places::{literal_span, replaced};
 
-/// Returns whether the literal of `value`, which is in the tree of `probe`, begins after `v = ` and ends where `probe`
-/// ends.
-fn is_alone(probe: &str, value: &Value<'_>) -> bool
-    ensures { result ≡ spec.is_alone probe.now (view value.now) }
-{
-    let span = literal_span(probe, value);
-    span.start == 4 && span.end == probe.len()
-}
-
-/// Returns whether `given`, the tree of `probe`, has a value `v` with nothing around it (see `is_alone`), and the tree
-/// `new` is the tree `old` with this value at `path`.
+/// Returns whether `given`, the tree of `probe`, has a value `v` whose literal begins after `v = ` and ends where `probe`
+/// ends, and the tree `new` is the tree `old` with this value at `path`.
 fn is_set(probe: &str, given: &Value<'_>, path: &[&str], old: &Value<'_>, new: &Value<'_>) -> bool
     ensures { result ≡ spec.is_set probe.now (view given.now) (map (λ s. s.now) path.now) (view old.now)
         (view new.now) }
 {
     match child(given, "v") {
-        Some(value) => is_alone(probe, value) && changed(path, Local::Set(value), old, new),
+        Some(value) => {
+            let span = literal_span(probe, value);
+            let is_alone = span.start == 4 && span.end == probe.len();
+            is_alone && changed(path, Local::Set(value), old, new)
+        }
         None => false,
     }
 }

@@ -1,13 +1,11 @@
 //! Makes one edit, and checks that the new tree is the old one with only this change.
-ghost use Rattle.std.specs.Prelude.{◌≡◌, ◌++◌, [], IfErr, IfOk, OnOk, true, codes, map, string_bytes};
-ghost use Rattle.std.specs.Prelude.{◌⊎◌};
+ghost use Rattle.std.specs.Prelude.{◌≡◌, ◌⊎◌, [], IfErr, IfOk, OnOk, true, map, string_bytes};
 ghost use Rattle.toml_span_read.specs.Data.{depth_limit};
 ghost use Rattle.toml_span_tree.specs.Value.{view};
 ghost use Rattle.toml_span.specs.Parsing.{IsTree};
 ghost use Rattle.toml_span_edit.specs.Edited as spec;
 ghost use Rattle.toml_span_edit.specs.Kept as kept;
 ghost use Rattle.toml_span_edit.specs.Refused as refusals;
-ghost use Rattle.toml_span_edit.specs.declared.step.Destination.TheVariants.{Here, End};
 ghost use Rattle.toml_span_edit.specs.Comments.{AddsNoComment};
 ghost use Rattle.toml_span_edit.specs.Made.{local};
 ghost use Rattle.toml_span_edit.specs.Reasons.{fault_text};
@@ -140,8 +138,19 @@ fn is_made(alloc: Global, edit: Edit<'_>, old: &Value<'_>, new: &Value<'_>) -> E
     match change {
         Change::Set(value) => is_placed(alloc, Destination::Here, value, path, old, new),
         Change::Replace(value) => is_placed(alloc, Destination::Here, value, path, old, new),
-        Change::SetOrAdd(value) => is_set_or_new(alloc, value, path, old, new),
-        Change::Append(value) => is_appended(alloc, value, path, old, new),
+        Change::SetOrAdd(value) => {
+            if value_at(path, old).is_some() {
+                return is_placed(alloc, Destination::Here, value, path, old, new);
+            }
+            is_new(alloc, value, path, old, new)
+        }
+        Change::Append(value) => {
+            if value_at(path, old).is_some() {
+                return is_placed(alloc, Destination::End, value, path, old, new);
+            }
+            let list = joined(alloc, "[", value, "]")?;
+            is_new(alloc, list.as_str(), path, old, new)
+        }
         Change::AddTable => is_new(alloc, "{}", path, old, new),
         Change::Add(value) => is_under(alloc, value, path, old, new),
         Change::Insert(value) => is_under(alloc, value, path, old, new),
@@ -149,45 +158,6 @@ fn is_made(alloc: Global, edit: Edit<'_>, old: &Value<'_>, new: &Value<'_>) -> E
         Change::Rename(name) => Ok(is_renamed(name, path, old, new)),
         Change::MoveTo(_) => Ok(false),
     }
-}
-
-/// Returns whether the tree `new` is the tree `old` with the TOML value `value` at `path`, added or in place of another
-/// value. Fails with `NoValue` if `value` can't be read.
-fn is_set_or_new(
-    alloc: Global,
-    value: &str,
-    path: &[&str],
-    old: &Value<'_>,
-    new: &Value<'_>,
-) -> Edited<bool>
-    ensures { IfOk result (λ holds. holds ≡ true
-        → (spec.IsNew value.now (map (λ s. s.now) path.now) (view old.now) (view new.now))
-        ⊎ (spec.IsPlaced (spec.is_placed Here) value.now (map (λ s. s.now) path.now) (view old.now) (view new.now))) }
-{
-    if value_at(path, old).is_some() {
-        return is_placed(alloc, Destination::Here, value, path, old, new);
-    }
-    is_new(alloc, value, path, old, new)
-}
-
-/// Returns whether the tree `new` is the tree `old` with the TOML value `value` added at the end of the array at
-/// `path`, or with a new array at `path` that has only this element. Fails with `NoValue` if `value` can't be read.
-fn is_appended(
-    alloc: Global,
-    value: &str,
-    path: &[&str],
-    old: &Value<'_>,
-    new: &Value<'_>,
-) -> Edited<bool>
-    ensures { IfOk result (λ holds. holds ≡ true
-        → (spec.IsNew (codes "[" ++ (value.now ++ codes "]")) (map (λ s. s.now) path.now) (view old.now) (view new.now))
-        ⊎ (spec.IsPlaced (spec.is_placed End) value.now (map (λ s. s.now) path.now) (view old.now) (view new.now))) }
-{
-    if value_at(path, old).is_some() {
-        return is_placed(alloc, Destination::End, value, path, old, new);
-    }
-    let list = joined(alloc, "[", value, "]")?;
-    is_new(alloc, list.as_str(), path, old, new)
 }
 
 /// Returns whether the tree `new` is the tree `old` with the TOML value `value` added at `path`, in a table or array
@@ -292,37 +262,6 @@ fn check_made(alloc: Global, edit: Edit<'_>, old: &Value<'_>, new: &str) -> Edit
     }
 }
 
-/// Checks that `new` is a document whose tree is `rest` with `value` added at `path`. Fails with `ResultInvalid` if
-/// `new` is not valid TOML, and with `WouldDiffer` if it has a different tree.
-fn check_put_back(
-    alloc: Global,
-    path: &[&str],
-    value: &Value<'_>,
-    rest: &Value<'_>,
-    new: &str,
-) -> Edited<()>
-    ensures { OnOk result (spec.IsPutBack (map (λ s. s.now) path.now) (view value.now) (view rest.now) new.now) }
-{
-    let root = new_tree(alloc, new)?;
-    if is_put(path, value, rest, &root) {
-        Ok(())
-    } else {
-        Err(Stop::Fault(Reason::WouldDiffer))
-    }
-}
-
-/// Returns the tree of `without`, a text without the value at `path`. `old` is the tree with this value. Fails with a
-/// reason if there are other differences.
-fn rest_of<'t>(alloc: Global, without: &'t str, path: &[&str], old: &Value<'_>) -> Edited<Value<'t>>
-    ensures { IfOk result (λ rest. spec.IsGone (map (λ s. s.now) path.now) (view old.now) (view rest)) }
-{
-    let rest = new_tree(alloc, without)?;
-    if is_gone(path, old, &rest) {
-        return Ok(rest);
-    }
-    Err(Stop::Fault(Reason::WouldDiffer))
-}
-
 /// Returns `text` with `value`, the value at `path`, moved to `target`. `old` is the tree of `text`, and `base` what
 /// `text_without` returned for `text` and `path`. Fails with a reason if the move is refused.
 fn moved_from(
@@ -340,10 +279,17 @@ fn moved_from(
         ⊎ ((kept.HasOtherHeaders text.now (string_bytes new))
         ⊎ (kept.HasOtherKey (map (λ s. s.now) path.now) text.now (string_bytes new)))) }
 {
-    let rest = rest_of(alloc, base, path, old)?;
+    let rest = new_tree(alloc, base)?;
+    if !is_gone(path, old, &rest) {
+        return Err(Stop::Fault(Reason::WouldDiffer));
+    }
     check_target(alloc, text, path, target, &rest, old)?;
     let new = moved_text(alloc, text, base, path, target, value, old)?;
-    check_put_back(alloc, target, value, &rest, new.as_str())?;
+    let root = new_tree(alloc, new.as_str())?;
+    if !is_put(target, value, &rest, &root) {
+        return Err(Stop::Fault(Reason::WouldDiffer));
+    }
+    drop(root);
     Ok(new)
 }
 

@@ -1,6 +1,6 @@
 use Rattle.toml_span_lex.proofs.Common.{arith, take_rest}
 use Rattle.toml_span_edit.proofs.Around.{same_around}
-use Rattle.toml_span_edit.proofs.kept.bytes_around.Goals as goal
+use Rattle.toml_span_edit.proofs.kept.keeps_around.Goals as goal
 
 pub returns-then-is_same : goal.returns-then-is_same
 returns-then-is_same c =
