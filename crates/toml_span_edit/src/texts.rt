@@ -112,11 +112,8 @@ fn if_around(text: &str, start: usize, end: usize, new: String) -> Edited<String
     ensures { IfOk result (λ out. spec.KeepsAround text.now (record { start = start; end = end })
         (string_bytes out)) }
 {
-    if keeps_around(
-        text.as_bytes(),
-        Span { start, end },
-        new.as_str().as_bytes(),
-    ) {
+    let span = Span { start, end };
+    if keeps_around(text.as_bytes(), span, new.as_str().as_bytes()) {
         Ok(new)
     } else {
         Err(Stop::Fault(Reason::WouldDiffer))

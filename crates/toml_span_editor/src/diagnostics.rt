@@ -9,7 +9,6 @@ ghost use Rattle.toml_span_editor.specs.Diagnostics as spec;
 ghost use Rattle.toml_span_editor.specs.Edits.{edit_content};
 ghost use Rattle.toml_span_editor.specs.Repairs as mending;
 
-use crate::document::Document;
 use crate::duplicates::without_duplicate;
 use crate::edits::{Edit, differences, edited};
 use crate::partial::partial_reports;

@@ -8,7 +8,7 @@ ghost use Rattle.toml_span_tree.specs.Value.{view};
 use crate::document::Document;
 use crate::keys::{key_at, value_of};
 use crate::paths::{dotted, pointer};
-use crate::schemas::{choices, description, subschemas_at};
+use crate::schemas::{documentation, subschemas_at};
 use std::alloc::{AllocError, Global};
 use std::fmt::Write;
 use toml_span::Value;
@@ -20,8 +20,9 @@ use toml_span_schema::Guide;
 /// The maximum number of keys to list.
 const MOST: usize = 12;
 
-/// The names of the months.
-const MONTHS: [&str; 12] = [
+/// The names of the months, from 1 to 12.
+const MONTHS: [&str; 13] = [
+    "",
     "January",
     "February",
     "March",
@@ -45,29 +46,7 @@ pub struct Hover {
 
 /// Returns the text between two offsets. Returns an empty text if they are not in order or not character boundaries.
 fn part(text: &str, from: usize, to: usize) -> &str {
-    if from > to {
-        return "";
-    }
     text.get(from..to).unwrap_or("")
-}
-
-/// Returns the name of the month with the number `digits`, from `01` to `12`. Returns an empty text for any other
-/// number, or if `digits` is not a number.
-fn month_of(digits: &str) -> &'static str {
-    match digits.parse::<usize>() {
-        Ok(month) if month > 0 => MONTHS.get(month.saturating_sub(1)).copied().unwrap_or(""),
-        _ => "",
-    }
-}
-
-/// Appends a date `YYYY-MM-DD` in words, such as `5 January 2024`.
-fn push_day(date: &str, out: &mut String) -> Result<(), AllocError> {
-    let day = part(date, 8, 10);
-    out.push_str(day.strip_prefix('0').unwrap_or(day))?;
-    out.push(' ')?;
-    out.push_str(month_of(part(date, 5, 7)))?;
-    out.push(' ')?;
-    out.push_str(part(date, 0, 4))
 }
 
 /// Appends a time, with its offset from UTC if there is one.
@@ -91,7 +70,13 @@ fn push_date(date: &str, out: &mut String) -> Result<(), AllocError> {
     if date.as_bytes().get(4) != Some(&b'-') {
         return push_time(date, out);
     }
-    push_day(date, out)?;
+    let (day, month) = (part(date, 8, 10), part(date, 5, 7));
+    let month = month.parse::<usize>().unwrap_or(0);
+    out.push_str(day.strip_prefix('0').unwrap_or(day))?;
+    out.push(' ')?;
+    out.push_str(MONTHS.get(month).copied().unwrap_or(""))?;
+    out.push(' ')?;
+    out.push_str(part(date, 0, 4))?;
     if date.len() > 11 {
         out.push_str(", ")?;
         push_time(part(date, 11, date.len()), out)?;
@@ -108,25 +93,8 @@ fn push_count(out: &mut String, count: usize, word: &str) -> Result<(), AllocErr
     Ok(())
 }
 
-/// Appends the number of a table's keys, and the names of the first `MOST` keys. Appends nothing for any other value.
-fn push_names(value: &Value<'_>, out: &mut String) -> Result<(), AllocError> {
-    let Some(table) = value.as_table() else {
-        return Ok(());
-    };
-    push_count(out, table.len(), "key")?;
-    for (count, (key, _)) in table.iter().enumerate() {
-        if count >= MOST {
-            return out.push_str(", …");
-        }
-        out.push_str(if count == 0 { ": `" } else { ", `" })?;
-        out.push_str(key.name.as_ref())?;
-        out.push('`')?;
-    }
-    Ok(())
-}
-
-/// Appends the decimal value of an integer, a date (in words) or time, the size of a string or array, or the keys of a
-/// table. Appends nothing for a float or boolean, or for an integer whose `literal` is its decimal value already.
+/// Appends the decimal value of an integer, a date (in words) or time, the size of a string or array, or the number of a
+/// table's keys, and the names of the first `MOST` keys. Appends nothing for a float or boolean, or for an integer whose `literal` is its decimal value already.
 fn push_details(value: &Value<'_>, literal: &str, out: &mut String) -> Result<(), AllocError> {
     if let Some(number) = value.as_integer() {
         let number = format!(in *out.allocator(); "{number}")?;
@@ -143,7 +111,19 @@ fn push_details(value: &Value<'_>, literal: &str, out: &mut String) -> Result<()
     if let Some(array) = value.as_array() {
         push_count(out, array.len(), "element")?;
     }
-    push_names(value, out)
+    let Some(table) = value.as_table() else {
+        return Ok(());
+    };
+    push_count(out, table.len(), "key")?;
+    for (count, (key, _)) in table.iter().enumerate() {
+        if count >= MOST {
+            return out.push_str(", …");
+        }
+        out.push_str(if count == 0 { ": `" } else { ", `" })?;
+        out.push_str(key.name.as_ref())?;
+        out.push('`')?;
+    }
+    Ok(())
 }
 
 /// Appends a paragraph, after a blank line if it is not the first. Appends nothing if `text` is empty.
@@ -189,8 +169,8 @@ fn described(
         return Ok(out);
     };
     let found = subschemas_at(alloc, guide, &document.root, path)?;
-    let said = description(alloc, guide, &found)?;
-    let choices = choices(alloc, guide, &found)?;
+    let said = documentation(alloc, guide, &found, true, false)?;
+    let choices = documentation(alloc, guide, &found, false, true)?;
     push_paragraph(&mut out, said.as_str())?;
     push_value(alloc, document.text, path, value, &mut out)?;
     push_paragraph(&mut out, choices.as_str())?;

@@ -24,17 +24,6 @@ struct Sibling<'v, 't> {
     value: &'v Value<'t>,
 }
 
-/// Returns the index of the last step that is a position in an array, or `None` if no step is a position.
-fn last_position(path: &[Step<'_>]) -> Option<usize> {
-    let mut found = None;
-    for (index, step) in path.iter().enumerate() {
-        if let Step::Position(_) = step {
-            found = Some(index);
-        }
-    }
-    found
-}
-
 /// Appends each key of `table` that the table `outer` lacks and that is not in the list yet. Appends nothing if `table`
 /// is not a table.
 fn push_keys<'v, 't>(
@@ -94,8 +83,11 @@ fn siblings<'d, 't>(
     outer: Outer<'d, '_, '_, 't>,
 ) -> Result<Vec<Sibling<'d, 't>>, AllocError> {
     let mut found = Vec::new(alloc);
-    if let Some(index) = last_position(outer.steps) {
-        push_siblings(outer, index, &mut found)?;
+    for (index, step) in outer.steps.iter().enumerate().rev() {
+        if let Step::Position(_) = step {
+            push_siblings(outer, index, &mut found)?;
+            break;
+        }
     }
     for index in 1..outer.steps.len() {
         if found.is_empty() {
