@@ -5,6 +5,7 @@ ghost use Rattle.toml_span_edit.specs.Converted.{HasOtherForm, IsConverted};
 
 use crate::arrays::array_laid_out;
 use crate::conversions::{Conversion, Proposal};
+use crate::document::Document;
 use crate::dotted::dotted_to_section;
 use crate::forms::{is_converted, with_array};
 use crate::sections::section_to_inline;
@@ -19,19 +20,17 @@ use toml_span_read::Section;
 /// Proposes another form for the table or array at the byte offset `at`. Returns `None` if there is nothing to convert
 /// at `at`, or if the conversion is not possible (see `Conversion`).
 fn proposed(
-    alloc: Global,
-    text: &str,
-    sections: &[Section<'_>],
+    document: Document<'_, '_>,
     conversion: Conversion,
     at: usize,
 ) -> Result<Option<Proposal>, AllocError> {
-    let at = at.max(first_place(text));
+    let at = at.max(first_place(document.text));
     match conversion {
-        Conversion::InlineToSection => inline_to_section(alloc, text, sections, at),
-        Conversion::SectionToInline => section_to_inline(alloc, text, sections, at),
-        Conversion::DottedToSection => dotted_to_section(alloc, text, sections, at),
-        Conversion::ArrayToLines => array_laid_out(alloc, text, sections, at, false),
-        Conversion::ArrayToLine => array_laid_out(alloc, text, sections, at, true),
+        Conversion::InlineToSection => inline_to_section(document, at),
+        Conversion::SectionToInline => section_to_inline(document, at),
+        Conversion::DottedToSection => dotted_to_section(document, at),
+        Conversion::ArrayToLines => array_laid_out(document, at, false),
+        Conversion::ArrayToLine => array_laid_out(document, at, true),
     }
 }
 
@@ -85,7 +84,12 @@ pub fn converted(
     ensures { IfOk result (λ made. IfSome made (λ new. IsConverted conversion at text.now
         (map parsed_section sections.now) (string_bytes new))) }
 {
-    let Some(proposal) = proposed(alloc, text, sections, conversion, at)? else {
+    let document = Document {
+        alloc,
+        text,
+        sections,
+    };
+    let Some(proposal) = proposed(document, conversion, at)? else {
         return Ok(None);
     };
     let Some(new) = accepted(alloc, text, sections, conversion, at, proposal)? else {

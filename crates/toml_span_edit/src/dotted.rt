@@ -1,14 +1,15 @@
 //! Converts dotted keys to sections.
 use crate::conversions::Proposal;
+use crate::document::Document;
 use crate::lines::{comments_start, indent_of, part};
 use crate::mentions::part_at;
 use crate::places::{FoundAssignment, assignment_at, body_start, parts_text, touches};
 use crate::tables::header_of;
 use crate::writer::Writer;
-use std::alloc::{AllocError, Global};
+use std::alloc::AllocError;
 use toml_span_lex::span::Span;
 use toml_span_places::{assignment_lines, section_lines, with_quotes};
-use toml_span_read::{DottedKey, Section};
+use toml_span_read::DottedKey;
 
 /// Returns whether both keys have more than `count` parts and the same first `count` parts.
 fn has_front(key: &DottedKey<'_>, other: &DottedKey<'_>, count: usize) -> bool {
@@ -68,22 +69,21 @@ fn move_rest(
 /// Proposes to write the table of the dotted key at the offset `at` as a section, after the section that contains the
 /// key. Returns `None` unless an assignment with a dotted key contains or touches `at`.
 pub(crate) fn dotted_to_section(
-    alloc: Global,
-    text: &str,
-    sections: &[Section<'_>],
+    document: Document<'_, '_>,
     at: usize,
 ) -> Result<Option<Proposal>, AllocError> {
-    let Some(found) = assignment_at(text, sections, at) else {
+    let text = document.text;
+    let Some(found) = assignment_at(document, at) else {
         return Ok(None);
     };
     let count = table_parts(text, &found.assignment.parts, at);
     if count == 0 {
         return Ok(None);
     }
-    let mut writer = Writer::new(alloc, text);
+    let mut writer = Writer::new(document);
     let table = parts_text(text, &found.assignment.parts, 0, count.saturating_sub(1));
-    let mut new = String::from_str(alloc, indent_of(text, found.assignment))?;
-    new.push_str(header_of(alloc, text, found.section, table)?.as_str())?;
+    let mut new = String::from_str(document.alloc, indent_of(text, found.assignment))?;
+    new.push_str(header_of(document, found.section, table)?.as_str())?;
     new.push_str(writer.end)?;
     move_rest(&mut writer, text, found, count, &mut new)?;
     writer.push_apart(new.as_str())?;

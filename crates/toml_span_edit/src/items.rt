@@ -278,9 +278,9 @@ pub(crate) fn span_above(text: &str, list: &Val<'_>, index: usize) -> Span {
     span_of(comments_above(text, floor, end), end)
 }
 
-/// Returns the comment lines that `span_above` finds for the item of `list` at `index`, and the comment that follows the
-/// item or its comma on the line of the item, with the blanks before the comment. The comment is empty if anything else
-/// or nothing follows.
+/// Returns the comment lines that `span_above` finds for the item of `list` at `index`, and the comment that follows
+/// the item or its comma on the line of the item, with the blanks before the comment. The comment is empty if anything
+/// else or nothing follows.
 pub(crate) fn comments_of<'t>(text: &'t str, list: &Val<'_>, index: usize) -> (&'t str, &'t str) {
     let Some(item) = item_span(text, list, index) else {
         return ("", "");

@@ -1,4 +1,5 @@
 //! Finds the assignment or array at an offset, and the text of keys.
+use crate::document::Document;
 use crate::lines::part;
 use crate::mentions::part_at;
 use toml_span_lex::span::Span;
@@ -34,12 +35,11 @@ pub(crate) fn body_start(text: &str, section: &Section<'_>) -> usize {
 /// Returns the assignment that contains or touches the offset `at`, or `None` if no assignment does. Ignores
 /// assignments in inline tables.
 pub(crate) fn assignment_at<'s, 'de>(
-    text: &str,
-    sections: &'s [Section<'de>],
+    document: Document<'s, 'de>,
     at: usize,
 ) -> Option<FoundAssignment<'s, 'de>> {
-    for section in sections {
-        let mut above = body_start(text, section);
+    for section in document.sections {
+        let mut above = body_start(document.text, section);
         for assignment in &section.assignments {
             if touches(assignment.extent, at) {
                 return Some(FoundAssignment {
@@ -48,7 +48,7 @@ pub(crate) fn assignment_at<'s, 'de>(
                     above,
                 });
             }
-            above = assignment_lines(text, assignment).end;
+            above = assignment_lines(document.text, assignment).end;
         }
     }
     None
@@ -57,14 +57,14 @@ pub(crate) fn assignment_at<'s, 'de>(
 /// Returns the innermost array that contains or touches the offset `at`: `value` itself or an array in it. Returns
 /// `None` if no array does.
 #[cycle(array_in)]
-fn array_in<'s, 'de>(text: &str, value: &'s Val<'de>, at: usize) -> Option<&'s Val<'de>> {
+fn array_in<'s, 'de>(value: &'s Val<'de>, at: usize) -> Option<&'s Val<'de>> {
     if !touches(value.span, at) {
         return None;
     }
     match &value.kind {
         ValKind::Array(items) => {
             for item in items {
-                if let Some(found) = array_in(text, item, at) {
+                if let Some(found) = array_in(item, at) {
                     return Some(found);
                 }
             }
@@ -72,7 +72,7 @@ fn array_in<'s, 'de>(text: &str, value: &'s Val<'de>, at: usize) -> Option<&'s V
         }
         ValKind::Inline(pairs) => {
             for pair in pairs {
-                if let Some(found) = array_in(text, &pair.value, at) {
+                if let Some(found) = array_in(&pair.value, at) {
                     return Some(found);
                 }
             }
@@ -84,14 +84,9 @@ fn array_in<'s, 'de>(text: &str, value: &'s Val<'de>, at: usize) -> Option<&'s V
 
 /// Returns the innermost array that contains or touches the offset `at`, or `None` if no array does. An offset in the
 /// key of an assignment, or between its key and its value, counts as the start of the value.
-pub(crate) fn array_at<'s, 'de>(
-    text: &str,
-    sections: &'s [Section<'de>],
-    at: usize,
-) -> Option<&'s Val<'de>> {
-    let found = assignment_at(text, sections, at)?;
-    let value = &found.assignment.value;
-    array_in(text, value, at.max(value.span.start))
+pub(crate) fn array_at<'s, 'de>(document: Document<'s, 'de>, at: usize) -> Option<&'s Val<'de>> {
+    let value = &assignment_at(document, at)?.assignment.value;
+    array_in(value, at.max(value.span.start))
 }
 
 /// Returns the parts of a dotted key from the position `first` to the position `last`, inclusive, as they are written

@@ -162,8 +162,8 @@ fn is_confirmed(reason: &Reason, edit: Edit<'_>, old: &Value<'_>) -> bool
     }
 }
 
-/// Returns why `edit` is refused: the reason in `stop` if the tree `old` confirms it, otherwise `WouldDiffer`. Returns a
-/// failed allocation as it is.
+/// Returns why `edit` is refused: the reason in `stop` if the tree `old` confirms it, otherwise `WouldDiffer`. Returns
+/// a failed allocation as it is.
 pub(crate) fn confirmed(stop: Stop<Reason>, edit: Edit<'_>, old: &Value<'_>) -> Stop<Reason>
     ensures { (text : List ℕ) → spec.IsRefusedChange edit.entry.change (map (λ s. s.now) edit.entry.path.now)
         (view old.now) text result }

@@ -14,8 +14,8 @@ use std::alloc::{AllocError, Global};
 use toml_span::value::Value;
 use toml_span_places::{literal_span, replaced};
 
-/// Returns whether `given`, the tree of `probe`, has a value `v` whose literal begins after `v = ` and ends where `probe`
-/// ends, and the tree `new` is the tree `old` with this value at `path`.
+/// Returns whether `given`, the tree of `probe`, has a value `v` whose literal begins after `v = ` and ends where
+/// `probe` ends, and the tree `new` is the tree `old` with this value at `path`.
 fn is_set(probe: &str, given: &Value<'_>, path: &[&str], old: &Value<'_>, new: &Value<'_>) -> bool
     ensures { result ≡ spec.is_set probe.now (view given.now) (map (λ s. s.now) path.now) (view old.now)
         (view new.now) }

@@ -1,10 +1,11 @@
 //! Converts sections to inline tables.
 use crate::conversions::Proposal;
+use crate::document::Document;
 use crate::flat::push_pairs;
 use crate::lines::{comments_start, indent_of, line_end, part, spanned};
 use crate::places::{body_start, header_text, touches};
 use crate::writer::Writer;
-use std::alloc::{AllocError, Global};
+use std::alloc::AllocError;
 use toml_span_lex::key::Key;
 use toml_span_lex::span::Span;
 use toml_span_lex::tokenizer::first_place;
@@ -27,13 +28,10 @@ struct Found<'s, 'de> {
 
 /// Returns the section whose header contains or touches the offset `at`, or `None` if no header does. Ignores headers
 /// in double brackets. A comment after the header counts as part of the header.
-fn section_at<'s, 'de>(
-    text: &str,
-    sections: &'s [Section<'de>],
-    at: usize,
-) -> Option<Found<'s, 'de>> {
+fn section_at<'s, 'de>(document: Document<'s, 'de>, at: usize) -> Option<Found<'s, 'de>> {
+    let text = document.text;
     let mut above = first_place(text);
-    for (index, section) in sections.iter().enumerate() {
+    for (index, section) in document.sections.iter().enumerate() {
         let lines = section_lines(text, section);
         let start = section.header_span.start;
         let end = start.saturating_add(spanned(text, section.header_span).trim_end().len());
@@ -108,29 +106,28 @@ fn parent_of<'s, 'de>(
 /// Returns the line that replaces the section `found`: the last part of the section's header, ` = `, the inline table
 /// `braces`, and the comment after the header.
 fn line_of(
-    alloc: Global,
-    text: &str,
+    document: Document<'_, '_>,
     found: Found<'_, '_>,
     braces: &str,
 ) -> Result<String, AllocError> {
-    let end = line_end(text);
+    let (text, end) = (document.text, line_end(document.text));
     let whole = with_quotes(text, found.key.span);
-    let key = part(text, whole.start, whole.end);
+    let key = spanned(text, whole);
     let rest = part(text, whole.end, found.section.header_span.end);
     let note = rest.trim_start_matches([' ', '\t']);
     let note = note.strip_prefix(']').unwrap_or("").trim_end();
-    format!(in alloc; "{key} = {braces}{note}{end}")
+    format!(in document.alloc; "{key} = {braces}{note}{end}")
 }
 
 /// Returns the text without the section `found`, and with `line` at the end of the section `parent`. The comments above
 /// the header of `found` are written above `line`.
 fn move_line(
-    alloc: Global,
-    text: &str,
+    document: Document<'_, '_>,
     found: Found<'_, '_>,
     parent: &Section<'_>,
     line: &str,
 ) -> Result<String, AllocError> {
+    let text = document.text;
     let parent_lines = section_lines(text, parent);
     let (to, front) = match parent.assignments.last() {
         Some(assignment) => (parent_lines.end, indent_of(text, assignment)),
@@ -140,7 +137,7 @@ fn move_line(
         }
     };
     let above = part(text, found.comments, found.header);
-    let mut writer = Writer::new(alloc, text);
+    let mut writer = Writer::new(document);
     let (start, end) = (found.comments, section_lines(text, found.section).end);
     let lines = Span { start, end };
     if to > found.comments {
@@ -154,26 +151,24 @@ fn move_line(
     if to <= found.comments {
         writer.skip_lines(lines, text.len())?;
     }
-    writer.finish_after(alloc, end)
+    writer.finish_after(end)
 }
 
 /// Returns the text in which `line` replaces the section `found`. The table around `found` must have no section. Writes
-/// `line` below a new header for that table or, if the table is the root, before the first header. `first` is what
-/// `first_header` returns.
+/// `line` below a new header for that table or, if the table is the root, before the first header.
 fn write_line(
-    alloc: Global,
-    text: &str,
+    document: Document<'_, '_>,
     found: Found<'_, '_>,
-    first: usize,
     line: &str,
 ) -> Result<String, AllocError> {
-    let mut writer = Writer::new(alloc, text);
+    let (text, first) = (document.text, first_header(document));
+    let mut writer = Writer::new(document);
     let line_end = line_end(text);
     let end = section_lines(text, found.section).end;
     let count = found.section.header.len();
     if count > 1 {
         let table = header_text(text, found.section, count.saturating_sub(2));
-        let header = format!(in alloc; "[{table}]")?;
+        let header = format!(in document.alloc; "[{table}]")?;
         writer.copy_to(found.section.header_span.start)?;
         writer.push(header.as_str())?;
         writer.push(line_end)?;
@@ -186,7 +181,7 @@ fn write_line(
         writer.push(line_end)?;
         let start = found.comments;
         writer.skip_lines(Span { start, end }, text.len())?;
-        return writer.finish_after(alloc, end);
+        return writer.finish_after(end);
     } else {
         writer.copy_to(found.header)?;
         writer.push(line)?;
@@ -198,9 +193,10 @@ fn write_line(
 
 /// Returns the start of the comment lines above the first header or, without such lines, of the header's line. If the
 /// text has only the root section, returns the start of the text, after a byte order mark.
-fn first_header(text: &str, sections: &[Section<'_>]) -> usize {
+fn first_header(document: Document<'_, '_>) -> usize {
+    let text = document.text;
     let from = first_place(text);
-    for section in sections {
+    for section in document.sections {
         if !section.header.as_slice().is_empty() {
             return comments_start(text, from, section_lines(text, section).start);
         }
@@ -211,35 +207,25 @@ fn first_header(text: &str, sections: &[Section<'_>]) -> usize {
 /// Proposes an inline table for the section whose header is at the offset `at`. Returns `None` if `section_at` finds no
 /// section there, or if the section can't be written on one line (see `push_pairs`).
 pub(crate) fn section_to_inline(
-    alloc: Global,
-    text: &str,
-    sections: &[Section<'_>],
+    document: Document<'_, '_>,
     at: usize,
 ) -> Result<Option<Proposal>, AllocError> {
-    let Some(found) = section_at(text, sections, at) else {
+    let Some(found) = section_at(document, at) else {
         return Ok(None);
     };
-    let (start, end) = (
-        found.section.header_span.end,
-        section_lines(text, found.section).end,
-    );
+    let start = found.section.header_span.end;
+    let end = section_lines(document.text, found.section).end;
     let pairs = found.section.assignments.as_slice();
-    let mut braces = String::new(alloc);
-    if !push_pairs(text, start, end, pairs, &mut braces)? {
+    let mut braces = String::new(document.alloc);
+    if !push_pairs(document.text, start, end, pairs, &mut braces)? {
         return Ok(None);
     }
-    let line = line_of(alloc, text, found, braces.as_str())?;
+    let line = line_of(document, found, braces.as_str())?;
     let keys = found.section.header.as_slice();
     let keys = keys.get(..keys.len().saturating_sub(1)).unwrap_or(&[]);
-    let new = match parent_of(sections, found.index, keys) {
-        Some(parent) => move_line(alloc, text, found, parent, line.as_str())?,
-        None => write_line(
-            alloc,
-            text,
-            found,
-            first_header(text, sections),
-            line.as_str(),
-        )?,
+    let new = match parent_of(document.sections, found.index, keys) {
+        Some(parent) => move_line(document, found, parent, line.as_str())?,
+        None => write_line(document, found, line.as_str())?,
     };
     Ok(Some(Proposal::Table(new)))
 }

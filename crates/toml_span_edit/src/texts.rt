@@ -46,30 +46,8 @@ enum Insertion<'i> {
     Header,
 }
 
-/// Adds to `plan` the replacements that insert `insertion` at `path`. Fails with a reason if this is not possible, and
+/// Returns `text` with `insertion` at `path`, only by inserting text. Fails with a reason if this is not possible, and
 /// with `WouldDiffer` for the changes `Set`, `Replace`, `Rename`, `Remove` and `MoveTo`.
-fn plan(
-    document: Document<'_, '_>,
-    path: &[&str],
-    insertion: Insertion<'_>,
-    plan: &mut Plan,
-) -> Edited<()> {
-    match insertion {
-        Insertion::Change(Change::SetOrAdd(value)) => {
-            check_value(document.alloc, value)?;
-            put_missing(document, path, bare(value), plan)
-        }
-        Insertion::Change(Change::Add(value)) => add(document, path, value, plan),
-        Insertion::Change(Change::AddTable) => add_table(document, path, plan),
-        Insertion::Change(Change::Append(value)) => append(document, path, value, plan),
-        Insertion::Change(Change::Insert(value)) => insert(document, path, bare(value), plan),
-        Insertion::Change(_) => Err(Stop::Fault(Reason::WouldDiffer)),
-        Insertion::Moved(item) => put_moved(document, path, item, plan),
-        Insertion::Header => Ok(keep_header(document, path, plan)?),
-    }
-}
-
-/// Returns `text` with `insertion` at `path`, only by inserting text. Fails with a reason if this is not possible.
 fn inserted_text(
     alloc: Global,
     text: &str,
@@ -84,9 +62,23 @@ fn inserted_text(
         text,
         sections: sections.as_slice(),
     };
-    let mut pieces = Plan::new(alloc);
-    plan(document, path, insertion, &mut pieces)?;
-    pieces.inserted(text)
+    let mut plan = Plan::new(alloc);
+    match insertion {
+        Insertion::Change(Change::SetOrAdd(value)) => {
+            check_value(alloc, value)?;
+            put_missing(document, path, bare(value), &mut plan)?;
+        }
+        Insertion::Change(Change::Add(value)) => add(document, path, value, &mut plan)?,
+        Insertion::Change(Change::AddTable) => add_table(document, path, &mut plan)?,
+        Insertion::Change(Change::Append(value)) => append(document, path, value, &mut plan)?,
+        Insertion::Change(Change::Insert(value)) => {
+            insert(document, path, bare(value), &mut plan)?;
+        }
+        Insertion::Change(_) => return Err(Stop::Fault(Reason::WouldDiffer)),
+        Insertion::Moved(item) => put_moved(document, path, item, &mut plan)?,
+        Insertion::Header => keep_header(document, path, &mut plan)?,
+    }
+    plan.inserted(text)
 }
 
 /// Returns `text` with `change` made at `path`, only by inserting text, and without a comment that is not in `value`.
@@ -120,9 +112,9 @@ fn if_around(text: &str, start: usize, end: usize, new: String) -> Edited<String
     }
 }
 
-/// Returns `text` without the value at `path` and, if `cuts_comments`, without the comment lines directly above it. Also
-/// returns the span that `around` returns for `text` and `old`, its tree. Fails with a reason if the value can't be
-/// removed.
+/// Returns `text` without the value at `path` and, if `cuts_comments`, without the comment lines directly above it.
+/// Also returns the span that `around` returns for `text` and `old`, its tree. Fails with a reason if the value can't
+/// be removed.
 fn removed_around(
     alloc: Global,
     text: &str,
@@ -240,8 +232,8 @@ pub(crate) fn text_without(
     }
 }
 
-/// Returns `text` with `value` inserted: as a section at `place` or, without a place, at `path`, with the tables missing
-/// on the way. At a place, `value` must be an inline table. Fails with a reason if this is not possible.
+/// Returns `text` with `value` inserted: as a section at `place` or, without a place, at `path`, with the tables
+/// missing on the way. At a place, `value` must be an inline table. Fails with a reason if this is not possible.
 fn with_value(
     alloc: Global,
     text: &str,
@@ -265,8 +257,8 @@ fn with_value(
     pieces.inserted(text)
 }
 
-/// Returns `text` with the value at `path` removed, and then `value` inserted as `with_value` does. `old` is the tree of
-/// `text`. Fails with a reason if one of these steps is not possible.
+/// Returns `text` with the value at `path` removed, and then `value` inserted as `with_value` does. `old` is the tree
+/// of `text`. Fails with a reason if one of these steps is not possible.
 fn cut_then_inserted(
     alloc: Global,
     text: &str,
@@ -282,9 +274,9 @@ fn cut_then_inserted(
     with_value(alloc, without.as_str(), path, place, value)
 }
 
-/// Returns `text` with `value` in place of the value at `path`, which headers or dotted keys define. If the value is the
-/// only element of an array of tables, removes the array. `old` is the tree of `text`. Fails with a reason if this is
-/// not possible.
+/// Returns `text` with `value` in place of the value at `path`, which headers or dotted keys define. If the value is
+/// the only element of an array of tables, removes the array. `old` is the tree of `text`. Fails with a reason if this
+/// is not possible.
 fn rewritten_text(
     alloc: Global,
     text: &str,

@@ -1,6 +1,7 @@
 //! Writes a new text from parts of an old text and from new lines.
+use crate::document::Document;
 use crate::lines::{ends_blank, line_end, part};
-use std::alloc::{AllocError, Global};
+use std::alloc::AllocError;
 use toml_span_lex::span::Span;
 
 /// A new text under construction.
@@ -18,11 +19,11 @@ pub(crate) struct Writer<'t> {
 
 impl<'t> Writer<'t> {
     /// Returns a writer that has written nothing yet.
-    pub(crate) fn new(alloc: Global, text: &'t str) -> Self {
+    pub(crate) fn new(document: Document<'t, '_>) -> Self {
         Writer {
-            text,
-            end: line_end(text),
-            out: String::new(alloc),
+            text: document.text,
+            end: line_end(document.text),
+            out: String::new(document.alloc),
             at: 0,
         }
     }
@@ -99,14 +100,14 @@ impl<'t> Writer<'t> {
 
     /// Copies the rest of the old text, and returns the new text. If only blank lines follow the offset `end` in the
     /// old text, leaves out the blank lines at the end of the new text.
-    pub(crate) fn finish_after(self, alloc: Global, end: usize) -> Result<String, AllocError> {
+    pub(crate) fn finish_after(self, end: usize) -> Result<String, AllocError> {
         let is_last = part(self.text, end, self.text.len()).trim().is_empty();
         let line_end = self.end;
         let out = self.finish()?;
         if !is_last || !ends_blank(out.as_str()) {
             return Ok(out);
         }
-        let mut kept = String::from_str(alloc, out.as_str().trim_end())?;
+        let mut kept = String::from_str(*out.allocator(), out.as_str().trim_end())?;
         kept.push_str(line_end)?;
         Ok(kept)
     }

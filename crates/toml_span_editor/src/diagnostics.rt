@@ -263,9 +263,9 @@ fn text_reports<S: Schemas>(
 }
 
 /// Returns the diagnostics of a text, in the order in which `toml-span check` prints reports. For a text with errors,
-/// they are the reports of `check`, and then what `schemas` finds in what can be read, except for what may be wrong. For
-/// valid TOML, they report syntax that `version` lacks, and then what `schemas` finds. `name` is the name of the file.
-/// Fails if an allocation fails.
+/// they are the reports of `check`, and then what `schemas` finds in what can be read, except for what may be wrong.
+/// For valid TOML, they report syntax that `version` lacks, and then what `schemas` finds. `name` is the name of the
+/// file. Fails if an allocation fails.
 pub fn diagnostics<S: Schemas>(
     alloc: Global,
     encoding: Encoding,
@@ -303,9 +303,9 @@ fn reports_without_schema(
     }
 }
 
-/// Returns the diagnostics of a text without a schema, in the order in which `toml-span check` prints reports. For a text
-/// with errors, they are the reports of `check`. For valid TOML, they report syntax that `version` lacks. `name` is the
-/// name of the file. Fails if an allocation fails.
+/// Returns the diagnostics of a text without a schema, in the order in which `toml-span check` prints reports. For a
+/// text with errors, they are the reports of `check`. For valid TOML, they report syntax that `version` lacks. `name`
+/// is the name of the file. Fails if an allocation fails.
 pub fn diagnostics_without_schema(
     alloc: Global,
     encoding: Encoding,

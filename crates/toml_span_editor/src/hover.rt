@@ -93,8 +93,9 @@ fn push_count(out: &mut String, count: usize, word: &str) -> Result<(), AllocErr
     Ok(())
 }
 
-/// Appends the decimal value of an integer, a date (in words) or time, the size of a string or array, or the number of a
-/// table's keys, and the names of the first `MOST` keys. Appends nothing for a float or boolean, or for an integer whose `literal` is its decimal value already.
+/// Appends the decimal value of an integer, a date (in words) or time, the size of a string or array, or the number of
+/// a table's keys, and the names of the first `MOST` keys. Appends nothing for a float or boolean, or for an integer
+/// whose `literal` is its decimal value already.
 fn push_details(value: &Value<'_>, literal: &str, out: &mut String) -> Result<(), AllocError> {
     if let Some(number) = value.as_integer() {
         let number = format!(in *out.allocator(); "{number}")?;
