@@ -7,7 +7,7 @@ use crate::lines::{comments_above, line_start, part, span_of};
 use crate::mentions::{PathMention, mentions_of, part_at};
 use crate::reason::{Edited, Reason};
 use std::alloc::{AllocError, Global};
-use toml_span::value::Key;
+use toml_span::value::{Key, Value};
 use toml_span::{Span, Stop};
 use toml_span_places::with_quotes;
 use toml_span_read::{Assignment, Section, Val, ValKind, read_sections};
@@ -18,6 +18,14 @@ pub(crate) struct Document<'s, 'de> {
     pub alloc: Global,
     pub text: &'s str,
     pub sections: &'s [Section<'de>],
+}
+
+/// A document before an edit: its text and its tree.
+#[derive(Clone, Copy)]
+pub(crate) struct Old<'o, 'de> {
+    pub alloc: Global,
+    pub text: &'o str,
+    pub tree: &'o Value<'de>,
 }
 
 /// Returns the sections of `text`. Fails with `WouldDiffer` if `text` can't be split into sections.

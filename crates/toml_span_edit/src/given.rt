@@ -56,10 +56,11 @@ pub(crate) fn check_value(alloc: Global, value: &str) -> Edited<()> {
 /// meant as a string, the reason suggests it as a string, quoted for a shell. White space, control characters, quotes,
 /// brackets, braces, backslashes, backticks, `#`, `,` and `=` are not part of a word.
 pub(crate) fn no_value(alloc: Global, value: &str) -> Result<Reason, AllocError> {
-    let is_word = value.chars().all(|c| !c.is_whitespace()
-        && !c.is_control()
-        && !"\"'[]{}#,=\\`".contains(c));
-    if value.is_empty() || !is_word {
+    let mut is_word = !value.is_empty();
+    for c in value.chars() {
+        is_word &= !c.is_whitespace() && !c.is_control() && !"\"'[]{}#,=\\`".contains(c);
+    }
+    if !is_word {
         return Ok(Reason::NoValue(None));
     }
     let string = string_text(alloc, value)?;

@@ -75,7 +75,7 @@ pub(crate) fn inline_text(
             Some(given) => same_tree(given, value),
             None => false,
         },
-        Err(Stop::Fault(_)) => false,
+        Err(Stop::Fault(_error)) => false,
         Err(Stop::Memory(error)) => return Err(error),
     };
     if is_same {

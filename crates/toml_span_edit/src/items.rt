@@ -122,11 +122,10 @@ pub(crate) fn cut_items(text: &str, list: &Val<'_>, first: usize, last: usize, p
             return plan.cut(before.end, items.end);
         }
     }
-    let comma = comma_between(text, items.end, end);
-    plan.cut(
-        items.start,
-        comma.map_or(items.end, |comma| comma.saturating_add(1)),
-    );
+    match comma_between(text, items.end, end) {
+        Some(comma) => plan.cut(items.start, comma.saturating_add(1)),
+        None => plan.cut(items.start, items.end),
+    }
 }
 
 /// Adds to `plan` the insertion of `item` into the brackets or braces of `list`, which must have no items. The item
@@ -270,9 +269,9 @@ pub(crate) fn span_above(text: &str, list: &Val<'_>, index: usize) -> Span {
     if !begins_line(text, item.start) {
         return point(item.start);
     }
-    let floor = match index.checked_sub(1) {
-        Some(before) => item_span(text, list, before).map_or(0, |span| span.end),
-        None => list.span.start.saturating_add(1),
+    let floor = match item_span(text, list, index.saturating_sub(1)) {
+        Some(before) if index > 0 => before.end,
+        _ => list.span.start.saturating_add(1),
     };
     let end = line_start(text, item.start);
     span_of(comments_above(text, floor, end), end)
@@ -287,8 +286,10 @@ pub(crate) fn comments_of<'t>(text: &'t str, list: &Val<'_>, index: usize) -> (&
     };
     let above = span_above(text, list, index);
     let stop = line_stop(text, item.end);
-    let comma = comma_between(text, item.end, stop.min(space_end(text, list, index)));
-    let start = comma.map_or(item.end, |comma| comma.saturating_add(1));
+    let start = match comma_between(text, item.end, stop.min(space_end(text, list, index))) {
+        Some(comma) => comma.saturating_add(1),
+        None => item.end,
+    };
     let rest = part(text, start, stop);
     let note = if rest.trim_start().starts_with('#') {
         rest

@@ -271,20 +271,22 @@ pub(crate) fn sections_text(
     is_element: bool,
 ) -> Result<String, AllocError> {
     let (text, mentions) = (document.text, document.mentions(path)?);
-    let has_dotted = mentions
-        .iter()
-        .any(|m| matches!(m, PathMention::Dotted(_, _, _)));
+    let mut needs_header = is_element;
     let mut out = Text::new(document.alloc);
     for mention in &mentions {
-        if let PathMention::Own(section) = mention {
-            let open = section.header_span.start;
-            out.push(part(text, document.above(open), open));
-            push_header(header, is_element, &mut out);
-            let rest = after_header(document, *section, section_lines(text, *section).end);
-            push_lines(document, rest, &mut out);
+        match mention {
+            PathMention::Own(section) => {
+                let open = section.header_span.start;
+                out.push(part(text, document.above(open), open));
+                push_header(header, is_element, &mut out);
+                let rest = after_header(document, *section, section_lines(text, *section).end);
+                push_lines(document, rest, &mut out);
+            }
+            PathMention::Dotted(_, _, _) => needs_header = true,
+            _ => {}
         }
     }
-    if out.len() == 0 && (is_element || has_dotted) {
+    if out.len() == 0 && needs_header {
         push_header(header, is_element, &mut out);
         out.push(line_end(text));
     }

@@ -74,7 +74,10 @@ fn section_of(
 ) -> Result<String, AllocError> {
     let (text, assignment) = (document.text, found.assignment);
     let braces = assignment.value.span;
-    let first = pairs.first().map_or(braces.end, |pair| pair.extent.start);
+    let first = match pairs.first() {
+        Some(pair) => pair.extent.start,
+        None => braces.end,
+    };
     let mut opening = part(text, braces.start, first).split('\n');
     let header_has_comment = opening.next().unwrap_or("").contains('#');
     let line_end = assignment_lines(text, assignment).end;

@@ -6,7 +6,7 @@ ghost use Rattle.toml_span_edit.specs.Kept as spec;
 
 use crate::adding::{add, put_lines};
 use crate::comments::check_comments;
-use crate::document::{Document, sections_of};
+use crate::document::{Document, Old, sections_of};
 use crate::edits::{Change, Edit};
 use crate::given::check_value;
 use crate::growing::{append, insert};
@@ -112,18 +112,13 @@ fn if_around(text: &str, start: usize, end: usize, new: String) -> Edited<String
     }
 }
 
-/// Returns `text` without the value at `path` and, if `cuts_comments`, without the comment lines directly above it.
-/// Also returns the span that `around` returns for `text` and `old`, its tree. Fails with a reason if the value can't
-/// be removed.
-fn removed_around(
-    alloc: Global,
-    text: &str,
-    path: &[&str],
-    cuts_comments: bool,
-    old: &Value<'_>,
-) -> Edited<(String, Span)>
-    ensures { IfOk result (λ cut. spec.IsAround (map (λ s. s.now) path.now) (view old.now) text.now cut.1) }
+/// Returns `old` without the value at `path` and, if `cuts_comments`, without the comment lines directly above it. Also
+/// returns the span that `around` returns for `old`. Fails with a reason if the value can't be removed.
+fn removed_around(old: Old<'_, '_>, path: &[&str], cuts_comments: bool) -> Edited<(String, Span)>
+    ensures { IfOk result (λ cut. spec.IsAround (map (λ s. s.now) path.now) (view old.entry.tree.now) old.entry.text.now
+        cut.1) }
 {
+    let Old { alloc, text, tree } = old;
     let sections = sections_of(alloc, text)?;
     let document = Document {
         alloc,
@@ -133,16 +128,17 @@ fn removed_around(
     let mut pieces = Plan::new(alloc);
     remove(document, path, cuts_comments, &mut pieces)?;
     let new = pieces.applied(text)?;
-    Ok((new, around(document, path, old)?))
+    Ok((new, around(document, path, tree)?))
 }
 
-/// Returns `text` without the value at `path`. `old` is the tree of `text`. Fails with a reason if the value can't be
-/// removed, or if bytes outside the span that `around` returns would change.
-fn cut_text(alloc: Global, text: &str, path: &[&str], old: &Value<'_>) -> Edited<String>
-    ensures { IfOk result (λ new. spec.IsCut (map (λ s. s.now) path.now) (view old.now) text.now (string_bytes new)) }
+/// Returns `old` without the value at `path`. Fails with a reason if the value can't be removed, or if bytes outside
+/// the span that `around` returns would change.
+fn cut_text(old: Old<'_, '_>, path: &[&str]) -> Edited<String>
+    ensures { IfOk result (λ new. spec.IsCut (map (λ s. s.now) path.now) (view old.entry.tree.now) old.entry.text.now
+        (string_bytes new)) }
 {
-    let (new, span) = removed_around(alloc, text, path, false, old)?;
-    if_around(text, span.start, span.end, new)
+    let (new, span) = removed_around(old, path, false)?;
+    if_around(old.text, span.start, span.end, new)
 }
 
 /// Returns the start of the comment lines directly above the byte offset `at`. Without such lines, returns `at`.
@@ -157,15 +153,15 @@ fn comments_from(text: &str, at: usize) -> usize
     at
 }
 
-/// Returns `text` without the value at `path` and the comment lines directly above it. `old` is the tree of `text`.
-/// Fails with a reason if the value can't be removed, or if bytes outside the span that `around` returns, and outside
-/// the comment lines directly above this span, would change.
-fn cut_with_comments(alloc: Global, text: &str, path: &[&str], old: &Value<'_>) -> Edited<String>
-    ensures { IfOk result (λ new. spec.IsCutWithComments (map (λ s. s.now) path.now) (view old.now) text.now
-        (string_bytes new)) }
+/// Returns `old` without the value at `path` and the comment lines directly above it. Fails with a reason if the value
+/// can't be removed, or if bytes outside the span that `around` returns, and outside the comment lines directly above
+/// this span, would change.
+fn cut_with_comments(old: Old<'_, '_>, path: &[&str]) -> Edited<String>
+    ensures { IfOk result (λ new. spec.IsCutWithComments (map (λ s. s.now) path.now) (view old.entry.tree.now)
+        old.entry.text.now (string_bytes new)) }
 {
-    let (new, span) = removed_around(alloc, text, path, true, old)?;
-    if_around(text, comments_from(text, span.start), span.end, new)
+    let (new, span) = removed_around(old, path, true)?;
+    if_around(old.text, comments_from(old.text, span.start), span.end, new)
 }
 
 /// Returns where the section of the element of an array of tables at `path` begins, and whether the array has no other
@@ -200,35 +196,29 @@ fn element_at<'t>(
     })
 }
 
-/// Returns `text` without the array of tables that holds the value at `path`, and with `[]` in its place. `old` is the
-/// tree of `text`. Fails with a reason if this is not possible.
-fn emptied_text(alloc: Global, text: &str, path: &[&str], old: &Value<'_>) -> Edited<String>
-    ensures { IfOk result (λ new. spec.IsEmptied (map (λ s. s.now) path.now) (view old.now) text.now
-        (string_bytes new)) }
+/// Returns `old` without the array of tables that holds the value at `path`, and with `[]` in its place. Fails with a
+/// reason if this is not possible.
+fn emptied_text(old: Old<'_, '_>, path: &[&str]) -> Edited<String>
+    ensures { IfOk result (λ new. spec.IsEmptied (map (λ s. s.now) path.now) (view old.entry.tree.now)
+        old.entry.text.now (string_bytes new)) }
 {
     let [front @ .., _] = path else {
         return Err(Stop::Fault(Reason::Root));
     };
-    let without = cut_with_comments(alloc, text, front, old)?;
+    let without = cut_with_comments(old, front)?;
     let empty = Insertion::Change(Change::SetOrAdd("[]"));
-    inserted_text(alloc, without.as_str(), front, empty)
+    inserted_text(old.alloc, without.as_str(), front, empty)
 }
 
-/// Returns `text` without the value at `path`, and without the comments directly above it. If the value is the only
-/// element of an array of tables, the array becomes `[]`. `old` is the tree of `text`. Fails with a reason if the value
-/// can't be removed.
-pub(crate) fn text_without(
-    alloc: Global,
-    text: &str,
-    path: &[&str],
-    old: &Value<'_>,
-) -> Edited<String>
-    ensures { IfOk result (λ new. spec.IsRemoved (map (λ s. s.now) path.now) (view old.now) text.now
-        (string_bytes new)) }
+/// Returns `old` without the value at `path`, and without the comments directly above it. If the value is the only
+/// element of an array of tables, the array becomes `[]`. Fails with a reason if the value can't be removed.
+pub(crate) fn text_without(old: Old<'_, '_>, path: &[&str]) -> Edited<String>
+    ensures { IfOk result (λ new. spec.IsRemoved (map (λ s. s.now) path.now) (view old.entry.tree.now)
+        old.entry.text.now (string_bytes new)) }
 {
-    match element_at(alloc, text, path)? {
-        Some((_, true)) => emptied_text(alloc, text, path, old),
-        _ => cut_with_comments(alloc, text, path, old),
+    match element_at(old.alloc, old.text, path)? {
+        Some((_, true)) => emptied_text(old, path),
+        _ => cut_with_comments(old, path),
     }
 }
 
@@ -257,66 +247,51 @@ fn with_value(
     pieces.inserted(text)
 }
 
-/// Returns `text` with the value at `path` removed, and then `value` inserted as `with_value` does. `old` is the tree
-/// of `text`. Fails with a reason if one of these steps is not possible.
+/// Returns `old` with the value at `path` removed, and then `value` inserted as `with_value` does. Fails with a reason
+/// if one of these steps is not possible.
 fn cut_then_inserted(
-    alloc: Global,
-    text: &str,
+    old: Old<'_, '_>,
     path: &[&str],
     place: Option<ElementPlace<'_>>,
     value: &str,
-    old: &Value<'_>,
 ) -> Edited<String>
-    ensures { IfOk result (λ new. spec.IsCutThenInserted (map (λ s. s.now) path.now) (view old.now) text.now
-        (string_bytes new)) }
+    ensures { IfOk result (λ new. spec.IsCutThenInserted (map (λ s. s.now) path.now) (view old.entry.tree.now)
+        old.entry.text.now (string_bytes new)) }
 {
-    let without = cut_text(alloc, text, path, old)?;
-    with_value(alloc, without.as_str(), path, place, value)
+    let without = cut_text(old, path)?;
+    with_value(old.alloc, without.as_str(), path, place, value)
 }
 
-/// Returns `text` with `value` in place of the value at `path`, which headers or dotted keys define. If the value is
-/// the only element of an array of tables, removes the array. `old` is the tree of `text`. Fails with a reason if this
-/// is not possible.
-fn rewritten_text(
-    alloc: Global,
-    text: &str,
-    path: &[&str],
-    value: &str,
-    old: &Value<'_>,
-) -> Edited<String>
-    ensures { IfOk result (λ new. spec.IsRewritten (map (λ s. s.now) path.now) (view old.now) text.now
-        (string_bytes new)) }
+/// Returns `old` with `value` in place of the value at `path`, which headers or dotted keys define. If the value is the
+/// only element of an array of tables, removes the array. Fails with a reason if this is not possible.
+fn rewritten_text(old: Old<'_, '_>, path: &[&str], value: &str) -> Edited<String>
+    ensures { IfOk result (λ new. spec.IsRewritten (map (λ s. s.now) path.now) (view old.entry.tree.now)
+        old.entry.text.now (string_bytes new)) }
 {
     let [front @ .., _] = path else {
         return Err(Stop::Fault(Reason::Root));
     };
-    match element_at(alloc, text, path)? {
-        Some((place, true)) => cut_then_inserted(alloc, text, front, Some(place), value, old),
-        Some((place, false)) => cut_then_inserted(alloc, text, path, Some(place), value, old),
-        None => cut_then_inserted(alloc, text, path, None, value, old),
+    match element_at(old.alloc, old.text, path)? {
+        Some((place, true)) => cut_then_inserted(old, front, Some(place), value),
+        Some((place, false)) => cut_then_inserted(old, path, Some(place), value),
+        None => cut_then_inserted(old, path, None, value),
     }
 }
 
-/// Returns `text` with `value` in place of the value at `path`, which headers or dotted keys may define. `old` is the
-/// tree of `text`. Fails with a reason if this is not possible, and with `WouldDiffer` if the result has a comment that
-/// is neither in `text` nor in `value`.
-fn replaced_text(
-    alloc: Global,
-    text: &str,
-    path: &[&str],
-    value: &str,
-    old: &Value<'_>,
-) -> Edited<String>
-    ensures { IfOk result (λ new.
-        (spec.IsWrittenOver value.now (map (λ s. s.now) path.now) (view old.now) text.now (string_bytes new))
-        ⊎ ((spec.IsRewritten (map (λ s. s.now) path.now) (view old.now) text.now (string_bytes new))
-        × (AddsNoComment value.now text.now (string_bytes new)))) }
+/// Returns `old` with `value` in place of the value at `path`, which headers or dotted keys may define. Fails with a
+/// reason if this is not possible, and with `WouldDiffer` if the result has a comment that is neither in `old` nor in
+/// `value`.
+fn replaced_text(old: Old<'_, '_>, path: &[&str], value: &str) -> Edited<String>
+    ensures { IfOk result (λ new. (spec.IsWrittenOver value.now (map (λ s. s.now) path.now) (view old.entry.tree.now)
+        old.entry.text.now (string_bytes new)) ⊎ ((spec.IsRewritten (map (λ s. s.now) path.now) (view
+        old.entry.tree.now) old.entry.text.now (string_bytes new)) × (AddsNoComment value.now old.entry.text.now
+        (string_bytes new)))) }
 {
-    match how_written(alloc, text, path, value, old)? {
-        Written::Literal => write_over(alloc, text, path, value, old),
+    match how_written(old, path, value)? {
+        Written::Literal => write_over(old, path, value),
         _ => {
-            let new = rewritten_text(alloc, text, path, value, old)?;
-            check_comments(alloc, value, text, new.as_str())?;
+            let new = rewritten_text(old, path, value)?;
+            check_comments(old.alloc, value, old.text, new.as_str())?;
             Ok(new)
         }
     }
@@ -352,10 +327,10 @@ fn site_of(
     target: &[&str],
     is_table: bool,
 ) -> Edited<Option<Site>> {
-    let is_braced = document.mentions(path)?.iter().any(|m| matches!(
-        m,
-        PathMention::Dotted(_, _, Home::Braces(_, _))
-    ));
+    let mut is_braced = false;
+    for mention in document.mentions(path)? {
+        is_braced |= matches!(mention, PathMention::Dotted(_, _, Home::Braces(_, _)));
+    }
     let sections = sections_of(document.alloc, without)?;
     let rest = Document {
         alloc: document.alloc,
@@ -398,15 +373,15 @@ fn sections_moved(
         ⊎ (spec.HasOtherHeaders document.entry.text.now (string_bytes new))) }
 {
     let header = site.header.as_str();
-    let are_headers = document
-        .mentions(path)?
-        .iter()
-        .all(|mention| match mention {
+    let mut only_headers = site.is_plain;
+    for mention in document.mentions(path)? {
+        only_headers &= match mention {
             PathMention::Own(section) => !section.array,
             PathMention::Below(_, _) => true,
             _ => false,
-        });
-    if site.is_plain && are_headers {
+        };
+    }
+    if only_headers {
         return renamed_headers(document.alloc, document.text, path, header);
     }
     let lines = sections_text(document, path, header, site.is_element)?;
@@ -436,22 +411,21 @@ fn new_name<'t>(
     Ok(Some(*name))
 }
 
-/// Returns `text` with the value `value` at `path` moved to `target`. `old` is the tree of `text`, and `without` what
-/// `text_without` returned for `text` and `path`. Fails with a reason if the value can't be moved.
+/// Returns `old` with the value `value` at `path` moved to `target`. `without` is what `text_without` returned for
+/// `path`. Fails with a reason if the value can't be moved.
 pub(crate) fn moved_text(
-    alloc: Global,
-    text: &str,
+    old: Old<'_, '_>,
     without: &str,
     path: &[&str],
     target: &[&str],
     value: &Value<'_>,
-    old: &Value<'_>,
 ) -> Edited<String>
     ensures { IfOk result (λ new. (spec.IsInserted without.now (string_bytes new))
-        ⊎ ((spec.HasOtherHeaders text.now (string_bytes new))
-        ⊎ (spec.HasOtherKey (map (λ s. s.now) path.now) text.now (string_bytes new)))) }
+        ⊎ ((spec.HasOtherHeaders old.entry.text.now (string_bytes new))
+        ⊎ (spec.HasOtherKey (map (λ s. s.now) path.now) old.entry.text.now (string_bytes new)))) }
 {
-    if let Some(name) = new_name(alloc, path, target, old)? {
+    let Old { alloc, text, tree } = old;
+    if let Some(name) = new_name(alloc, path, target, tree)? {
         return renamed_text(alloc, text, path, name);
     }
     let sections = sections_of(alloc, text)?;
@@ -471,30 +445,24 @@ pub(crate) fn moved_text(
 
 // ---- changes
 
-/// Returns `text` with `edit` made. `old` is the tree of `text`. Fails with a reason if `edit` can't be made, and with
-/// `WouldDiffer` if it is a move.
-pub(crate) fn edited_text(
-    alloc: Global,
-    text: &str,
-    edit: Edit<'_>,
-    old: &Value<'_>,
-) -> Edited<String>
+/// Returns `old` with `edit` made. Fails with a reason if `edit` can't be made, and with `WouldDiffer` if it is a move.
+pub(crate) fn edited_text(old: Old<'_, '_>, edit: Edit<'_>) -> Edited<String>
     ensures { IfOk result (λ new. spec.Keeps edit.entry.change (map (λ s. s.now) edit.entry.path.now)
-        (view old.now) text.now (string_bytes new)) }
+        (view old.entry.tree.now) old.entry.text.now (string_bytes new)) }
 {
-    let Edit { path, change } = edit;
+    let (Old { alloc, text, tree }, Edit { path, change }) = (old, edit);
     match change {
-        Change::Set(value) => set_text(alloc, text, path, value, old),
-        Change::Replace(value) => replaced_text(alloc, text, path, value, old),
+        Change::Set(value) => set_text(old, path, value),
+        Change::Replace(value) => replaced_text(old, path, value),
         Change::SetOrAdd(value) => {
-            if value_at(path, old).is_none() {
+            if value_at(path, tree).is_none() {
                 return added_text(alloc, text, path, change, value);
             }
-            set_text(alloc, text, path, value, old)
+            set_text(old, path, value)
         }
         Change::Rename(name) => renamed_text(alloc, text, path, name),
         Change::Remove => {
-            let new = text_without(alloc, text, path, old)?;
+            let new = text_without(old, path)?;
             check_comments(alloc, "", text, new.as_str())?;
             Ok(new)
         }

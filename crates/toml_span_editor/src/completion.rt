@@ -3,8 +3,8 @@ ghost use Rattle.std.specs.Prelude.{◌≡◌, ◌≤◌, IfOk, false, length};
 
 use crate::context::{Context, ExpectedText, NamedStep, context_at};
 use crate::document::{Document, read};
-use crate::keys::value_of;
-use crate::schemas::subschemas_at;
+use crate::keys::{has_key, value_of};
+use crate::schemas::{has_text, subschemas_at};
 use crate::siblings::{booleans, sibling_keys};
 use crate::suggestions::{key_suggestions, value_suggestions};
 use crate::syntax::Syntax;
@@ -91,6 +91,13 @@ pub(crate) struct Outer<'d, 's, 'p, 't> {
     pub(crate) written: &'s [String],
 }
 
+impl Outer<'_, '_, '_, '_> {
+    /// Returns whether the table has the key `name`, whether or not it can be read.
+    pub(crate) fn has(self, name: &str) -> bool {
+        has_key(self.own, name) || has_text(self.written, name)
+    }
+}
+
 /// Returns whether `label` has the bytes of `front` in order, in either case, with others between them.
 fn is_matched(front: &str, label: &str) -> bool {
     let mut left = front.as_bytes();
@@ -149,7 +156,7 @@ fn site_of<'t>(text: &'t str, context: &Context<'t>, at: usize) -> Option<Site<'
     Some(Site {
         expected: context.expected,
         typed,
-        front: front.trim_start_matches(|c| c == '"' || c == '\''),
+        front: front.trim_start_matches(['"', '\'']),
         rest: context.rest,
         is_tight: is_new && text.get(..at)?.ends_with('='),
         is_followed: context.is_followed,

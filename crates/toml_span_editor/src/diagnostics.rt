@@ -340,9 +340,10 @@ fn edits_of(alloc: Global, replacements: &[Replacement]) -> Result<Vec<Edit>, Al
 
 /// Returns the title of a repair whose report has this help: "write `a`" for "did you mean `a`?", otherwise the help.
 fn title_of(alloc: Global, help: &str) -> Result<String, AllocError> {
-    let meant = help
-        .strip_prefix("did you mean ")
-        .and_then(|rest| rest.strip_suffix('?'));
+    let meant = match help.strip_prefix("did you mean ") {
+        Some(rest) => rest.strip_suffix('?'),
+        None => None,
+    };
     match meant {
         Some(meant) => format!(in alloc; "write {meant}"),
         None => String::from_str(alloc, help),

@@ -38,8 +38,7 @@ fn push_comments(text: &str, pieces: &[Piece], folds: &mut Vec<Fold>) -> Result<
             continue;
         }
         let between = text.get(group.end..start).unwrap_or("");
-        let is_next_line = between.trim().is_empty()
-            && between.chars().filter(|c| *c == '\n').count() == 1;
+        let is_next_line = between.trim().is_empty() && between.split('\n').count() == 2;
         if is_next_line && group.start < group.end {
             group.end = end;
         } else {

@@ -52,9 +52,7 @@ fn part(text: &str, from: usize, to: usize) -> &str {
 /// Appends a time, with its offset from UTC if there is one.
 fn push_time(time: &str, out: &mut String) -> Result<(), AllocError> {
     let is_utc = time.ends_with('Z') || time.ends_with('z');
-    let local = time
-        .find(|c| matches!(c, 'Z' | 'z' | '+' | '-'))
-        .unwrap_or(time.len());
+    let local = time.find(['Z', 'z', '+', '-']).unwrap_or(time.len());
     out.push_str(part(time, 0, local))?;
     if is_utc {
         out.push_str(" UTC")?;

@@ -28,6 +28,16 @@ pub(crate) fn subschemas_at(
     Ok(found)
 }
 
+/// Returns whether one of `texts` is `text`.
+pub(crate) fn has_text(texts: &[String], text: &str) -> bool {
+    for other in texts {
+        if other.as_str() == text {
+            return true;
+        }
+    }
+    false
+}
+
 /// Returns the values of `enum` and `const` in the subschemas, each once, as TOML.
 pub(crate) fn listed_values(
     alloc: Global,
@@ -38,7 +48,7 @@ pub(crate) fn listed_values(
     for note in guide.notes_of(alloc, found)? {
         for value in &note.values {
             let value = to_toml(alloc, value)?;
-            if !values.iter().any(|other| other.as_str() == value.as_str()) {
+            if !has_text(values.as_slice(), value.as_str()) {
                 values.push(value)?;
             }
         }
@@ -76,11 +86,7 @@ pub(crate) fn is_deprecated(
 
 /// Appends a paragraph, or nothing if `text` is empty or one of the paragraphs already.
 fn push_paragraph(paragraphs: &mut Vec<String>, text: String) -> Result<(), AllocError> {
-    if !text.is_empty()
-        && !paragraphs
-            .iter()
-            .any(|other| other.as_str() == text.as_str())
-    {
+    if !text.is_empty() && !has_text(paragraphs.as_slice(), text.as_str()) {
         paragraphs.push(text)?;
     }
     Ok(())

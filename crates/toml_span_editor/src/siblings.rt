@@ -3,7 +3,7 @@ ghost use Rattle.std.specs.Prelude.{◌≡◌, IfOk};
 ghost use Rattle.toml_span_editor.specs.Completions.{Replace};
 
 use crate::completion::{Outer, Site, Suggestion, SuggestionKind};
-use crate::keys::{has_key, value_of};
+use crate::keys::value_of;
 use crate::suggestions::{is_assigned, snippet_of, value_suggestion};
 use std::alloc::{AllocError, Global};
 use toml_span::Value;
@@ -36,9 +36,7 @@ fn push_keys<'v, 't>(
     };
     for (key, value) in table.iter() {
         let name = key.name.as_ref();
-        let is_written = has_key(outer.own, name)
-            || outer.written.iter().any(|other| other.as_str() == name);
-        let is_new = !is_written && !found.iter().any(|other| other.name == name);
+        let is_new = !outer.has(name) && !found.iter().any(|other| other.name == name);
         if is_new && found.len() < MOST {
             found.push(Sibling { name, value })?;
         }

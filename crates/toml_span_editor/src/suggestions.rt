@@ -283,9 +283,7 @@ fn new_names<'s>(
 ) -> Result<Vec<&'s str>, AllocError> {
     let mut names = Vec::new(alloc);
     for name in guide.keys_of(alloc, table)? {
-        let is_written = has_key(outer.own, name)
-            || outer.written.iter().any(|other| other.as_str() == name);
-        if site.expected != ExpectedText::Key || !is_written {
+        if site.expected != ExpectedText::Key || !outer.has(name) {
             names.push(name)?;
         }
     }
@@ -306,7 +304,10 @@ pub(crate) fn key_suggestions(
     let (names, is_incomplete) = narrowed(alloc, names, site)?;
     let mut suggestions = Vec::new(alloc);
     for name in names {
-        let value = outer.own.and_then(|own| child(own, Step::Key(name)));
+        let value = match outer.own {
+            Some(own) => child(own, Step::Key(name)),
+            None => None,
+        };
         let inner = guide.subschemas_inside(alloc, table, Step::Key(name), value)?;
         let ends = site.expected == ExpectedText::Key
             || !site.rest.starts_with('.')

@@ -33,8 +33,10 @@ fn literal_meaning(text: &str) -> Option<Meaning> {
     match text {
         "true" | "false" => Some(Meaning::Boolean),
         "inf" | "nan" => Some(Meaning::Number),
-        _ if text.starts_with(|c| matches!(c, '0'..='9' | '+' | '-')) => Some(Meaning::Number),
-        _ => None,
+        _ => match text.as_bytes().first() {
+            Some(b'0'..=b'9' | b'+' | b'-') => Some(Meaning::Number),
+            _ => None,
+        },
     }
 }
 
