@@ -3,13 +3,12 @@ ghost use Rattle.std.specs.Prelude.{IfOk, IfSome, map, string_bytes};
 ghost use Rattle.toml_span_read.specs.Data.{parsed_section};
 ghost use Rattle.toml_span_edit.specs.Converted.{HasOtherForm, IsConverted};
 
-use crate::arrays::array_laid_out;
 use crate::conversions::{Conversion, Proposal};
 use crate::document::Document;
-use crate::dotted::dotted_to_section;
+use crate::flat::array_laid_out;
 use crate::forms::{is_converted, with_array};
 use crate::sections::section_to_inline;
-use crate::tables::inline_to_section;
+use crate::tables::{dotted_to_section, inline_to_section};
 use crate::unchanged::validated;
 use std::alloc::{AllocError, Global};
 use toml_span_format::{permuted_comments, same_document};

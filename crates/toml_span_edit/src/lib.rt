@@ -3,18 +3,15 @@
 #![tactic(auto)]
 
 mod adding;
-mod arrays;
 mod comments;
 mod conversions;
 mod convert;
 mod document;
-mod dotted;
 mod draft;
 mod edits;
 mod flat;
 mod forms;
 mod given;
-mod growing;
 mod headed;
 mod inlined;
 mod items;

@@ -1,8 +1,7 @@
 //! Moves values to other paths.
 use crate::adding::names_array;
 use crate::document::{Document, written};
-use crate::growing::insert;
-use crate::headed::{ElementPlace, element_place};
+use crate::headed::{ElementPlace, element_place, insert};
 use crate::items::{Item, comments_of};
 use crate::lines::{is_apart, line_end, line_start, line_stop, part, point};
 use crate::mentions::{Home, PathMention, last_part, part_at};

@@ -7,35 +7,21 @@ ghost use Rattle.toml_span_tree.specs.Value.{view};
 
 use crate::document::Document;
 use crate::keys::{key_at, value_of};
-use crate::paths::{dotted, pointer};
 use crate::schemas::{documentation, subschemas_at};
 use std::alloc::{AllocError, Global};
 use std::fmt::Write;
 use toml_span::Value;
 use toml_span::value::Step;
 use toml_span_lex::span::Span;
-use toml_span_places::{key_places, literal_span, node_at};
+use toml_span_places::{key_places, literal_span, node_at, quote_key};
 use toml_span_schema::Guide;
 
 /// The maximum number of keys to list.
 const MOST: usize = 12;
 
-/// The names of the months, from 1 to 12.
-const MONTHS: [&str; 13] = [
-    "",
-    "January",
-    "February",
-    "March",
-    "April",
-    "May",
-    "June",
-    "July",
-    "August",
-    "September",
-    "October",
-    "November",
-    "December",
-];
+/// The names of the months, each after a blank.
+const MONTHS: &str =
+    " January February March April May June July August September October November December";
 
 /// The span of a key or value, and its description in Markdown.
 #[derive(Drop)]
@@ -72,7 +58,7 @@ fn push_date(date: &str, out: &mut String) -> Result<(), AllocError> {
     let month = month.parse::<usize>().unwrap_or(0);
     out.push_str(day.strip_prefix('0').unwrap_or(day))?;
     out.push(' ')?;
-    out.push_str(MONTHS.get(month).copied().unwrap_or(""))?;
+    out.push_str(MONTHS.split(' ').nth(month).unwrap_or(""))?;
     out.push(' ')?;
     out.push_str(part(date, 0, 4))?;
     if date.len() > 11 {
@@ -131,6 +117,36 @@ fn push_paragraph(out: &mut String, text: &str) -> Result<(), AllocError> {
         out.push_str("\n\n")?;
     }
     out.push_str(text)
+}
+
+/// Returns a path as a pointer, such as `/a/0/b`. Names are not escaped.
+fn pointer(alloc: Global, path: &[Step<'_>]) -> Result<String, AllocError> {
+    let mut out = String::new(alloc);
+    for step in path {
+        out.push('/')?;
+        match *step {
+            Step::Key(name) => out.push_str(name)?,
+            Step::Position(at) => write!(out, "{at}")?,
+        }
+    }
+    Ok(out)
+}
+
+/// Returns a path as a dotted key with positions in brackets, such as `a[0].b`.
+fn dotted(alloc: Global, path: &[Step<'_>]) -> Result<String, AllocError> {
+    let mut out = String::new(alloc);
+    for step in path {
+        match *step {
+            Step::Key(name) => {
+                if !out.is_empty() {
+                    out.push('.')?;
+                }
+                out.push_str(quote_key(alloc, name)?.as_str())?;
+            }
+            Step::Position(at) => write!(out, "[{at}]")?,
+        }
+    }
+    Ok(out)
 }
 
 /// Appends the `path` and the kind of `value`, and the details that `push_details` appends. `text` is the source of the

@@ -103,17 +103,6 @@ impl Walk {
         Ok(())
     }
 
-    /// Takes `[`: it opens an array, or a header at the start of a statement.
-    fn take_bracket(&mut self, at: usize) -> Result<(), AllocError> {
-        match self.next {
-            Next::Value => return self.open(at, false),
-            Next::Key if self.path.is_empty() && self.opened.is_empty() => self.next = Next::Header,
-            Next::Header if self.path.is_empty() => self.is_in_array = true,
-            _ => (),
-        }
-        Ok(())
-    }
-
     /// Takes a comma: the next key of an inline table or the next element of an array follows.
     fn take_comma(&mut self) -> Result<(), AllocError> {
         let Some(mut opened) = self.opened.pop() else {
@@ -131,10 +120,18 @@ impl Walk {
         Ok(())
     }
 
-    /// Takes the mark `mark`. `]` or `}` closes the innermost inline table or array, or the header.
+    /// Takes the mark `mark`. `[` opens an array, or a header at the start of a statement. `]` or `}` closes the
+    /// innermost inline table or array, or the header.
     fn take_mark(&mut self, at: usize, mark: u8) -> Result<(), AllocError> {
         match mark {
-            b'[' => return self.take_bracket(at),
+            b'[' => match self.next {
+                Next::Value => return self.open(at, false),
+                Next::Key if self.path.is_empty() && self.opened.is_empty() => {
+                    self.next = Next::Header;
+                }
+                Next::Header if self.path.is_empty() => self.is_in_array = true,
+                _ => (),
+            },
             b'{' if self.next == Next::Value => return self.open(at, true),
             b',' => return self.take_comma(),
             b']' | b'}' => {
