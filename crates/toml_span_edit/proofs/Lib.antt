@@ -5,3 +5,4 @@ pub mod Refusals
 pub mod Retried
 pub mod Steps
 pub mod EditedAt
+pub mod FormLemmas

@@ -8,3 +8,4 @@ pub mod Reasons
 pub mod Refused
 pub mod Drafts
 pub mod Listed
+pub mod Converted

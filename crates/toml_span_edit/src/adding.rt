@@ -198,7 +198,17 @@ pub(crate) fn put_entry(
         EntrySite::Dotted(assignment, index, home) => {
             let table = document.dotted_text(assignment, index);
             let key = joined(document.alloc, table, ".", key)?;
-            return put_sibling(document, assignment, home, key.as_str(), item, plan);
+            let key = key.as_str();
+            match home {
+                Home::Lines => {
+                    let front = indent(text, assignment.extent.start);
+                    let at = assignment_lines(text, assignment).end;
+                    put_line(text, at, front, key, item, plan);
+                }
+                Home::Braces(list, pair) => {
+                    return put_pair(document, list, pair.saturating_add(1), key, item, plan);
+                }
+            }
         }
         EntrySite::Braces(list) => {
             return put_pair(document, list, count_of(list), key, item, plan);
@@ -215,43 +225,6 @@ pub(crate) fn put_entry(
     Ok(())
 }
 
-/// Adds to `plan` the insertion of an entry with the dotted key `key` and the value `item` after `assignment`. `home`
-/// says where `assignment` is written.
-fn put_sibling(
-    document: Document<'_, '_>,
-    assignment: &Assignment<'_>,
-    home: Home<'_, '_>,
-    key: &str,
-    item: Item<'_>,
-    plan: &mut Plan,
-) -> Result<(), AllocError> {
-    let text = document.text;
-    match home {
-        Home::Lines => {
-            let front = indent(text, assignment.extent.start);
-            let at = assignment_lines(text, assignment).end;
-            put_line(text, at, front, key, item, plan);
-            Ok(())
-        }
-        Home::Braces(list, index) => {
-            put_pair(document, list, index.saturating_add(1), key, item, plan)
-        }
-    }
-}
-
-/// Returns where an entry of the root can be written. `mentions` are the mentions of the root.
-fn root_entry_site<'s, 'de>(mentions: &[PathMention<'s, 'de>]) -> EntrySite<'s, 'de> {
-    let Some(first) = mentions.first() else {
-        return EntrySite::Top;
-    };
-    match *first {
-        PathMention::Own(section) if section.header.as_slice().is_empty() => EntrySite::Body(
-            section,
-        ),
-        _ => EntrySite::Top,
-    }
-}
-
 /// Returns where an entry of the table at `path` can be written. Fails with `Nothing` if `path` names nothing, and with
 /// `NoTable` if the value there is not a table.
 pub(crate) fn table_entry_site<'s, 'de>(
@@ -260,7 +233,12 @@ pub(crate) fn table_entry_site<'s, 'de>(
 ) -> Edited<EntrySite<'s, 'de>> {
     let mentions = document.mentions(path)?;
     if path.is_empty() {
-        return Ok(root_entry_site(mentions.as_slice()));
+        return Ok(match mentions.as_slice().first() {
+            Some(PathMention::Own(section)) if section.header.as_slice().is_empty() => {
+                EntrySite::Body(*section)
+            }
+            _ => EntrySite::Top,
+        });
     }
     match entry_site(mentions.as_slice()) {
         Some(target) => Ok(target),

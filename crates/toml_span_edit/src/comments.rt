@@ -9,28 +9,6 @@ use std::alloc::{AllocError, Global};
 use toml_span::Stop;
 use toml_span_syntax::pieces::{Kind, Piece, pieces};
 
-/// Returns whether a piece of this kind is a comment.
-fn is_comment(kind: Kind) -> bool
-    ensures { result ≡ spec.is_comment kind }
-{
-    matches!(kind, Kind::Comment)
-}
-
-/// Appends the comment that a piece is. Appends nothing if the piece is no comment.
-fn push_comment<'t>(
-    found: &mut Vec<&'t [u8]>,
-    text: &'t str,
-    piece: Piece,
-) -> Result<(), AllocError>
-    ensures { OnOk result (map (λ t. t.now) found.new.items
-        ≡ map (λ t. t.now) found.old.items ++ spec.comment text.now piece) }
-{
-    if is_comment(piece.kind) {
-        found.push(bytes_of(text, piece.start, piece.end))?;
-    }
-    Ok(())
-}
-
 /// Appends the comments among these pieces of `text`.
 fn push_comments<'t>(
     found: &mut Vec<&'t [u8]>,
@@ -41,7 +19,9 @@ fn push_comments<'t>(
         ≡ map (λ t. t.now) found.old.items ++ spec.comments text.now pieces.now) }
 {
     for piece in pieces {
-        push_comment(found, text, *piece)?;
+        if matches!(piece.kind, Kind::Comment) {
+            found.push(bytes_of(text, piece.start, piece.end))?;
+        }
     }
     Ok(())
 }

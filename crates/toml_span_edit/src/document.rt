@@ -7,7 +7,7 @@ use crate::lines::{comments_above, line_start, part, span_of};
 use crate::mentions::{PathMention, mentions_of, part_at};
 use crate::reason::{Edited, Reason};
 use std::alloc::{AllocError, Global};
-use toml_span::value::Key;
+use toml_span::value::{Key, Value};
 use toml_span::{Span, Stop};
 use toml_span_places::with_quotes;
 use toml_span_read::{Assignment, Section, Val, ValKind, read_sections};
@@ -18,6 +18,14 @@ pub(crate) struct Document<'s, 'de> {
     pub alloc: Global,
     pub text: &'s str,
     pub sections: &'s [Section<'de>],
+}
+
+/// A document before an edit: its text and its tree.
+#[derive(Clone, Copy)]
+pub(crate) struct Old<'o, 'de> {
+    pub alloc: Global,
+    pub text: &'o str,
+    pub tree: &'o Value<'de>,
 }
 
 /// Returns the sections of `text`. Fails with `WouldDiffer` if `text` can't be split into sections.
@@ -39,20 +47,16 @@ pub(crate) fn written<'s, 'de>(mentions: &[PathMention<'s, 'de>]) -> Option<&'s 
     for mention in mentions {
         match *mention {
             PathMention::Assigned(assignment, _) => return Some(&assignment.value),
-            PathMention::Element(list, index) => return element_of(list, index),
+            PathMention::Element(list, index) => {
+                return match &list.kind {
+                    ValKind::Array(items) => items.get(index),
+                    _ => None,
+                };
+            }
             _ => {}
         }
     }
     None
-}
-
-/// Returns the element at `index` of the array `list`. Returns `None` if `list` is not an array, or has no such
-/// element.
-fn element_of<'s, 'de>(list: &'s Val<'de>, index: usize) -> Option<&'s Val<'de>> {
-    match &list.kind {
-        ValKind::Array(items) => items.get(index),
-        _ => None,
-    }
 }
 
 impl<'s, 'de> Document<'s, 'de> {
@@ -96,28 +100,23 @@ impl<'s, 'de> Document<'s, 'de> {
         part(self.text, first.start, last.end)
     }
 
-    /// Returns the end of the last header, or assignment on lines, that begins before the byte offset `at`, the start
-    /// of a line. Returns 0 if there is none.
-    fn floor(&self, at: usize) -> usize {
-        let mut floor: usize = 0;
-        for section in self.sections {
-            if section.extent.start >= at {
-                return floor;
-            }
-            floor = section.header_span.end;
-            for assignment in &section.assignments {
-                if assignment.extent.start < at {
-                    floor = assignment.extent.end;
-                }
-            }
-        }
-        floor
-    }
-
     /// Returns the start of the comment lines directly above the line of the byte offset `offset`, where a header or an
     /// assignment begins. Without such lines, returns the start of that line.
     pub(crate) fn above(&self, offset: usize) -> usize {
         let start = line_start(self.text, offset);
-        comments_above(self.text, self.floor(start), start)
+        // The end of the last header, or assignment on lines, that begins before `start`.
+        let mut floor: usize = 0;
+        for section in self.sections {
+            if section.extent.start >= start {
+                break;
+            }
+            floor = section.header_span.end;
+            for assignment in &section.assignments {
+                if assignment.extent.start < start {
+                    floor = assignment.extent.end;
+                }
+            }
+        }
+        comments_above(self.text, floor, start)
     }
 }

@@ -95,8 +95,8 @@ fn segments_of<'p>(
     }
 }
 
-/// Returns `text` with `change` made at the path of these segments. Fails with the reason, with `index`, the position of
-/// the edit, and with `path` if the change is refused.
+/// Returns `text` with `change` made at the path of these segments. Fails with the reason, with `index`, the position
+/// of the edit, and with `path` if the change is refused.
 #[tactic(auto, using(crate::proofs::Refusals::refused_as))]
 fn made_at<'e>(
     alloc: Global,

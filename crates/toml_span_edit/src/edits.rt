@@ -78,7 +78,8 @@ impl Display for EditError {
 
 impl std::error::Error for EditError {}
 
-/// A list of edits, which `finish` makes one after the other.
+/// A list of edits, which `finish` makes one after the other. The methods that append an edit fail if an allocation
+/// fails; the list is then unchanged.
 #[derive(Drop)]
 pub struct Edits<'e> {
     alloc: Global,
@@ -100,7 +101,7 @@ impl<'e> Edits<'e> {
         }
     }
 
-    /// Appends an edit. Fails if an allocation fails; the list is then unchanged.
+    /// Appends an edit.
     pub fn push(&mut self, edit: Edit<'e>) -> Result<(), AllocError>
         ensures { Pushed edit.entry self.old result self.new }
     {
@@ -115,8 +116,7 @@ impl<'e> Edits<'e> {
         self.push(Edit { path, change })
     }
 
-    /// Appends `Change::Set`: replaces the value at `path` with `value`. Fails if an allocation fails; the list is then
-    /// unchanged.
+    /// Appends `Change::Set`: replaces the value at `path` with `value`.
     pub fn set(&mut self, path: &'e [&'e str], value: &'e str) -> Result<(), AllocError>
         ensures { Pushed (record { path = path.entry; change = changes.Set value.entry }) self.old result self.new }
     {
@@ -124,7 +124,6 @@ impl<'e> Edits<'e> {
     }
 
     /// Appends `Change::Replace`: replaces the value at `path`, which headers or dotted keys may define, with `value`.
-    /// Fails if an allocation fails; the list is then unchanged.
     pub fn replace(&mut self, path: &'e [&'e str], value: &'e str) -> Result<(), AllocError>
         ensures { Pushed (record { path = path.entry; change = changes.Replace value.entry }) self.old result self.new }
     {
@@ -132,7 +131,6 @@ impl<'e> Edits<'e> {
     }
 
     /// Appends `Change::SetOrAdd`: replaces the value at `path` with `value`, or adds `value` if `path` names nothing.
-    /// Fails if an allocation fails; the list is then unchanged.
     pub fn set_or_add(&mut self, path: &'e [&'e str], value: &'e str) -> Result<(), AllocError>
         ensures { Pushed (record { path = path.entry; change = changes.SetOrAdd value.entry }) self.old result
             self.new }
@@ -140,39 +138,35 @@ impl<'e> Edits<'e> {
         self.change(path, Change::SetOrAdd(value))
     }
 
-    /// Appends `Change::Rename`: renames the key at `path` to `name`. Fails if an allocation fails; the list is then
-    /// unchanged.
+    /// Appends `Change::Rename`: renames the key at `path` to `name`.
     pub fn rename(&mut self, path: &'e [&'e str], name: &'e str) -> Result<(), AllocError>
         ensures { Pushed (record { path = path.entry; change = changes.Rename name.entry }) self.old result self.new }
     {
         self.change(path, Change::Rename(name))
     }
 
-    /// Appends `Change::Remove`: removes the value at `path`. Fails if an allocation fails; the list is then unchanged.
+    /// Appends `Change::Remove`: removes the value at `path`.
     pub fn remove(&mut self, path: &'e [&'e str]) -> Result<(), AllocError>
         ensures { Pushed (record { path = path.entry; change = changes.Remove }) self.old result self.new }
     {
         self.change(path, Change::Remove)
     }
 
-    /// Appends `Change::Add`: adds `value` to an existing table, at `path`, which must name nothing. Fails if an
-    /// allocation fails; the list is then unchanged.
+    /// Appends `Change::Add`: adds `value` to an existing table, at `path`, which must name nothing.
     pub fn add(&mut self, path: &'e [&'e str], value: &'e str) -> Result<(), AllocError>
         ensures { Pushed (record { path = path.entry; change = changes.Add value.entry }) self.old result self.new }
     {
         self.change(path, Change::Add(value))
     }
 
-    /// Appends `Change::AddTable`: adds an empty table at `path`, which must name nothing. Fails if an allocation
-    /// fails; the list is then unchanged.
+    /// Appends `Change::AddTable`: adds an empty table at `path`, which must name nothing.
     pub fn add_table(&mut self, path: &'e [&'e str]) -> Result<(), AllocError>
         ensures { Pushed (record { path = path.entry; change = changes.AddTable }) self.old result self.new }
     {
         self.change(path, Change::AddTable)
     }
 
-    /// Appends `Change::Append`: adds the element `value` at the end of the array at `path`. Fails if an allocation
-    /// fails; the list is then unchanged.
+    /// Appends `Change::Append`: adds the element `value` at the end of the array at `path`.
     pub fn append(&mut self, path: &'e [&'e str], value: &'e str) -> Result<(), AllocError>
         ensures { Pushed (record { path = path.entry; change = changes.Append value.entry }) self.old result self.new }
     {
@@ -180,16 +174,14 @@ impl<'e> Edits<'e> {
     }
 
     /// Appends `Change::Insert`: adds the element `value` to an array. The last segment of `path` is the position of
-    /// the new element, at most the number of elements in the array. Fails if an allocation fails; the list is then
-    /// unchanged.
+    /// the new element, at most the number of elements in the array.
     pub fn insert(&mut self, path: &'e [&'e str], value: &'e str) -> Result<(), AllocError>
         ensures { Pushed (record { path = path.entry; change = changes.Insert value.entry }) self.old result self.new }
     {
         self.change(path, Change::Insert(value))
     }
 
-    /// Appends `Change::MoveTo`: moves the value at `path` to the path `target`. Fails if an allocation fails; the list
-    /// is then unchanged.
+    /// Appends `Change::MoveTo`: moves the value at `path` to the path `target`.
     pub fn move_to(&mut self, path: &'e [&'e str], target: &'e [&'e str]) -> Result<(), AllocError>
         ensures { Pushed (record { path = path.entry; change = changes.MoveTo target.entry }) self.old result self.new }
     {

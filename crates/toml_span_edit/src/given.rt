@@ -30,22 +30,17 @@ pub(crate) fn probed<'p>(alloc: Global, probe: &'p str, value: &str) -> Edited<V
             return Err(Stop::Fault(no_value(alloc, value)?));
         }
     };
-    if is_one_value(sections.as_slice(), probe.len()) {
-        Ok(sections)
-    } else {
-        Err(Stop::Fault(no_value(alloc, value)?))
-    }
-}
-
-/// Returns whether `sections` consist of one assignment without a header, and the assignment ends at the byte offset
-/// `end`.
-fn is_one_value(sections: &[Section<'_>], end: usize) -> bool {
-    match sections {
+    let is_one_value = match sections.as_slice() {
         [section] => match section.assignments.as_slice() {
-            [assignment] => assignment.extent.end == end && section.header.as_slice().is_empty(),
+            [only] => only.extent.end == probe.len() && section.header.as_slice().is_empty(),
             _ => false,
         },
         _ => false,
+    };
+    if is_one_value {
+        Ok(sections)
+    } else {
+        Err(Stop::Fault(no_value(alloc, value)?))
     }
 }
 
@@ -57,16 +52,15 @@ pub(crate) fn check_value(alloc: Global, value: &str) -> Edited<()> {
     Ok(())
 }
 
-/// Returns whether `c` may occur in a word that was probably meant as a string. White space, control characters,
-/// quotes, brackets, braces, backslashes, backticks, `#`, `,` and `=` may not.
-fn is_in_word(c: char) -> bool {
-    !c.is_whitespace() && !c.is_control() && !"\"'[]{}#,=\\`".contains(c)
-}
-
-/// Returns `NoValue`, the reason to refuse `value`, which is not a TOML value. If `value` is a word (see `is_in_word`),
-/// the reason suggests it as a string, quoted for a shell.
+/// Returns `NoValue`, the reason to refuse `value`, which is not a TOML value. If `value` is a word that was probably
+/// meant as a string, the reason suggests it as a string, quoted for a shell. White space, control characters, quotes,
+/// brackets, braces, backslashes, backticks, `#`, `,` and `=` are not part of a word.
 pub(crate) fn no_value(alloc: Global, value: &str) -> Result<Reason, AllocError> {
-    if value.is_empty() || !value.chars().all(|c| is_in_word(c)) {
+    let mut is_word = !value.is_empty();
+    for c in value.chars() {
+        is_word &= !c.is_whitespace() && !c.is_control() && !"\"'[]{}#,=\\`".contains(c);
+    }
+    if !is_word {
         return Ok(Reason::NoValue(None));
     }
     let string = string_text(alloc, value)?;

@@ -1,14 +1,19 @@
-//! The sections of arrays of tables.
-use crate::document::Document;
-use crate::given::{probe_text, probed};
+//! Adds elements to arrays, and finds the places for sections of arrays of tables.
+use crate::document::{Document, written};
+use crate::given::{check_value, probe_text, probed};
+use crate::items::{Item, bare, count_of, put_item};
 use crate::lines::part;
 use crate::mentions::{PathMention, opens_element};
+use crate::missing::{first_position, known_prefix_len, put_array, put_element, put_missing};
+use crate::paths::rest_of;
+use crate::plan::Plan;
 use crate::reason::{Edited, Reason};
-use crate::text::Text;
+use crate::text::{Text, joined};
 use std::alloc::Global;
 use toml_span::Stop;
 use toml_span_places::section_lines;
-use toml_span_read::{Assignment, Section, ValKind};
+use toml_span_read::{Assignment, Section, Val, ValKind};
+use toml_span_tree::pointer::position;
 
 /// Returns the pairs of the inline table that is the value of the first assignment in the first section. Returns `None`
 /// if it is another value, or missing.
@@ -72,19 +77,6 @@ pub(crate) fn end_place<'s>(
     }
 }
 
-/// Returns how many of `mentions`, the mentions of an array of tables, are sections that open an element of the array.
-pub(crate) fn element_count(mentions: &[PathMention<'_, '_>]) -> usize {
-    let mut count: usize = 0;
-    for mention in mentions {
-        if let PathMention::Below(section, index) = mention {
-            if opens_element(*section, *index) {
-                count = count.saturating_add(1);
-            }
-        }
-    }
-    count
-}
-
 /// Returns where the sections of a new element of the array of tables at `array` can be written, before the element at
 /// the position `at`. Fails with `PastEnd` if there are fewer than `at` elements, and with `NoArray` if the value is
 /// not an array of tables. `path` is the path of the new element.
@@ -99,12 +91,96 @@ pub(crate) fn element_place<'s>(
     let (Some(end), false) = (end_place(document, mentions.as_slice()), array.is_empty()) else {
         return Err(Stop::Fault(Reason::NoArray));
     };
+    // The number of sections that open an element of the array.
+    let mut count: usize = 0;
+    for mention in &mentions {
+        match mention {
+            PathMention::Below(section, index) if opens_element(*section, *index) => {
+                count = count.saturating_add(1);
+            }
+            _ => {}
+        }
+    }
     match next.as_slice().first() {
         Some(PathMention::Own(next)) => Ok(ElementPlace {
             at: document.above(next.header_span.start),
             header: end.header,
         }),
-        _ if at == element_count(mentions.as_slice()) => Ok(end),
+        _ if at == count => Ok(end),
         _ => Err(Stop::Fault(Reason::PastEnd)),
     }
+}
+
+/// Adds to `plan` the insertion of `item` into the array `list` at the position `at`. Fails with `NoArray` if `list` is
+/// not an array, and with `PastEnd` if it has fewer than `at` elements.
+fn put_at(
+    document: Document<'_, '_>,
+    list: &Val<'_>,
+    at: usize,
+    item: Item<'_>,
+    plan: &mut Plan,
+) -> Edited<()> {
+    if !matches!(&list.kind, ValKind::Array(_)) {
+        return Err(Stop::Fault(Reason::NoArray));
+    }
+    if at > count_of(list) {
+        return Err(Stop::Fault(Reason::PastEnd));
+    }
+    put_item(document.text, list, at, item, plan);
+    Ok(())
+}
+
+/// Adds to `plan` the insertion of the element `value` at the end of the array at `path`. If `path` names nothing,
+/// inserts an array with only this element. In an array of tables, the element becomes a section, and `value` must be
+/// an inline table. Fails with a reason if the insertion is not possible.
+pub(crate) fn append(
+    document: Document<'_, '_>,
+    path: &[&str],
+    value: &str,
+    plan: &mut Plan,
+) -> Edited<()> {
+    check_value(document.alloc, value)?;
+    if path.is_empty() {
+        return Err(Stop::Fault(Reason::NoArray));
+    }
+    let mentions = document.mentions(path)?;
+    if mentions.is_empty() {
+        let depth = known_prefix_len(document, path)?;
+        if first_position(rest_of(path, depth))?.is_none() {
+            return put_array(document, path, value, plan);
+        }
+        let array = joined(document.alloc, "[", value, "]")?;
+        return put_missing(document, path, bare(array.as_str()), plan);
+    }
+    if let Some(list) = written(mentions.as_slice()) {
+        return put_at(document, list, count_of(list), bare(value), plan);
+    }
+    let Some(end) = end_place(document, mentions.as_slice()) else {
+        return Err(Stop::Fault(Reason::NoArray));
+    };
+    put_element(document, end, value, plan)
+}
+
+/// Adds to `plan` the insertion of the element `item` into an array. The last segment of `path` is the position of the
+/// new element: at most the number of elements in the array. Fails with `NoArray` if the array does not exist, or if
+/// the last segment is not a position. Fails with another reason if the element can't be written there.
+pub(crate) fn insert(
+    document: Document<'_, '_>,
+    path: &[&str],
+    item: Item<'_>,
+    plan: &mut Plan,
+) -> Edited<()> {
+    check_value(document.alloc, item.value)?;
+    let [front @ .., segment] = path else {
+        return Err(Stop::Fault(Reason::NoArray));
+    };
+    let Some(at) = position(*segment) else {
+        return Err(Stop::Fault(Reason::NoArray));
+    };
+    let mentions = document.mentions(front)?;
+    if let Some(list) = written(mentions.as_slice()) {
+        return put_at(document, list, at, item, plan);
+    }
+    let place = element_place(document, front, path, at)?;
+    put_element(document, place, item.value, plan)
 }

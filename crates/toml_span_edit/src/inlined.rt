@@ -6,7 +6,7 @@ use crate::made::child;
 use crate::mentions::{PathMention, last_part, part_at};
 use crate::same::same_tree;
 use crate::text::Text;
-use std::alloc::{AllocError, Global};
+use std::alloc::AllocError;
 use toml_span::value::Value;
 use toml_span::{Span, Stop, parse};
 use toml_span_places::{to_toml, with_quotes};
@@ -61,19 +61,6 @@ fn in_braces(document: Document<'_, '_>, path: &[&str]) -> Result<String, AllocE
     out.finish()
 }
 
-/// Returns whether `text` is a TOML value, and the same one as `value`.
-fn spells(alloc: Global, text: &str, value: &Value<'_>) -> Result<bool, AllocError> {
-    let probe = probe_text(alloc, text)?;
-    match parse(alloc, probe.as_str()) {
-        Ok(root) => Ok(match child(&root, "v") {
-            Some(given) => same_tree(given, value),
-            None => false,
-        }),
-        Err(Stop::Fault(_)) => Ok(false),
-        Err(Stop::Memory(error)) => Err(error),
-    }
-}
-
 /// Returns the text of `value`, the table or array of tables at `path` of `document`, as one TOML value. The entries of
 /// a table are in the order and the spelling of `document`, unless arrays of tables are inside it.
 pub(crate) fn inline_text(
@@ -82,7 +69,16 @@ pub(crate) fn inline_text(
     value: &Value<'_>,
 ) -> Result<String, AllocError> {
     let written = in_braces(document, path)?;
-    if spells(document.alloc, written.as_str(), value)? {
+    let probe = probe_text(document.alloc, written.as_str())?;
+    let is_same = match parse(document.alloc, probe.as_str()) {
+        Ok(root) => match child(&root, "v") {
+            Some(given) => same_tree(given, value),
+            None => false,
+        },
+        Err(Stop::Fault(_error)) => false,
+        Err(Stop::Memory(error)) => return Err(error),
+    };
+    if is_same {
         return Ok(written);
     }
     to_toml(document.alloc, value)

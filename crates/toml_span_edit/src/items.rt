@@ -1,7 +1,7 @@
 //! Inserts and removes items in brackets or braces: elements of arrays, and pairs of inline tables.
 use crate::lines::{
     begins_line, blanks_before, comments_above, indent, line_end, line_start, line_stop, part,
-    point, span_of,
+    point, span_of, spanned,
 };
 use crate::plan::Plan;
 use crate::reach::after_line;
@@ -48,17 +48,12 @@ pub(crate) fn item_span(text: &str, list: &Val<'_>, index: usize) -> Option<Span
     }
 }
 
-/// Returns the byte offset of the closing bracket or brace of `list`.
-fn close_of(list: &Val<'_>) -> usize {
-    list.span.end.saturating_sub(1)
-}
-
 /// Returns the start of the item at `index + 1` or, if `list` has no such item, the offset of the closing bracket or
 /// brace.
 fn space_end(text: &str, list: &Val<'_>, index: usize) -> usize {
     match item_span(text, list, index.saturating_add(1)) {
         Some(next) => next.start,
-        None => close_of(list),
+        None => list.span.end.saturating_sub(1),
     }
 }
 
@@ -77,20 +72,9 @@ fn comma_between(text: &str, start: usize, end: usize) -> Option<usize> {
     None
 }
 
-/// Adds to `plan` the removal of the comma at the byte offset `comma`, with its line if nothing else is on that line.
-fn cut_comma(text: &str, comma: usize, plan: &mut Plan) {
-    let stop = line_stop(text, comma);
-    let after = comma.saturating_add(1);
-    if begins_line(text, comma) && part(text, after, stop).trim().is_empty() {
-        plan.cut(blanks_before(text, comma), after_line(text, comma));
-    } else {
-        plan.cut(comma, after);
-    }
-}
-
 /// Adds to `plan` the removal of the items in the span `items`, the rest of their last line, and the comma after the
-/// items, which may be on a later line. `space` is the offset of the next item or of the closing bracket or brace, and
-/// must be on a later line.
+/// items, which may be on a later line: with that line if nothing else is on it. `space` is the offset of the next item
+/// or of the closing bracket or brace, and must be on a later line.
 fn cut_to_line_end(text: &str, items: Span, space: usize, plan: &mut Plan) {
     let stop = line_stop(text, items.end);
     let start = blanks_before(text, items.start);
@@ -100,36 +84,26 @@ fn cut_to_line_end(text: &str, items: Span, space: usize, plan: &mut Plan) {
         stop
     };
     plan.cut(start, end);
-    match comma_between(text, items.end, space) {
-        Some(comma) if comma >= stop => cut_comma(text, comma, plan),
-        _ => {}
-    }
-}
-
-/// Adds to `plan` the removal of the items in the span `items`, the last ones of a list, and of at most one comma.
-/// `before` is the span of the item before them, if any. The closing bracket or brace at the offset `close` must be on
-/// the line where the items end.
-///
-/// Removes the comma before the items if `before` is on the same line and no comment is between. Otherwise removes the
-/// comma after the items, if there is one.
-fn cut_last(text: &str, before: Option<Span>, items: Span, close: usize, plan: &mut Plan) {
-    if let Some(before) = before {
-        let between = part(text, before.end, items.start);
-        if !between.contains('\n') && !between.contains('#') {
-            return plan.cut(before.end, items.end);
-        }
-    }
-    let end = match comma_between(text, items.end, close) {
-        Some(comma) => comma.saturating_add(1),
-        None => items.end,
+    let Some(comma) = comma_between(text, items.end, space) else {
+        return;
     };
-    plan.cut(items.start, end);
+    let after = comma.saturating_add(1);
+    let rest = part(text, after, line_stop(text, comma));
+    if comma >= stop && begins_line(text, comma) && rest.trim().is_empty() {
+        plan.cut(blanks_before(text, comma), after_line(text, comma));
+    } else if comma >= stop {
+        plan.cut(comma, after);
+    }
 }
 
 /// Adds to `plan` the removal of the items of `list` from index `first` to `last`, both included, with everything
 /// between them, at most one other comma, and the comment at the end of their last line unless another item is before
 /// that comment. A comment on its own line before or after the items stays. Adds nothing if one of these indices is out
 /// of range.
+///
+/// If the items are the last ones, and the closing bracket or brace is on the line where they end, removes the comma
+/// before them if an item is before that comma on the same line, without a comment between. Otherwise removes the comma
+/// after the items, if there is one.
 pub(crate) fn cut_items(text: &str, list: &Val<'_>, first: usize, last: usize, plan: &mut Plan) {
     let (Some(from), Some(to)) = (item_span(text, list, first), item_span(text, list, last)) else {
         return;
@@ -142,11 +116,16 @@ pub(crate) fn cut_items(text: &str, list: &Val<'_>, first: usize, last: usize, p
     if last.saturating_add(1) < count_of(list) {
         return plan.cut(items.start, end);
     }
-    let before = match first {
-        0 => None,
-        _ => item_span(text, list, first.saturating_sub(1)),
-    };
-    cut_last(text, before, items, end, plan);
+    if let (true, Some(before)) = (first > 0, item_span(text, list, first.saturating_sub(1))) {
+        let between = part(text, before.end, items.start);
+        if !between.contains('\n') && !between.contains('#') {
+            return plan.cut(before.end, items.end);
+        }
+    }
+    match comma_between(text, items.end, end) {
+        Some(comma) => plan.cut(items.start, comma.saturating_add(1)),
+        None => plan.cut(items.start, items.end),
+    }
 }
 
 /// Adds to `plan` the insertion of `item` into the brackets or braces of `list`, which must have no items. The item
@@ -154,7 +133,7 @@ pub(crate) fn cut_items(text: &str, list: &Val<'_>, first: usize, last: usize, p
 /// end.
 fn put_first(text: &str, list: &Val<'_>, item: Item<'_>, plan: &mut Plan) {
     let start = list.span.start.saturating_add(1);
-    let inner = part(text, start, close_of(list));
+    let inner = part(text, start, list.span.end.saturating_sub(1));
     let Item { above, value, note } = item;
     if !inner.trim().is_empty() || inner.is_empty() && matches!(&list.kind, ValKind::Inline(_)) {
         plan.put(point(start), " ", value, " ");
@@ -183,7 +162,7 @@ fn put_first(text: &str, list: &Val<'_>, item: Item<'_>, plan: &mut Plan) {
 /// The comments of `item` are written only if the new item gets its own line, and the closing bracket or brace is on a
 /// later line.
 fn put_last(text: &str, list: &Val<'_>, last: Span, item: Item<'_>, plan: &mut Plan) {
-    let close = close_of(list);
+    let close = list.span.end.saturating_sub(1);
     let comma = comma_between(text, last.end, close);
     let stop = line_stop(text, comma.unwrap_or(last.end));
     let begins = begins_line(text, last.start);
@@ -215,8 +194,9 @@ fn put_line_after(
 ) {
     let Item { above, value, note } = item;
     let ((front, more), end) = (front_of(text, list, last), line_end(text));
+    let close = list.span.end.saturating_sub(1);
     match comma {
-        Some(comma) if part(text, comma, close_of(list)).contains('\n') => {
+        Some(comma) if part(text, comma, close).contains('\n') => {
             let at = point(after_line(text, comma));
             plan.put(at, above, front, more);
             plan.put(at, value, ",", note);
@@ -280,23 +260,6 @@ pub(crate) fn put_item(text: &str, list: &Val<'_>, index: usize, item: Item<'_>,
     }
 }
 
-/// Returns the comment that follows the item of `list` at `index` on its line, with the blanks before the comment.
-/// `end` is the byte offset after the item. Skips a comma before the comment. Returns an empty string if anything else
-/// or nothing follows.
-fn note_after<'t>(text: &'t str, list: &Val<'_>, index: usize, end: usize) -> &'t str {
-    let stop = line_stop(text, end);
-    let start = match comma_between(text, end, stop.min(space_end(text, list, index))) {
-        Some(comma) => comma.saturating_add(1),
-        None => end,
-    };
-    let note = part(text, start, stop);
-    if note.trim_start().starts_with('#') {
-        note
-    } else {
-        ""
-    }
-}
-
 /// Returns the span of the comment lines directly above the item of `list` at `index`. Returns an empty span if there
 /// are none, or if the item does not begin a line.
 pub(crate) fn span_above(text: &str, list: &Val<'_>, index: usize) -> Span {
@@ -306,21 +269,32 @@ pub(crate) fn span_above(text: &str, list: &Val<'_>, index: usize) -> Span {
     if !begins_line(text, item.start) {
         return point(item.start);
     }
-    let floor = match index.checked_sub(1) {
-        Some(before) => item_span(text, list, before).map_or(0, |span| span.end),
-        None => list.span.start.saturating_add(1),
+    let floor = match item_span(text, list, index.saturating_sub(1)) {
+        Some(before) if index > 0 => before.end,
+        _ => list.span.start.saturating_add(1),
     };
     let end = line_start(text, item.start);
     span_of(comments_above(text, floor, end), end)
 }
 
-/// Returns the comment lines that `span_above` finds for the item of `list` at `index`, and the comment that
-/// `note_after` returns for it.
+/// Returns the comment lines that `span_above` finds for the item of `list` at `index`, and the comment that follows
+/// the item or its comma on the line of the item, with the blanks before the comment. The comment is empty if anything
+/// else or nothing follows.
 pub(crate) fn comments_of<'t>(text: &'t str, list: &Val<'_>, index: usize) -> (&'t str, &'t str) {
     let Some(item) = item_span(text, list, index) else {
         return ("", "");
     };
     let above = span_above(text, list, index);
-    let note = note_after(text, list, index, item.end);
-    (part(text, above.start, above.end), note)
+    let stop = line_stop(text, item.end);
+    let start = match comma_between(text, item.end, stop.min(space_end(text, list, index))) {
+        Some(comma) => comma.saturating_add(1),
+        None => item.end,
+    };
+    let rest = part(text, start, stop);
+    let note = if rest.trim_start().starts_with('#') {
+        rest
+    } else {
+        ""
+    };
+    (spanned(text, above), note)
 }

@@ -46,7 +46,7 @@ fn is_same(bytes: &[u8], others: &[u8]) -> bool
 
 /// Returns whether `new` can be made from `old` by replacing `span` with some bytes. Returns false if `span` is not
 /// inside `old`.
-fn bytes_around(old: &[u8], span: Span, new: &[u8]) -> bool
+pub(crate) fn keeps_around(old: &[u8], span: Span, new: &[u8]) -> bool
     ensures { result ≡ true → spec.KeepsAround old.now span new.now }
 {
     let Span { start, end } = span;
@@ -56,14 +56,6 @@ fn bytes_around(old: &[u8], span: Span, new: &[u8]) -> bool
         return false;
     }
     is_same(&old[..start], &new[..start]) && is_same(&old[end..], &new[stop..])
-}
-
-/// Returns whether `new` can be made from `text` by replacing `span` with some bytes. Returns false if `span` is not
-/// inside `text`.
-pub(crate) fn keeps_around(text: &str, span: Span, new: &str) -> bool
-    ensures { result ≡ true → spec.KeepsAround text.now span new.now }
-{
-    bytes_around(text.as_bytes(), span, new.as_bytes())
 }
 
 /// Returns whether the bytes of `text` in `start..end` are only spaces, tabs, and comments with their line ends.
@@ -99,7 +91,7 @@ fn is_opening(bytes: &[u8]) -> bool
 }
 
 /// Returns whether `bytes` contains `wanted`.
-fn has_byte(bytes: &[u8], wanted: u8) -> bool
+pub(crate) fn has_byte(bytes: &[u8], wanted: u8) -> bool
     ensures { result ≡ list_any (λ c. c == wanted) bytes.now }
 {
     for byte in bytes {

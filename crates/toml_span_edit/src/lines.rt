@@ -6,11 +6,18 @@ ghost use Rattle.toml_span_edit.specs.Kept.{is_line_end};
 use crate::reach::after_line;
 use toml_span::Span;
 use toml_span_lex::tokenizer::first_place;
+use toml_span_places::assignment_lines;
+use toml_span_read::Assignment;
 
 /// Returns `text[start..end]`. Returns an empty string if these byte offsets are out of bounds, out of order, or inside
 /// a character.
 pub(crate) fn part(text: &str, start: usize, end: usize) -> &str {
     text.get(start..end).unwrap_or("")
+}
+
+/// Returns the part of `text` that a span covers, as `part` does.
+pub(crate) fn spanned(text: &str, span: Span) -> &str {
+    part(text, span.start, span.end)
 }
 
 /// Returns the empty span at the byte offset `at`.
@@ -114,4 +121,30 @@ pub(crate) fn is_open(text: &str, offset: usize) -> bool {
 pub(crate) fn is_apart(text: &str, offset: usize) -> bool {
     let above = part(text, first_place(text), offset);
     above.trim().is_empty() || above.ends_with("\n\n") || above.ends_with("\n\r\n")
+}
+
+/// Returns whether a text is empty, apart from a byte order mark, or ends with two line ends.
+pub(crate) fn ends_blank(text: &str) -> bool {
+    let text = text.strip_prefix('\u{feff}').unwrap_or(text);
+    text.is_empty() || text.ends_with("\n\n") || text.ends_with("\n\r\n")
+}
+
+/// Returns the spaces and tabs before an assignment on its line.
+pub(crate) fn indent_of<'t>(text: &'t str, assignment: &Assignment<'_>) -> &'t str {
+    let line = assignment_lines(text, assignment);
+    part(text, line.start, assignment.extent.start)
+}
+
+/// Returns the start of the comment lines directly before the offset `to`. Without such lines, returns `to`. Ignores
+/// lines before the offset `from`. Both offsets must be starts of lines; `from` may be after a byte order mark.
+pub(crate) fn comments_start(text: &str, from: usize, to: usize) -> usize {
+    let mut start = from;
+    let mut at = from;
+    for line in part(text, from, to).split_inclusive('\n') {
+        at = at.saturating_add(line.len());
+        if !line.trim_start().starts_with('#') {
+            start = at;
+        }
+    }
+    start
 }

@@ -4,7 +4,7 @@ ghost use Rattle.toml_span_tree.specs.Pointer.{position_of};
 ghost use Rattle.toml_span_tree.specs.Value.{inner_of, items_view, members_view, view};
 ghost use Rattle.toml_span_edit.specs.Made as spec;
 ghost use Rattle.toml_span_edit.specs.Paths as paths;
-ghost use Rattle.toml_span_edit.specs.Same.{same, same_members};
+ghost use Rattle.toml_span_edit.specs.Same.{same_members};
 
 use crate::same::{same_items, same_tree};
 use std::collections::btree_map::Iter;
@@ -163,17 +163,6 @@ fn gone(value: &Value<'_>, segment: &str, other: &Value<'_>) -> bool
     }
 }
 
-/// Returns whether `other` is `value` with `new` added: in a table as the entry `segment`, in an array as the element
-/// at the position that `segment` spells.
-fn put(value: &Value<'_>, segment: &str, new: &Value<'_>, other: &Value<'_>) -> bool
-    ensures { result ≡ spec.put segment.now (view new.now) (view value.now) (view other.now) }
-{
-    match child(other, segment) {
-        Some(there) => gone(other, segment, value) && same_tree(new, there),
-        None => false,
-    }
-}
-
 /// Returns whether `others` is `items` with the element `new` at its end.
 fn item_last(items: &[Value<'_>], new: &Value<'_>, others: &[Value<'_>]) -> bool
     ensures { result ≡ spec.item_last (view new.now) (items_view items.now) (items_view others.now) }
@@ -190,16 +179,6 @@ fn item_last(items: &[Value<'_>], new: &Value<'_>, others: &[Value<'_>]) -> bool
     match rest.next() {
         Some(other) => same_tree(new, other) && rest.next().is_none(),
         None => false,
-    }
-}
-
-/// Returns whether `value` and `other` are arrays, and `other` is `value` with the element `new` at its end.
-fn last(value: &Value<'_>, new: &Value<'_>, other: &Value<'_>) -> bool
-    ensures { result ≡ spec.last (view new.now) (inner_of (view value.now)) (inner_of (view other.now)) }
-{
-    match (value.as_array(), other.as_array()) {
-        (Some(array), Some(others)) => item_last(array.as_slice(), new, others.as_slice()),
-        _ => false,
     }
 }
 
@@ -278,8 +257,14 @@ impl Local<'_, '_, '_> {
         match self {
             Local::Set(new) => same_tree(new, other),
             Local::Gone(segment) => gone(value, segment, other),
-            Local::Put(segment, new) => put(value, segment, new, other),
-            Local::Last(new) => last(value, new, other),
+            Local::Put(segment, new) => match child(other, segment) {
+                Some(there) => gone(other, segment, value) && same_tree(new, there),
+                None => false,
+            },
+            Local::Last(new) => match (value.as_array(), other.as_array()) {
+                (Some(array), Some(others)) => item_last(array.as_slice(), new, others.as_slice()),
+                _ => false,
+            },
             Local::Renamed(name, new) => renamed(value, name, new, other),
         }
     }
@@ -306,23 +291,16 @@ pub(crate) fn changed(
     }
 }
 
-/// Returns the only element of `items`, or `None` if there are none or several.
-#[tactic(auto, using(crate::proofs::Elements::only_none, crate::proofs::Elements::only_many))]
-fn only_item<'v, 'de>(items: &'v [Value<'de>]) -> Option<&'v Value<'de>>
-    ensures { option_map (λ v. view v.now) result ≡ spec.only_item (items_view items.now) }
-{
-    match items {
-        [only] => Some(only),
-        _ => None,
-    }
-}
-
 /// Returns the only element of an array, or `None` for any other value.
+#[tactic(auto, using(crate::proofs::Elements::only_none, crate::proofs::Elements::only_many))]
 fn only_element<'v, 'de>(value: &'v Value<'de>) -> Option<&'v Value<'de>>
     ensures { option_map (λ v. view v.now) result ≡ spec.only_element (inner_of (view value.now)) }
 {
     match value.as_array() {
-        Some(array) => only_item(array.as_slice()),
+        Some(array) => match array.as_slice() {
+            [only] => Some(only),
+            _ => None,
+        },
         None => None,
     }
 }

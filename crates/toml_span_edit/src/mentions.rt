@@ -100,32 +100,6 @@ fn placement_of(section: &Section<'_>, path: &[&str], counts: &mut Vec<usize>) -
     Placement::Above(depth)
 }
 
-/// Compares the parts of a key with the segments of `path`, up to the end of the shorter of the two. Returns how many
-/// were compared, or `None` if a part differs from its segment.
-fn common(parts: &DottedKey<'_>, path: &[&str]) -> Option<usize> {
-    let count = parts.inner.len().saturating_add(1).min(path.len());
-    for index in 0..count {
-        if !has_segment(path, index, part_at(parts, index).name.as_ref()) {
-            return None;
-        }
-    }
-    Some(count)
-}
-
-/// Mentions, in the order of the text. They remember whether an allocation failed.
-#[derive(Drop)]
-struct Mentions<'s, 'de> {
-    list: Vec<PathMention<'s, 'de>>,
-    /// Whether mentions are missing because an allocation failed.
-    is_refused: bool,
-}
-
-impl<'s, 'de> Mentions<'s, 'de> {
-    fn push(&mut self, mention: PathMention<'s, 'de>) {
-        self.is_refused |= self.list.push(mention).is_err();
-    }
-}
-
 /// Appends to `out` the mentions of `path` in `assignment`, which is written at `home`. `path` begins at the table
 /// around `assignment`, and must not be empty.
 #[cycle(push_inside)]
@@ -133,28 +107,37 @@ fn push_assigned<'s, 'de>(
     assignment: &'s Assignment<'de>,
     home: Home<'s, 'de>,
     path: &[&str],
-    out: &mut Mentions<'s, 'de>,
-) {
-    let Some(count) = common(&assignment.parts, path) else {
-        return;
-    };
-    if count <= assignment.parts.inner.len() {
-        out.push(PathMention::Dotted(assignment, count.saturating_sub(1), home));
-    } else if count >= path.len() {
-        out.push(PathMention::Assigned(assignment, home));
-    } else {
-        push_inside(&assignment.value, rest_of(path, count), out);
+    out: &mut Vec<PathMention<'s, 'de>>,
+) -> Result<(), AllocError> {
+    let parts = &assignment.parts;
+    let count = parts.inner.len().saturating_add(1).min(path.len());
+    for index in 0..count {
+        if !has_segment(path, index, part_at(parts, index).name.as_ref()) {
+            return Ok(());
+        }
     }
+    if count <= parts.inner.len() {
+        out.push(PathMention::Dotted(assignment, count.saturating_sub(1), home))?;
+    } else if count >= path.len() {
+        out.push(PathMention::Assigned(assignment, home))?;
+    } else {
+        push_inside(&assignment.value, rest_of(path, count), out)?;
+    }
+    Ok(())
 }
 
 /// Appends to `out` the mentions of `path` inside `value`. `path` begins at `value`; if `path` is empty, appends
 /// nothing.
 #[cycle(push_inside)]
-fn push_inside<'s, 'de>(value: &'s Val<'de>, path: &[&str], out: &mut Mentions<'s, 'de>) {
+fn push_inside<'s, 'de>(
+    value: &'s Val<'de>,
+    path: &[&str],
+    out: &mut Vec<PathMention<'s, 'de>>,
+) -> Result<(), AllocError> {
     match &value.kind {
         ValKind::Inline(pairs) if !path.is_empty() => {
             for (index, pair) in pairs.iter().enumerate() {
-                push_assigned(pair, Home::Braces(value, index), path, out);
+                push_assigned(pair, Home::Braces(value, index), path, out)?;
             }
         }
         ValKind::Array(items) => {
@@ -162,33 +145,15 @@ fn push_inside<'s, 'de>(value: &'s Val<'de>, path: &[&str], out: &mut Mentions<'
                 if has_position(path, 0, index) {
                     let rest = rest_of(path, 1);
                     if rest.is_empty() {
-                        out.push(PathMention::Element(value, index));
+                        out.push(PathMention::Element(value, index))?;
                     }
-                    push_inside(item, rest, out);
+                    push_inside(item, rest, out)?;
                 }
             }
         }
         _ => {}
     }
-}
-
-/// Appends to `out` the mentions of `path` in `section`. Changes `counts` as `placement_of` does.
-fn push_section<'s, 'de>(
-    section: &'s Section<'de>,
-    path: &[&str],
-    counts: &mut Vec<usize>,
-    out: &mut Mentions<'s, 'de>,
-) {
-    match placement_of(section, path, counts) {
-        Placement::Apart => {}
-        Placement::Below(part) => out.push(PathMention::Below(section, part)),
-        Placement::Above(depth) if depth >= path.len() => out.push(PathMention::Own(section)),
-        Placement::Above(depth) => {
-            for assignment in &section.assignments {
-                push_assigned(assignment, Home::Lines, rest_of(path, depth), out);
-            }
-        }
-    }
+    Ok(())
 }
 
 /// Returns the places in `sections` that name the value at `path`, in the order of the text. Returns an empty list if
@@ -199,18 +164,22 @@ pub(crate) fn mentions_of<'s, 'de>(
     path: &[&str],
 ) -> Result<Vec<PathMention<'s, 'de>>, AllocError> {
     let mut counts = vec![in alloc; 0usize; path.len().saturating_add(1)]?;
-    let mut out = Mentions {
-        list: Vec::new(alloc),
-        is_refused: false,
-    };
+    let mut out = Vec::new(alloc);
     for section in sections {
-        push_section(section, path, &mut counts, &mut out);
+        match placement_of(section, path, &mut counts) {
+            Placement::Apart => {}
+            Placement::Below(part) => out.push(PathMention::Below(section, part))?,
+            Placement::Above(depth) if depth >= path.len() => {
+                out.push(PathMention::Own(section))?;
+            }
+            Placement::Above(depth) => {
+                for assignment in &section.assignments {
+                    push_assigned(assignment, Home::Lines, rest_of(path, depth), &mut out)?;
+                }
+            }
+        }
     }
-    let Mentions { list, is_refused } = out;
-    if is_refused {
-        return Err(AllocError);
-    }
-    Ok(list)
+    Ok(out)
 }
 
 /// Returns whether the header of `section` has double brackets, and its last part has the index `part`.

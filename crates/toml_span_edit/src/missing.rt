@@ -2,7 +2,7 @@
 use crate::adding::{names_array, put_entry, put_lines, table_entry_site};
 use crate::document::{Document, written};
 use crate::edits::{path_text, push_more};
-use crate::given::{check_value, key_text};
+use crate::given::key_text;
 use crate::headed::{ElementPlace, element_text, is_inline};
 use crate::items::{Item, bare};
 use crate::lines::{is_apart, line_end, part, point};
@@ -92,17 +92,6 @@ pub(crate) struct Place {
     pub header: String,
 }
 
-/// Returns the header, without brackets, of the table whose names are `names`, inside the table with the header
-/// `table`, or inside the root if `table` is empty.
-fn header_in(alloc: Global, table: &str, names: &[&str]) -> Result<String, AllocError> {
-    if table.is_empty() {
-        return path_text(alloc, names);
-    }
-    let mut header = String::from_str(alloc, table)?;
-    push_more(alloc, names, &mut header)?;
-    Ok(header)
-}
-
 /// Returns where the sections of a table at `path` can be written, which must name nothing, and must have no positions
 /// in missing arrays. Returns `None` if anything but headers defines the innermost table that exists.
 pub(crate) fn new_place(
@@ -113,7 +102,13 @@ pub(crate) fn new_place(
     let Some((at, table)) = section_place(document, front_of(path, depth))? else {
         return Ok(None);
     };
-    let header = header_in(document.alloc, table, rest_of(path, depth))?;
+    let names = rest_of(path, depth);
+    if table.is_empty() {
+        let header = path_text(document.alloc, names)?;
+        return Ok(Some(Place { at, header }));
+    }
+    let mut header = String::from_str(document.alloc, table)?;
+    push_more(document.alloc, names, &mut header)?;
     Ok(Some(Place { at, header }))
 }
 
@@ -176,28 +171,6 @@ fn put_in_section(
     Ok(())
 }
 
-/// Adds to `plan` the insertion of the value `item` into the existing table at `table`, with the dotted key that
-/// consists of `names`. Fails with a reason if the insertion is not possible.
-fn put_dotted(
-    document: Document<'_, '_>,
-    table: &[&str],
-    names: &[&str],
-    item: Item<'_>,
-    plan: &mut Plan,
-) -> Edited<()> {
-    let is_position = match names {
-        [name, ..] => position(*name).is_some(),
-        [] => false,
-    };
-    if is_position && is_array(document, table)? {
-        return Err(Stop::Fault(Reason::PastEnd));
-    }
-    let target = table_entry_site(document, table)?;
-    let key = path_text(document.alloc, names)?;
-    put_entry(document, target, key.as_str(), item, plan)?;
-    Ok(())
-}
-
 /// Adds to `plan` the insertion of the value `item` at `path`, which must name nothing, and must have no positions in
 /// missing arrays. Tables missing on the way get a new header or, if braces or dotted keys define the table around
 /// them, a dotted key. Fails with a reason if the insertion is not possible.
@@ -214,18 +187,26 @@ fn put_value(
     };
     if missing.len() > 1 {
         if let Some(place) = new_place(document, front)? {
-            put_in_section(document, &place, *name, item, plan)?;
-            return Ok(());
+            return Ok(put_in_section(document, &place, *name, item, plan)?);
         }
     }
-    put_dotted(document, table, missing, item, plan)
+    let is_position = match missing {
+        [name, ..] => position(*name).is_some(),
+        [] => false,
+    };
+    if is_position && is_array(document, table)? {
+        return Err(Stop::Fault(Reason::PastEnd));
+    }
+    let target = table_entry_site(document, table)?;
+    let key = path_text(document.alloc, missing)?;
+    Ok(put_entry(document, target, key.as_str(), item, plan)?)
 }
 
 /// Adds to `plan` the insertion of an array with `value` as its only element at `path`, which must name nothing, and
 /// must have no positions in missing arrays. If `value` is an inline table, and no braces or dotted keys define the
 /// table around the array, the element is written as a section with a header `[[..]]`. Fails with a reason if the
 /// insertion is not possible.
-fn put_array(
+pub(crate) fn put_array(
     document: Document<'_, '_>,
     path: &[&str],
     value: &str,
@@ -250,7 +231,7 @@ fn wrapped(alloc: Global, names: &[&str], value: &str) -> Result<String, AllocEr
             out.push("[");
         } else {
             out.push("{");
-            out.push_key(alloc, *name);
+            out.push(key_text(alloc, *name)?.as_str());
             out.push(" = ");
         }
     }
@@ -281,34 +262,6 @@ pub(crate) fn put_missing(
     let names = rest_of(path, at.saturating_add(1));
     let element = wrapped(document.alloc, names, item.value)?;
     put_array(document, front_of(path, at), element.as_str(), plan)
-}
-
-/// Adds to `plan` the insertion of the TOML value `value`, and of the tables and arrays missing on the way, at `path`.
-/// Fails as `put_missing` does.
-pub(crate) fn add_deep(
-    document: Document<'_, '_>,
-    path: &[&str],
-    value: &str,
-    plan: &mut Plan,
-) -> Edited<()> {
-    check_value(document.alloc, value)?;
-    put_missing(document, path, bare(value), plan)
-}
-
-/// Adds to `plan` the insertion of an array with the element `value` at `path`, which must name nothing, and of the
-/// tables and arrays missing on the way. Fails as `put_missing` does.
-pub(crate) fn append_first(
-    document: Document<'_, '_>,
-    path: &[&str],
-    value: &str,
-    plan: &mut Plan,
-) -> Edited<()> {
-    let depth = known_prefix_len(document, path)?;
-    if first_position(rest_of(path, depth))?.is_none() {
-        return put_array(document, path, value, plan);
-    }
-    let array = joined(document.alloc, "[", value, "]")?;
-    put_missing(document, path, bare(array.as_str()), plan)
 }
 
 /// Adds to `plan` the insertion of an empty table at `path`: a header or, in a table that braces or dotted keys define,

@@ -1,8 +1,7 @@
 //! Moves values to other paths.
 use crate::adding::names_array;
 use crate::document::{Document, written};
-use crate::growing::insert;
-use crate::headed::{ElementPlace, element_place};
+use crate::headed::{ElementPlace, element_place, insert};
 use crate::items::{Item, comments_of};
 use crate::lines::{is_apart, line_end, line_start, line_stop, part, point};
 use crate::mentions::{Home, PathMention, last_part, part_at};
@@ -77,16 +76,6 @@ pub(crate) struct Site {
     pub is_plain: bool,
 }
 
-/// Returns whether a segment of `path` but the last names an array of tables.
-fn is_in_array(document: Document<'_, '_>, path: &[&str]) -> Result<bool, AllocError> {
-    for depth in 1..path.len() {
-        if names_array(document.mentions(front_of(path, depth))?.as_slice()) {
-            return Ok(true);
-        }
-    }
-    Ok(false)
-}
-
 /// Returns where the sections of a table that is moved to `path` are written in `document`, which lacks the table.
 /// Returns `None` if the table must be written in braces there. Fails with a reason if `path` names a value that stays
 /// there, or an element that can't be added.
@@ -130,7 +119,10 @@ fn new_site(document: Document<'_, '_>, path: &[&str]) -> Edited<Option<Site>> {
     if is_element && end.saturating_add(1) < path.len() {
         return Ok(None);
     }
-    let is_plain = !is_element && !is_in_array(document, path)?;
+    let mut is_plain = !is_element;
+    for depth in 1..path.len() {
+        is_plain &= !names_array(document.mentions(front_of(path, depth))?.as_slice());
+    }
     let Some(Place { at, header }) = new_place(document, front_of(path, end))? else {
         return Ok(None);
     };
@@ -140,38 +132,6 @@ fn new_site(document: Document<'_, '_>, path: &[&str]) -> Edited<Option<Site>> {
         is_element,
         is_plain,
     }))
-}
-
-/// Returns whether only headers name a value, and none of them is the header of the value if that is an element.
-pub(crate) fn are_headers(mentions: &[PathMention<'_, '_>]) -> bool {
-    for mention in mentions {
-        match mention {
-            PathMention::Own(section) if !section.array => {}
-            PathMention::Below(_, _) => {}
-            _ => return false,
-        }
-    }
-    true
-}
-
-/// Returns whether a dotted key names a value.
-fn has_dotted(mentions: &[PathMention<'_, '_>]) -> bool {
-    for mention in mentions {
-        if let PathMention::Dotted(_, _, _) = mention {
-            return true;
-        }
-    }
-    false
-}
-
-/// Returns whether a value is written in the braces of an inline table, by dotted keys.
-pub(crate) fn is_in_braces(mentions: &[PathMention<'_, '_>]) -> bool {
-    for mention in mentions {
-        if let PathMention::Dotted(_, _, Home::Braces(_, _)) = mention {
-            return true;
-        }
-    }
-    false
 }
 
 /// Adds to `plan` the insertion of a header of the table around the value at `path`, above the first header of the
@@ -265,21 +225,6 @@ fn push_header(header: &str, is_element: bool, out: &mut Text) {
     }
 }
 
-/// Appends the section of a moved table, with its comments and with `header`, in brackets.
-fn push_own(
-    document: Document<'_, '_>,
-    section: &Section<'_>,
-    header: &str,
-    is_element: bool,
-    out: &mut Text,
-) {
-    let (text, open) = (document.text, section.header_span.start);
-    out.push(part(text, document.above(open), open));
-    push_header(header, is_element, out);
-    let rest = after_header(document, section, section_lines(text, section).end);
-    push_lines(document, rest, out);
-}
-
 /// Appends the section of a table inside a moved table, with its comments. `header` replaces the header up to the part
 /// at `index`. A blank line comes first if one is above the section, unless `out` is empty.
 fn push_below(
@@ -324,16 +269,25 @@ pub(crate) fn sections_text(
     header: &str,
     is_element: bool,
 ) -> Result<String, AllocError> {
-    let mentions = document.mentions(path)?;
+    let (text, mentions) = (document.text, document.mentions(path)?);
+    let mut needs_header = is_element;
     let mut out = Text::new(document.alloc);
     for mention in &mentions {
-        if let PathMention::Own(section) = mention {
-            push_own(document, *section, header, is_element, &mut out);
+        match mention {
+            PathMention::Own(section) => {
+                let open = section.header_span.start;
+                out.push(part(text, document.above(open), open));
+                push_header(header, is_element, &mut out);
+                let rest = after_header(document, *section, section_lines(text, *section).end);
+                push_lines(document, rest, &mut out);
+            }
+            PathMention::Dotted(_, _, _) => needs_header = true,
+            _ => {}
         }
     }
-    if out.len() == 0 && (is_element || has_dotted(mentions.as_slice())) {
+    if out.len() == 0 && needs_header {
         push_header(header, is_element, &mut out);
-        out.push(line_end(document.text));
+        out.push(line_end(text));
     }
     for mention in &mentions {
         if let PathMention::Dotted(assignment, index, _) = mention {

@@ -3,7 +3,7 @@ ghost use Rattle.std.specs.Prelude.{◌≡◌, IfOk, Ok, map, option_map};
 ghost use Rattle.toml_span_read.specs.Data.{depth_limit, parsed_section};
 ghost use Rattle.toml_span_read.specs.Read.{document as read};
 ghost use Rattle.toml_span_tree.specs.Node.{entry_at};
-ghost use Rattle.toml_span_tree.specs.Value.{inner_of, inner_view, items_view, members_view, view};
+ghost use Rattle.toml_span_tree.specs.Value.{inner_of, items_view, members_view, view};
 ghost use Rattle.toml_span_places.specs.Lines.{after_line};
 ghost use Rattle.toml_span_places.specs.Sections.{section_mention};
 ghost use Rattle.toml_span_edit.specs.Kept as spec;

@@ -44,20 +44,6 @@ fn lines_of(text: &str, mention: &PathMention<'_, '_>) -> Option<Span> {
     }
 }
 
-/// Returns both runs as one, or `None` if `next` does not directly follow `run` in the same list.
-fn joined<'s, 'de>(run: Run<'s, 'de>, next: Run<'s, 'de>) -> Option<Run<'s, 'de>> {
-    let continues = run.list.span == next.list.span && run.last.saturating_add(1) == next.first;
-    if continues {
-        Some(Run {
-            list: run.list,
-            first: run.first,
-            last: next.last,
-        })
-    } else {
-        None
-    }
-}
-
 /// Adds to `plan` the removal of `span`, unless it is empty.
 fn cut_span(span: Span, plan: &mut Plan) {
     if span.start < span.end {
@@ -94,7 +80,7 @@ fn cut_all(
     plan: &mut Plan,
 ) {
     let text = document.text;
-    let mut open = None;
+    let mut open: Option<Run<'_, '_>> = None;
     for mention in mentions {
         if let Some(lines) = lines_of(text, mention) {
             if cuts_comments {
@@ -103,14 +89,14 @@ fn cut_all(
             plan.cut(lines.start, lines.end);
         }
         if let Some(next) = run_of(mention) {
-            let both = match open {
-                Some(run) => joined(run, next),
-                None => None,
-            };
-            if both.is_none() {
-                cut_run(text, open, cuts_comments, plan);
+            let mut both = next;
+            match open {
+                Some(run)
+                    if run.list.span == next.list.span
+                        && run.last.saturating_add(1) == next.first => both.first = run.first,
+                _ => cut_run(text, open, cuts_comments, plan),
             }
-            open = Some(both.unwrap_or(next));
+            open = Some(both);
         }
     }
     cut_run(text, open, cuts_comments, plan);

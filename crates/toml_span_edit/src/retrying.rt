@@ -6,6 +6,7 @@ ghost use Rattle.toml_span_edit.specs.Kept.{IsWrittenOver, Keeps};
 ghost use Rattle.toml_span_edit.specs.Refused as spec;
 ghost use Rattle.toml_span_edit.specs.declared.edits.Change.TheVariants as changes;
 
+use crate::document::Old;
 use crate::edits::{Change, Edit};
 use crate::given::probe_text;
 use crate::made::{Local, changed, child, value_at};
@@ -14,23 +15,18 @@ use std::alloc::{AllocError, Global};
 use toml_span::value::Value;
 use toml_span_places::{literal_span, replaced};
 
-/// Returns whether the literal of `value`, which is in the tree of `probe`, begins after `v = ` and ends where `probe`
-/// ends.
-fn is_alone(probe: &str, value: &Value<'_>) -> bool
-    ensures { result ≡ spec.is_alone probe.now (view value.now) }
-{
-    let span = literal_span(probe, value);
-    span.start == 4 && span.end == probe.len()
-}
-
-/// Returns whether `given`, the tree of `probe`, has a value `v` with nothing around it (see `is_alone`), and the tree
-/// `new` is the tree `old` with this value at `path`.
+/// Returns whether `given`, the tree of `probe`, has a value `v` whose literal begins after `v = ` and ends where
+/// `probe` ends, and the tree `new` is the tree `old` with this value at `path`.
 fn is_set(probe: &str, given: &Value<'_>, path: &[&str], old: &Value<'_>, new: &Value<'_>) -> bool
     ensures { result ≡ spec.is_set probe.now (view given.now) (map (λ s. s.now) path.now) (view old.now)
         (view new.now) }
 {
     match child(given, "v") {
-        Some(value) => is_alone(probe, value) && changed(path, Local::Set(value), old, new),
+        Some(value) => {
+            let span = literal_span(probe, value);
+            let is_alone = span.start == 4 && span.end == probe.len();
+            is_alone && changed(path, Local::Set(value), old, new)
+        }
         None => false,
     }
 }
@@ -59,55 +55,45 @@ fn sets(
     Ok(is_set(probe.as_str(), &given, path, old, &root))
 }
 
-/// Returns `text` with `value` written over the literal of the value at `path`, if that sets the value (see `sets`),
-/// otherwise `None`. `old` is the tree of `text`.
-fn set_over(
-    alloc: Global,
-    text: &str,
-    path: &[&str],
-    value: &str,
-    old: &Value<'_>,
-) -> Result<Option<String>, AllocError>
+/// Returns `old` with `value` written over the literal of the value at `path`, if that sets the value (see `sets`),
+/// otherwise `None`.
+fn set_over(old: Old<'_, '_>, path: &[&str], value: &str) -> Result<Option<String>, AllocError>
     ensures made { IfOk result (λ out. IfSome out (λ new. IsMade (changes.Set value.entry)
-        (map (λ s. s.now) path.now) (view old.now) (string_bytes new))) }
+        (map (λ s. s.now) path.now) (view old.entry.tree.now) (string_bytes new))) }
     ensures kept { IfOk result (λ out. IfSome out (λ new. IsWrittenOver value.now (map (λ s. s.now) path.now)
-        (view old.now) text.now (string_bytes new))) }
+        (view old.entry.tree.now) old.entry.text.now (string_bytes new))) }
     ensures none { IfOk result (λ out. IfNone out (spec.CannotSetOver value.now (map (λ s. s.now) path.now)
-        (view old.now) text.now)) }
+        (view old.entry.tree.now) old.entry.text.now)) }
 {
-    let Some(there) = value_at(path, old) else {
+    let Old { alloc, text, tree } = old;
+    let Some(there) = value_at(path, tree) else {
         return Ok(None);
     };
     let Some(new) = replaced(alloc, text, &[literal_span(text, there)], value)? else {
         return Ok(None);
     };
-    if sets(alloc, value, path, old, new.as_str())? {
+    if sets(alloc, value, path, tree, new.as_str())? {
         Ok(Some(new))
     } else {
         Ok(None)
     }
 }
 
-/// Returns `text` with `edit` made by writing its value over the literal of the value at its path. `old` is the tree of
-/// `text`. Returns `None` if that does not make the edit, or if it is not a `Set`, `Replace` or `SetOrAdd`.
-pub(crate) fn made_over(
-    alloc: Global,
-    text: &str,
-    edit: Edit<'_>,
-    old: &Value<'_>,
-) -> Result<Option<String>, AllocError>
+/// Returns `old` with `edit` made by writing its value over the literal of the value at its path. Returns `None` if
+/// that does not make the edit, or if it is not a `Set`, `Replace` or `SetOrAdd`.
+pub(crate) fn made_over(old: Old<'_, '_>, edit: Edit<'_>) -> Result<Option<String>, AllocError>
     ensures made { IfOk result (λ out. IfSome out (λ new. IsMade edit.entry.change
-        (map (λ s. s.now) edit.entry.path.now) (view old.now) (string_bytes new))) }
+        (map (λ s. s.now) edit.entry.path.now) (view old.entry.tree.now) (string_bytes new))) }
     ensures kept { IfOk result (λ out. IfSome out (λ new. Keeps edit.entry.change
-        (map (λ s. s.now) edit.entry.path.now) (view old.now) text.now (string_bytes new))) }
+        (map (λ s. s.now) edit.entry.path.now) (view old.entry.tree.now) old.entry.text.now (string_bytes new))) }
     ensures none { IfOk result (λ out. IfNone out (spec.CannotMakeOver edit.entry.change
-        (map (λ s. s.now) edit.entry.path.now) (view old.now) text.now)) }
+        (map (λ s. s.now) edit.entry.path.now) (view old.entry.tree.now) old.entry.text.now)) }
 {
     let Edit { path, change } = edit;
     match change {
-        Change::Set(value) => set_over(alloc, text, path, value, old),
-        Change::Replace(value) => set_over(alloc, text, path, value, old),
-        Change::SetOrAdd(value) => set_over(alloc, text, path, value, old),
+        Change::Set(value) => set_over(old, path, value),
+        Change::Replace(value) => set_over(old, path, value),
+        Change::SetOrAdd(value) => set_over(old, path, value),
         _ => Ok(None),
     }
 }

@@ -1,5 +1,5 @@
 //! Replaces values that are written as literals, and renames keys.
-ghost use Rattle.std.specs.Prelude.{◌≡◌, ◌++◌, IfOk, Ok, Some, [], ◌∷◌, map, string_bytes};
+ghost use Rattle.std.specs.Prelude.{◌≡◌, IfOk, Ok, Some, map, string_bytes};
 ghost use Rattle.toml_span_read.specs.Data.{depth_limit, parsed_section};
 ghost use Rattle.toml_span_read.specs.Read.{document as read};
 ghost use Rattle.toml_span_tree.specs.Value.{view};
@@ -7,14 +7,13 @@ ghost use Rattle.toml_span_places.specs.Keys.{document_keys, key_mention};
 ghost use Rattle.toml_span_places.specs.Replace as places;
 ghost use Rattle.toml_span_edit.specs.Kept as spec;
 
-use crate::document::{Document, sections_of, written};
+use crate::document::{Document, Old, sections_of, written};
 use crate::given::{check_value, key_text};
 use crate::made::value_at;
 use crate::mentions::PathMention;
 use crate::paths::names_steps;
 use crate::reason::{Edited, Reason};
 use std::alloc::{AllocError, Global};
-use toml_span::value::Value;
 use toml_span::{Span, Stop};
 use toml_span_places::{KeyPlace, key_places, literal_span, replaced};
 
@@ -29,18 +28,13 @@ pub(crate) enum Written {
     Nowhere,
 }
 
-/// Returns how the value at `path` is written, if `value` is a TOML value. `old` is the tree of `text`. Scalars are
-/// always written as literals. Fails with `NoValue` if `value` is not a TOML value, and with `WouldDiffer` if `text`
-/// can't be split into sections.
-pub(crate) fn how_written(
-    alloc: Global,
-    text: &str,
-    path: &[&str],
-    value: &str,
-    old: &Value<'_>,
-) -> Edited<Written> {
+/// Returns how the value at `path` is written in `old`, if `value` is a TOML value. Scalars are always written as
+/// literals. Fails with `NoValue` if `value` is not a TOML value, and with `WouldDiffer` if the text can't be split
+/// into sections.
+pub(crate) fn how_written(old: Old<'_, '_>, path: &[&str], value: &str) -> Edited<Written> {
+    let Old { alloc, text, tree } = old;
     check_value(alloc, value)?;
-    let Some(there) = value_at(path, old) else {
+    let Some(there) = value_at(path, tree) else {
         return Ok(Written::Nowhere);
     };
     if there.as_table().is_none() && there.as_array().is_none() {
@@ -70,39 +64,28 @@ fn with_spans(alloc: Global, text: &str, spans: &[Span], new: &str) -> Edited<St
     }
 }
 
-/// Returns `text` with `value` in place of the literal at `path`. `old` is the tree of `text`. Fails with `Nothing` if
-/// `path` names nothing, and with `WouldDiffer` if the literal's span is not valid in `text`.
-pub(crate) fn write_over(
-    alloc: Global,
-    text: &str,
-    path: &[&str],
-    value: &str,
-    old: &Value<'_>,
-) -> Edited<String>
-    ensures { IfOk result (λ new. spec.IsWrittenOver value.now (map (λ s. s.now) path.now) (view old.now) text.now
-        (string_bytes new)) }
+/// Returns `old` with `value` in place of the literal at `path`. Fails with `Nothing` if `path` names nothing, and with
+/// `WouldDiffer` if the literal's span is not valid in the text.
+pub(crate) fn write_over(old: Old<'_, '_>, path: &[&str], value: &str) -> Edited<String>
+    ensures { IfOk result (λ new. spec.IsWrittenOver value.now (map (λ s. s.now) path.now) (view old.entry.tree.now)
+        old.entry.text.now (string_bytes new)) }
 {
-    match value_at(path, old) {
+    let Old { alloc, text, tree } = old;
+    match value_at(path, tree) {
         Some(there) => with_spans(alloc, text, &[literal_span(text, there)], value),
         None => Err(Stop::Fault(Reason::Nothing)),
     }
 }
 
-/// Returns `text` with the TOML value `value` written over the value at `path`. `old` is the tree of `text`. Fails with
+/// Returns `old` with the TOML value `value` written over the value at `path`. Fails with
 /// `NoValue` if `value` is not a TOML value, with `Root` for the root, with `Nothing` if `path` names nothing, and with
 /// `NotLiteral` if headers or dotted keys define the value at `path`.
-pub(crate) fn set_text(
-    alloc: Global,
-    text: &str,
-    path: &[&str],
-    value: &str,
-    old: &Value<'_>,
-) -> Edited<String>
-    ensures { IfOk result (λ new. spec.IsWrittenOver value.now (map (λ s. s.now) path.now) (view old.now) text.now
-        (string_bytes new)) }
+pub(crate) fn set_text(old: Old<'_, '_>, path: &[&str], value: &str) -> Edited<String>
+    ensures { IfOk result (λ new. spec.IsWrittenOver value.now (map (λ s. s.now) path.now) (view old.entry.tree.now)
+        old.entry.text.now (string_bytes new)) }
 {
-    match how_written(alloc, text, path, value, old)? {
-        Written::Literal => write_over(alloc, text, path, value, old),
+    match how_written(old, path, value)? {
+        Written::Literal => write_over(old, path, value),
         _ if path.is_empty() => Err(Stop::Fault(Reason::Root)),
         Written::Nowhere => Err(Stop::Fault(Reason::Nothing)),
         Written::Otherwise => Err(Stop::Fault(Reason::NotLiteral)),

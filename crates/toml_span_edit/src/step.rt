@@ -1,18 +1,17 @@
 //! Makes one edit, and checks that the new tree is the old one with only this change.
-ghost use Rattle.std.specs.Prelude.{◌≡◌, ◌++◌, [], IfErr, IfOk, OnOk, true, codes, map, string_bytes};
-ghost use Rattle.std.specs.Prelude.{◌⊎◌};
+ghost use Rattle.std.specs.Prelude.{◌≡◌, ◌⊎◌, [], IfErr, IfOk, OnOk, true, map, string_bytes};
 ghost use Rattle.toml_span_read.specs.Data.{depth_limit};
 ghost use Rattle.toml_span_tree.specs.Value.{view};
 ghost use Rattle.toml_span.specs.Parsing.{IsTree};
 ghost use Rattle.toml_span_edit.specs.Edited as spec;
 ghost use Rattle.toml_span_edit.specs.Kept as kept;
 ghost use Rattle.toml_span_edit.specs.Refused as refusals;
-ghost use Rattle.toml_span_edit.specs.declared.step.Destination.TheVariants.{Here, End};
 ghost use Rattle.toml_span_edit.specs.Comments.{AddsNoComment};
 ghost use Rattle.toml_span_edit.specs.Made.{local};
 ghost use Rattle.toml_span_edit.specs.Reasons.{fault_text};
 
 use crate::comments::check_comments;
+use crate::document::Old;
 use crate::edits::{Change, Edit};
 use crate::given::{no_value, probe_text};
 use crate::made::{Local, added, changed, child, value_at};
@@ -140,8 +139,19 @@ fn is_made(alloc: Global, edit: Edit<'_>, old: &Value<'_>, new: &Value<'_>) -> E
     match change {
         Change::Set(value) => is_placed(alloc, Destination::Here, value, path, old, new),
         Change::Replace(value) => is_placed(alloc, Destination::Here, value, path, old, new),
-        Change::SetOrAdd(value) => is_set_or_new(alloc, value, path, old, new),
-        Change::Append(value) => is_appended(alloc, value, path, old, new),
+        Change::SetOrAdd(value) => {
+            if value_at(path, old).is_some() {
+                return is_placed(alloc, Destination::Here, value, path, old, new);
+            }
+            is_new(alloc, value, path, old, new)
+        }
+        Change::Append(value) => {
+            if value_at(path, old).is_some() {
+                return is_placed(alloc, Destination::End, value, path, old, new);
+            }
+            let list = joined(alloc, "[", value, "]")?;
+            is_new(alloc, list.as_str(), path, old, new)
+        }
         Change::AddTable => is_new(alloc, "{}", path, old, new),
         Change::Add(value) => is_under(alloc, value, path, old, new),
         Change::Insert(value) => is_under(alloc, value, path, old, new),
@@ -149,45 +159,6 @@ fn is_made(alloc: Global, edit: Edit<'_>, old: &Value<'_>, new: &Value<'_>) -> E
         Change::Rename(name) => Ok(is_renamed(name, path, old, new)),
         Change::MoveTo(_) => Ok(false),
     }
-}
-
-/// Returns whether the tree `new` is the tree `old` with the TOML value `value` at `path`, added or in place of another
-/// value. Fails with `NoValue` if `value` can't be read.
-fn is_set_or_new(
-    alloc: Global,
-    value: &str,
-    path: &[&str],
-    old: &Value<'_>,
-    new: &Value<'_>,
-) -> Edited<bool>
-    ensures { IfOk result (λ holds. holds ≡ true
-        → (spec.IsNew value.now (map (λ s. s.now) path.now) (view old.now) (view new.now))
-        ⊎ (spec.IsPlaced (spec.is_placed Here) value.now (map (λ s. s.now) path.now) (view old.now) (view new.now))) }
-{
-    if value_at(path, old).is_some() {
-        return is_placed(alloc, Destination::Here, value, path, old, new);
-    }
-    is_new(alloc, value, path, old, new)
-}
-
-/// Returns whether the tree `new` is the tree `old` with the TOML value `value` added at the end of the array at
-/// `path`, or with a new array at `path` that has only this element. Fails with `NoValue` if `value` can't be read.
-fn is_appended(
-    alloc: Global,
-    value: &str,
-    path: &[&str],
-    old: &Value<'_>,
-    new: &Value<'_>,
-) -> Edited<bool>
-    ensures { IfOk result (λ holds. holds ≡ true
-        → (spec.IsNew (codes "[" ++ (value.now ++ codes "]")) (map (λ s. s.now) path.now) (view old.now) (view new.now))
-        ⊎ (spec.IsPlaced (spec.is_placed End) value.now (map (λ s. s.now) path.now) (view old.now) (view new.now))) }
-{
-    if value_at(path, old).is_some() {
-        return is_placed(alloc, Destination::End, value, path, old, new);
-    }
-    let list = joined(alloc, "[", value, "]")?;
-    is_new(alloc, list.as_str(), path, old, new)
 }
 
 /// Returns whether the tree `new` is the tree `old` with the TOML value `value` added at `path`, in a table or array
@@ -323,142 +294,125 @@ fn rest_of<'t>(alloc: Global, without: &'t str, path: &[&str], old: &Value<'_>) 
     Err(Stop::Fault(Reason::WouldDiffer))
 }
 
-/// Returns `text` with `value`, the value at `path`, moved to `target`. `old` is the tree of `text`, and `base` what
-/// `text_without` returned for `text` and `path`. Fails with a reason if the move is refused.
+/// Returns `old` with `value`, the value at `path`, moved to `target`. `base` is what `text_without` returned for
+/// `path`. Fails with a reason if the move is refused.
 fn moved_from(
-    alloc: Global,
-    text: &str,
+    old: Old<'_, '_>,
     base: &str,
     path: &[&str],
     target: &[&str],
     value: &Value<'_>,
-    old: &Value<'_>,
 ) -> Edited<String>
     ensures moved { IfOk result (λ new. spec.IsMoved (map (λ s. s.now) target.now) (map (λ s. s.now) path.now)
-        (view value.now) (view old.now) (string_bytes new)) }
+        (view value.now) (view old.entry.tree.now) (string_bytes new)) }
     ensures kept { IfOk result (λ new. (kept.IsInserted base.now (string_bytes new))
-        ⊎ ((kept.HasOtherHeaders text.now (string_bytes new))
-        ⊎ (kept.HasOtherKey (map (λ s. s.now) path.now) text.now (string_bytes new)))) }
+        ⊎ ((kept.HasOtherHeaders old.entry.text.now (string_bytes new))
+        ⊎ (kept.HasOtherKey (map (λ s. s.now) path.now) old.entry.text.now (string_bytes new)))) }
 {
-    let rest = rest_of(alloc, base, path, old)?;
-    check_target(alloc, text, path, target, &rest, old)?;
-    let new = moved_text(alloc, text, base, path, target, value, old)?;
-    check_put_back(alloc, target, value, &rest, new.as_str())?;
+    let rest = rest_of(old.alloc, base, path, old.tree)?;
+    check_target(old, path, target, &rest)?;
+    let new = moved_text(old, base, path, target, value)?;
+    check_put_back(old.alloc, target, value, &rest, new.as_str())?;
     Ok(new)
 }
 
-/// Returns `text` with `value`, the value at `path`, moved to `target`. `old` is the tree of `text`. Fails with a
-/// reason if the move is refused.
-fn move_value(
-    alloc: Global,
-    text: &str,
-    path: &[&str],
-    target: &[&str],
-    value: &Value<'_>,
-    old: &Value<'_>,
-) -> Edited<String>
+/// Returns `old` with `value`, the value at `path`, moved to `target`. Fails with a reason if the move is refused.
+fn move_value(old: Old<'_, '_>, path: &[&str], target: &[&str], value: &Value<'_>) -> Edited<String>
     ensures moved { IfOk result (λ new. spec.IsMoved (map (λ s. s.now) target.now) (map (λ s. s.now) path.now)
-        (view value.now) (view old.now) (string_bytes new)) }
-    ensures kept { IfOk result (λ new. kept.IsMovedText (map (λ s. s.now) path.now) (view old.now) text.now
-        (string_bytes new)) }
-    ensures none { IfOk result (λ new. AddsNoComment [] text.now (string_bytes new)) }
+        (view value.now) (view old.entry.tree.now) (string_bytes new)) }
+    ensures kept { IfOk result (λ new. kept.IsMovedText (map (λ s. s.now) path.now) (view old.entry.tree.now)
+        old.entry.text.now (string_bytes new)) }
+    ensures none { IfOk result (λ new. AddsNoComment [] old.entry.text.now (string_bytes new)) }
 {
-    let without = text_without(alloc, text, path, old)?;
-    let new = moved_from(alloc, text, without.as_str(), path, target, value, old)?;
-    check_comments(alloc, "", text, new.as_str())?;
+    let without = text_without(old, path)?;
+    let new = moved_from(old, without.as_str(), path, target, value)?;
+    check_comments(old.alloc, "", old.text, new.as_str())?;
     Ok(new)
 }
 
-/// Returns what `move_value` returns for `value`, the value at the path of `edit`. Fails with a reason that the tree
+/// Returns what `move_value` returns for `value`, the value at the path of `edit`. Fails with a reason that the tree of
 /// `old` confirms.
-fn moved(
-    alloc: Global,
-    text: &str,
-    edit: Edit<'_>,
-    target: &[&str],
-    value: &Value<'_>,
-    old: &Value<'_>,
-) -> Edited<String>
+fn moved(old: Old<'_, '_>, edit: Edit<'_>, target: &[&str], value: &Value<'_>) -> Edited<String>
     ensures moved { IfOk result (λ new. spec.IsMoved (map (λ s. s.now) target.now)
-        (map (λ s. s.now) edit.entry.path.now) (view value.now) (view old.now) (string_bytes new)) }
-    ensures kept { IfOk result (λ new. kept.IsMovedText (map (λ s. s.now) edit.entry.path.now) (view old.now) text.now
-        (string_bytes new)) }
-    ensures none { IfOk result (λ new. AddsNoComment [] text.now (string_bytes new)) }
+        (map (λ s. s.now) edit.entry.path.now) (view value.now) (view old.entry.tree.now) (string_bytes new)) }
+    ensures kept { IfOk result (λ new. kept.IsMovedText (map (λ s. s.now) edit.entry.path.now) (view old.entry.tree.now)
+        old.entry.text.now (string_bytes new)) }
+    ensures none { IfOk result (λ new. AddsNoComment [] old.entry.text.now (string_bytes new)) }
     ensures refused { IfErr result (refusals.IsRefusedChange edit.entry.change (map (λ s. s.now) edit.entry.path.now)
-        (view old.now) text.now) }
+        (view old.entry.tree.now) old.entry.text.now) }
 {
-    match move_value(alloc, text, edit.path, target, value, old) {
+    match move_value(old, edit.path, target, value) {
         Ok(new) => Ok(new),
-        Err(stop) => Err(confirmed(stop, edit, old)),
+        Err(stop) => Err(confirmed(stop, edit, old.tree)),
     }
 }
 
 /// Returns the text that `edited_text` returns for these arguments. Fails with `AlreadyThere` if the edit would replace
 /// a value that it must not replace, and with another reason if `edited_text` fails.
-fn proposed(alloc: Global, text: &str, edit: Edit<'_>, old: &Value<'_>) -> Edited<String>
+fn proposed(old: Old<'_, '_>, edit: Edit<'_>) -> Edited<String>
     ensures { IfOk result (λ new. kept.Keeps edit.entry.change (map (λ s. s.now) edit.entry.path.now)
-        (view old.now) text.now (string_bytes new)) }
+        (view old.entry.tree.now) old.entry.text.now (string_bytes new)) }
 {
-    check_new(alloc, text, edit, old)?;
-    edited_text(alloc, text, edit, old)
+    check_new(old, edit)?;
+    edited_text(old, edit)
 }
 
 /// Returns the text that `proposed` returns for these arguments. Fails with a reason if that fails, or if its tree is
-/// not `old` with `edit` made. Always refuses a move.
-fn checked(alloc: Global, text: &str, edit: Edit<'_>, old: &Value<'_>) -> Edited<String>
+/// not that of `old` with `edit` made. Always refuses a move.
+fn checked(old: Old<'_, '_>, edit: Edit<'_>) -> Edited<String>
     ensures made { IfOk result (λ new. spec.IsMade edit.entry.change (map (λ s. s.now) edit.entry.path.now)
-        (view old.now) (string_bytes new)) }
+        (view old.entry.tree.now) (string_bytes new)) }
     ensures kept { IfOk result (λ new. kept.Keeps edit.entry.change (map (λ s. s.now) edit.entry.path.now)
-        (view old.now) text.now (string_bytes new)) }
+        (view old.entry.tree.now) old.entry.text.now (string_bytes new)) }
     ensures refused { IfErr result (refusals.IsRefusedChange edit.entry.change (map (λ s. s.now) edit.entry.path.now)
-        (view old.now) text.now) }
+        (view old.entry.tree.now) old.entry.text.now) }
 {
-    let new = match proposed(alloc, text, edit, old) {
+    let new = match proposed(old, edit) {
         Ok(new) => new,
-        Err(stop) => return Err(confirmed(stop, edit, old)),
+        Err(stop) => return Err(confirmed(stop, edit, old.tree)),
     };
-    match check_made(alloc, edit, old, new.as_str()) {
+    match check_made(old.alloc, edit, old.tree, new.as_str()) {
         Ok(()) => Ok(new),
         Err(stop) => Err(stop),
     }
 }
 
-/// Returns `text` with `edit` made, as `checked` does or, if that fails, by writing the value over a literal. `old` is
-/// the tree of `text`. Fails with a reason if `edit` is refused. Always refuses a move.
-fn edit_value(alloc: Global, text: &str, edit: Edit<'_>, old: &Value<'_>) -> Edited<String>
+/// Returns `old` with `edit` made, as `checked` does or, if that fails, by writing the value over a literal. Fails with
+/// a reason if `edit` is refused. Always refuses a move.
+fn edit_value(old: Old<'_, '_>, edit: Edit<'_>) -> Edited<String>
     ensures made { IfOk result (λ new. spec.IsMade edit.entry.change (map (λ s. s.now) edit.entry.path.now)
-        (view old.now) (string_bytes new)) }
+        (view old.entry.tree.now) (string_bytes new)) }
     ensures kept { IfOk result (λ new. kept.Keeps edit.entry.change (map (λ s. s.now) edit.entry.path.now)
-        (view old.now) text.now (string_bytes new)) }
+        (view old.entry.tree.now) old.entry.text.now (string_bytes new)) }
     ensures refused { IfErr result (refusals.IsRefusedChange edit.entry.change (map (λ s. s.now) edit.entry.path.now)
-        (view old.now) text.now) }
+        (view old.entry.tree.now) old.entry.text.now) }
     ensures over { IfErr result (refusals.UnlessMemory (refusals.CannotMakeOver edit.entry.change
-        (map (λ s. s.now) edit.entry.path.now) (view old.now) text.now)) }
+        (map (λ s. s.now) edit.entry.path.now) (view old.entry.tree.now) old.entry.text.now)) }
 {
-    let reason = match checked(alloc, text, edit, old) {
+    let reason = match checked(old, edit) {
         Ok(new) => return Ok(new),
         Err(Stop::Memory(error)) => return Err(Stop::Memory(error)),
         Err(Stop::Fault(reason)) => reason,
     };
-    match made_over(alloc, text, edit, old) {
+    match made_over(old, edit) {
         Ok(Some(new)) => Ok(new),
         Ok(None) => Err(Stop::Fault(reason)),
         Err(error) => Err(Stop::Memory(error)),
     }
 }
 
-/// Returns `text` with `edit` made. `old` is the tree of `text`. Fails with a reason if `edit` is refused.
-fn changed_text(alloc: Global, text: &str, edit: Edit<'_>, old: &Value<'_>) -> Edited<String>
-    requires { IsTree text.now depth_limit old.now }
-    ensures made { IfOk result (λ new. spec.EditMade edit.entry text.now (string_bytes new)) }
-    ensures refused { IfErr result (refusals.IsRefused edit.entry text.now) }
+/// Returns `old` with `edit` made. Fails with a reason if `edit` is refused.
+fn changed_text(old: Old<'_, '_>, edit: Edit<'_>) -> Edited<String>
+    requires { IsTree old.text.now depth_limit old.tree.now }
+    ensures made { IfOk result (λ new. spec.EditMade edit.entry old.entry.text.now (string_bytes new)) }
+    ensures refused { IfErr result (refusals.IsRefused edit.entry old.entry.text.now) }
 {
     match edit.change {
-        Change::MoveTo(target) => match value_at(edit.path, old) {
-            Some(value) => moved(alloc, text, edit, target, value, old),
+        Change::MoveTo(target) => match value_at(edit.path, old.tree) {
+            Some(value) => moved(old, edit, target, value),
             None => Err(Stop::Fault(Reason::Nothing)),
         },
-        _ => edit_value(alloc, text, edit, old),
+        _ => edit_value(old, edit),
     }
 }
 
@@ -469,7 +423,10 @@ pub(crate) fn step(alloc: Global, text: &str, edit: Edit<'_>) -> Edited<String>
     ensures refused { IfErr result (refusals.IsRefused edit.entry text.now) }
 {
     match old_tree(alloc, text) {
-        Ok(old) => changed_text(alloc, text, edit, &old),
+        Ok(root) => {
+            let tree = &root;
+            changed_text(Old { alloc, text, tree }, edit)
+        }
         Err(stop) => Err(stop),
     }
 }

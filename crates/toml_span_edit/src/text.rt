@@ -1,7 +1,6 @@
 //! Texts that are written piece by piece.
 ghost use Rattle.std.specs.Prelude.{◌≡◌, ◌++◌, IfOk, string_bytes};
 
-use crate::given::key_text;
 use std::alloc::{AllocError, Global};
 
 /// Returns three texts, one after the other.
@@ -38,14 +37,6 @@ impl Text {
         self.push(one);
         self.push(two);
         self.push(three);
-    }
-
-    /// Appends a key, in quotes if necessary.
-    pub(crate) fn push_key(&mut self, alloc: Global, name: &str) {
-        match key_text(alloc, name) {
-            Ok(key) => self.push(key.as_str()),
-            Err(_) => self.is_refused = true,
-        }
     }
 
     /// Returns the length in bytes.

@@ -6,20 +6,20 @@ ghost use Rattle.toml_span_edit.specs.Kept as spec;
 
 use crate::adding::{add, put_lines};
 use crate::comments::check_comments;
-use crate::document::{Document, sections_of};
+use crate::document::{Document, Old, sections_of};
 use crate::edits::{Change, Edit};
-use crate::growing::{append, insert};
-use crate::headed::{ElementPlace, element_text};
+use crate::given::check_value;
+use crate::headed::{ElementPlace, append, element_text, insert};
 use crate::inlined::inline_text;
 use crate::items::{Item, bare};
 use crate::kept::{keeps_around, only_comments};
 use crate::lines::{comments_above, line_end, part};
 use crate::made::value_at;
-use crate::mentions::{PathMention, last_part};
-use crate::missing::{add_deep, add_table, put_section};
+use crate::mentions::{Home, PathMention, last_part};
+use crate::missing::{add_table, put_missing, put_section};
 use crate::moving::{
-    Site, are_headers, header_comments, is_in_braces, keep_header, moved_value, put_moved,
-    rename_headers, section_site, sections_text,
+    Site, header_comments, keep_header, moved_value, put_moved, rename_headers, section_site,
+    sections_text,
 };
 use crate::plan::Plan;
 use crate::reach::around;
@@ -45,39 +45,8 @@ enum Insertion<'i> {
     Header,
 }
 
-/// Adds to `plan` the replacements that make `change` at `path`. Fails with a reason if `change` can't be made there,
-/// and with `WouldDiffer` for `Set`, `Replace`, `Rename`, `Remove` and `MoveTo`.
-fn plan_change(
-    document: Document<'_, '_>,
-    path: &[&str],
-    change: Change<'_>,
-    plan: &mut Plan,
-) -> Edited<()> {
-    match change {
-        Change::SetOrAdd(value) => add_deep(document, path, value, plan),
-        Change::Add(value) => add(document, path, value, plan),
-        Change::AddTable => add_table(document, path, plan),
-        Change::Append(value) => append(document, path, value, plan),
-        Change::Insert(value) => insert(document, path, bare(value), plan),
-        _ => Err(Stop::Fault(Reason::WouldDiffer)),
-    }
-}
-
-/// Adds to `plan` the replacements that insert `insertion` at `path`. Fails with a reason if this is not possible.
-fn plan(
-    document: Document<'_, '_>,
-    path: &[&str],
-    insertion: Insertion<'_>,
-    plan: &mut Plan,
-) -> Edited<()> {
-    match insertion {
-        Insertion::Change(change) => plan_change(document, path, change, plan),
-        Insertion::Moved(item) => put_moved(document, path, item, plan),
-        Insertion::Header => Ok(keep_header(document, path, plan)?),
-    }
-}
-
-/// Returns `text` with `insertion` at `path`, only by inserting text. Fails with a reason if this is not possible.
+/// Returns `text` with `insertion` at `path`, only by inserting text. Fails with a reason if this is not possible, and
+/// with `WouldDiffer` for the changes `Set`, `Replace`, `Rename`, `Remove` and `MoveTo`.
 fn inserted_text(
     alloc: Global,
     text: &str,
@@ -92,9 +61,23 @@ fn inserted_text(
         text,
         sections: sections.as_slice(),
     };
-    let mut pieces = Plan::new(alloc);
-    plan(document, path, insertion, &mut pieces)?;
-    pieces.inserted(text)
+    let mut plan = Plan::new(alloc);
+    match insertion {
+        Insertion::Change(Change::SetOrAdd(value)) => {
+            check_value(alloc, value)?;
+            put_missing(document, path, bare(value), &mut plan)?;
+        }
+        Insertion::Change(Change::Add(value)) => add(document, path, value, &mut plan)?,
+        Insertion::Change(Change::AddTable) => add_table(document, path, &mut plan)?,
+        Insertion::Change(Change::Append(value)) => append(document, path, value, &mut plan)?,
+        Insertion::Change(Change::Insert(value)) => {
+            insert(document, path, bare(value), &mut plan)?;
+        }
+        Insertion::Change(_) => return Err(Stop::Fault(Reason::WouldDiffer)),
+        Insertion::Moved(item) => put_moved(document, path, item, &mut plan)?,
+        Insertion::Header => keep_header(document, path, &mut plan)?,
+    }
+    plan.inserted(text)
 }
 
 /// Returns `text` with `change` made at `path`, only by inserting text, and without a comment that is not in `value`.
@@ -113,79 +96,48 @@ fn added_text(
     Ok(new)
 }
 
-/// Returns `text` with `value` written over the value at `path` or, if `path` names nothing, added at `path`. `old` is
-/// the tree of `text`. Fails with `Root` for the root, with `NotLiteral` if headers or dotted keys define the value at
-/// `path`, and with another reason if `value` can't be written there.
-fn set_or_added_text(
-    alloc: Global,
-    text: &str,
-    path: &[&str],
-    value: &str,
-    old: &Value<'_>,
-) -> Edited<String>
-    ensures { IfOk result (λ new.
-        (spec.IsWrittenOver value.now (map (λ s. s.now) path.now) (view old.now) text.now (string_bytes new))
-        ⊎ (spec.IsAdded value.now text.now (string_bytes new))) }
-{
-    match how_written(alloc, text, path, value, old)? {
-        Written::Literal => write_over(alloc, text, path, value, old),
-        _ if path.is_empty() => Err(Stop::Fault(Reason::Root)),
-        Written::Otherwise => Err(Stop::Fault(Reason::NotLiteral)),
-        Written::Nowhere => added_text(alloc, text, path, Change::SetOrAdd(value), value),
-    }
-}
-
 // ---- what is removed
-
-/// Returns the text of `document` without the value at `path` and, if `cuts_comments`, without the comment lines
-/// directly above it. Fails with a reason if the value can't be removed.
-fn removed(document: Document<'_, '_>, path: &[&str], cuts_comments: bool) -> Edited<String> {
-    let mut pieces = Plan::new(document.alloc);
-    remove(document, path, cuts_comments, &mut pieces)?;
-    pieces.applied(document.text)
-}
 
 /// Returns `new` if it can be made from `text` by replacing the bytes `start..end`. Fails with `WouldDiffer` otherwise.
 fn if_around(text: &str, start: usize, end: usize, new: String) -> Edited<String>
     ensures { IfOk result (λ out. spec.KeepsAround text.now (record { start = start; end = end })
         (string_bytes out)) }
 {
-    if keeps_around(text, Span { start, end }, new.as_str()) {
+    let span = Span { start, end };
+    if keeps_around(text.as_bytes(), span, new.as_str().as_bytes()) {
         Ok(new)
     } else {
         Err(Stop::Fault(Reason::WouldDiffer))
     }
 }
 
-/// Returns what `removed` returns for the document `text`, and the span that `around` returns for it and `old`, its
-/// tree. Fails if one of these fails.
-fn removed_around(
-    alloc: Global,
-    text: &str,
-    path: &[&str],
-    cuts_comments: bool,
-    old: &Value<'_>,
-) -> Edited<(String, Span)>
-    ensures { IfOk result (λ cut. spec.IsAround (map (λ s. s.now) path.now) (view old.now) text.now cut.1) }
+/// Returns `old` without the value at `path` and, if `cuts_comments`, without the comment lines directly above it. Also
+/// returns the span that `around` returns for `old`. Fails with a reason if the value can't be removed.
+fn removed_around(old: Old<'_, '_>, path: &[&str], cuts_comments: bool) -> Edited<(String, Span)>
+    ensures { IfOk result (λ cut. spec.IsAround (map (λ s. s.now) path.now) (view old.entry.tree.now) old.entry.text.now
+        cut.1) }
 {
+    let Old { alloc, text, tree } = old;
     let sections = sections_of(alloc, text)?;
     let document = Document {
         alloc,
         text,
         sections: sections.as_slice(),
     };
-    let new = removed(document, path, cuts_comments)?;
-    let span = around(document, path, old)?;
-    Ok((new, span))
+    let mut pieces = Plan::new(alloc);
+    remove(document, path, cuts_comments, &mut pieces)?;
+    let new = pieces.applied(text)?;
+    Ok((new, around(document, path, tree)?))
 }
 
-/// Returns `text` without the value at `path`. `old` is the tree of `text`. Fails with a reason if the value can't be
-/// removed, or if bytes outside the span that `around` returns would change.
-fn cut_text(alloc: Global, text: &str, path: &[&str], old: &Value<'_>) -> Edited<String>
-    ensures { IfOk result (λ new. spec.IsCut (map (λ s. s.now) path.now) (view old.now) text.now (string_bytes new)) }
+/// Returns `old` without the value at `path`. Fails with a reason if the value can't be removed, or if bytes outside
+/// the span that `around` returns would change.
+fn cut_text(old: Old<'_, '_>, path: &[&str]) -> Edited<String>
+    ensures { IfOk result (λ new. spec.IsCut (map (λ s. s.now) path.now) (view old.entry.tree.now) old.entry.text.now
+        (string_bytes new)) }
 {
-    let (new, span) = removed_around(alloc, text, path, false, old)?;
-    if_around(text, span.start, span.end, new)
+    let (new, span) = removed_around(old, path, false)?;
+    if_around(old.text, span.start, span.end, new)
 }
 
 /// Returns the start of the comment lines directly above the byte offset `at`. Without such lines, returns `at`.
@@ -200,15 +152,15 @@ fn comments_from(text: &str, at: usize) -> usize
     at
 }
 
-/// Returns `text` without the value at `path` and the comment lines directly above it. `old` is the tree of `text`.
-/// Fails with a reason if the value can't be removed, or if bytes outside the span that `around` returns, and outside
-/// the comment lines directly above this span, would change.
-fn cut_with_comments(alloc: Global, text: &str, path: &[&str], old: &Value<'_>) -> Edited<String>
-    ensures { IfOk result (λ new. spec.IsCutWithComments (map (λ s. s.now) path.now) (view old.now) text.now
-        (string_bytes new)) }
+/// Returns `old` without the value at `path` and the comment lines directly above it. Fails with a reason if the value
+/// can't be removed, or if bytes outside the span that `around` returns, and outside the comment lines directly above
+/// this span, would change.
+fn cut_with_comments(old: Old<'_, '_>, path: &[&str]) -> Edited<String>
+    ensures { IfOk result (λ new. spec.IsCutWithComments (map (λ s. s.now) path.now) (view old.entry.tree.now)
+        old.entry.text.now (string_bytes new)) }
 {
-    let (new, span) = removed_around(alloc, text, path, true, old)?;
-    if_around(text, comments_from(text, span.start), span.end, new)
+    let (new, span) = removed_around(old, path, true)?;
+    if_around(old.text, comments_from(old.text, span.start), span.end, new)
 }
 
 /// Returns where the section of the element of an array of tables at `path` begins, and whether the array has no other
@@ -243,177 +195,116 @@ fn element_at<'t>(
     })
 }
 
-/// Returns `text` without the array of tables that holds the value at `path`, and with `[]` in its place. `old` is the
-/// tree of `text`. Fails with a reason if this is not possible.
-fn emptied_text(alloc: Global, text: &str, path: &[&str], old: &Value<'_>) -> Edited<String>
-    ensures { IfOk result (λ new. spec.IsEmptied (map (λ s. s.now) path.now) (view old.now) text.now
-        (string_bytes new)) }
+/// Returns `old` without the array of tables that holds the value at `path`, and with `[]` in its place. Fails with a
+/// reason if this is not possible.
+fn emptied_text(old: Old<'_, '_>, path: &[&str]) -> Edited<String>
+    ensures { IfOk result (λ new. spec.IsEmptied (map (λ s. s.now) path.now) (view old.entry.tree.now)
+        old.entry.text.now (string_bytes new)) }
 {
     let [front @ .., _] = path else {
         return Err(Stop::Fault(Reason::Root));
     };
-    let without = cut_with_comments(alloc, text, front, old)?;
+    let without = cut_with_comments(old, front)?;
     let empty = Insertion::Change(Change::SetOrAdd("[]"));
-    inserted_text(alloc, without.as_str(), front, empty)
+    inserted_text(old.alloc, without.as_str(), front, empty)
 }
 
-/// Returns `text` without the value at `path`, and without the comments directly above it. If the value is the only
-/// element of an array of tables, the array becomes `[]`. `old` is the tree of `text`. Fails with a reason if the value
-/// can't be removed.
-pub(crate) fn text_without(
-    alloc: Global,
-    text: &str,
-    path: &[&str],
-    old: &Value<'_>,
-) -> Edited<String>
-    ensures { IfOk result (λ new. spec.IsRemoved (map (λ s. s.now) path.now) (view old.now) text.now
-        (string_bytes new)) }
+/// Returns `old` without the value at `path`, and without the comments directly above it. If the value is the only
+/// element of an array of tables, the array becomes `[]`. Fails with a reason if the value can't be removed.
+pub(crate) fn text_without(old: Old<'_, '_>, path: &[&str]) -> Edited<String>
+    ensures { IfOk result (λ new. spec.IsRemoved (map (λ s. s.now) path.now) (view old.entry.tree.now)
+        old.entry.text.now (string_bytes new)) }
 {
-    match element_at(alloc, text, path)? {
-        Some((_, true)) => emptied_text(alloc, text, path, old),
-        _ => cut_with_comments(alloc, text, path, old),
+    match element_at(old.alloc, old.text, path)? {
+        Some((_, true)) => emptied_text(old, path),
+        _ => cut_with_comments(old, path),
     }
 }
 
-/// Returns what `text_without` returns for `text` and `path`. Fails with `WouldDiffer` if it has a comment more.
-fn removed_text(alloc: Global, text: &str, path: &[&str], old: &Value<'_>) -> Edited<String>
-    ensures { IfOk result (λ new. (spec.IsRemoved (map (λ s. s.now) path.now) (view old.now) text.now
-        (string_bytes new)) × (AddsNoComment [] text.now (string_bytes new))) }
-{
-    let new = text_without(alloc, text, path, old)?;
-    check_comments(alloc, "", text, new.as_str())?;
-    Ok(new)
-}
-
-/// Returns `text` with the value at `path` removed, and then `value` added at `path` with the tables missing on the
-/// way. `old` is the tree of `text`. Fails with a reason if one of these steps is not possible.
-fn cut_then_added(
+/// Returns `text` with `value` inserted: as a section at `place` or, without a place, at `path`, with the tables
+/// missing on the way. At a place, `value` must be an inline table. Fails with a reason if this is not possible.
+fn with_value(
     alloc: Global,
     text: &str,
     path: &[&str],
+    place: Option<ElementPlace<'_>>,
     value: &str,
-    old: &Value<'_>,
 ) -> Edited<String>
-    ensures { IfOk result (λ new. spec.IsCutThenInserted (map (λ s. s.now) path.now) (view old.now) text.now
-        (string_bytes new)) }
-{
-    let without = cut_text(alloc, text, path, old)?;
-    let insertion = Insertion::Change(Change::SetOrAdd(value));
-    inserted_text(alloc, without.as_str(), path, insertion)
-}
-
-/// Returns `text` with `value`, an inline table, as a section with the header of `place` and at its offset.
-fn with_element(alloc: Global, text: &str, place: ElementPlace<'_>, value: &str) -> Edited<String>
     ensures { IfOk result (λ new. spec.IsInserted text.now (string_bytes new)) }
 {
+    let Some(place) = place else {
+        return inserted_text(
+            alloc,
+            text,
+            path,
+            Insertion::Change(Change::SetOrAdd(value)),
+        );
+    };
     let lines = element_text(alloc, line_end(text), place.header, value)?;
     let mut pieces = Plan::new(alloc);
     put_lines(text, place.at, lines.as_str(), &mut pieces);
     pieces.inserted(text)
 }
 
-/// Returns `text` with the value at `path` removed, and with `value` as a section at `place`. `old` is the tree of
-/// `text`. Fails with a reason if one of these steps is not possible.
-fn cut_then_written(
-    alloc: Global,
-    text: &str,
+/// Returns `old` with the value at `path` removed, and then `value` inserted as `with_value` does. Fails with a reason
+/// if one of these steps is not possible.
+fn cut_then_inserted(
+    old: Old<'_, '_>,
     path: &[&str],
-    place: ElementPlace<'_>,
+    place: Option<ElementPlace<'_>>,
     value: &str,
-    old: &Value<'_>,
 ) -> Edited<String>
-    ensures { IfOk result (λ new. spec.IsCutThenInserted (map (λ s. s.now) path.now) (view old.now) text.now
-        (string_bytes new)) }
+    ensures { IfOk result (λ new. spec.IsCutThenInserted (map (λ s. s.now) path.now) (view old.entry.tree.now)
+        old.entry.text.now (string_bytes new)) }
 {
-    let without = cut_text(alloc, text, path, old)?;
-    with_element(alloc, without.as_str(), place, value)
+    let without = cut_text(old, path)?;
+    with_value(old.alloc, without.as_str(), path, place, value)
 }
 
-/// Returns `text` with the array that holds the value at `path` removed, and with `value` as a section at `place`.
-/// `old` is the tree of `text`. Fails with a reason if one of these steps is not possible.
-fn array_rewritten(
-    alloc: Global,
-    text: &str,
-    path: &[&str],
-    place: ElementPlace<'_>,
-    value: &str,
-    old: &Value<'_>,
-) -> Edited<String>
-    ensures { IfOk result (λ new. spec.IsRewritten (map (λ s. s.now) path.now) (view old.now) text.now
-        (string_bytes new)) }
+/// Returns `old` with `value` in place of the value at `path`, which headers or dotted keys define. If the value is the
+/// only element of an array of tables, removes the array. Fails with a reason if this is not possible.
+fn rewritten_text(old: Old<'_, '_>, path: &[&str], value: &str) -> Edited<String>
+    ensures { IfOk result (λ new. spec.IsRewritten (map (λ s. s.now) path.now) (view old.entry.tree.now)
+        old.entry.text.now (string_bytes new)) }
 {
-    match path {
-        [front @ .., _] => cut_then_written(alloc, text, front, place, value, old),
-        [] => Err(Stop::Fault(Reason::WouldDiffer)),
-    }
-}
-
-/// Returns `text` with `value` in place of the value at `path`, which headers or dotted keys define. `old` is the tree
-/// of `text`. Fails with a reason if this is not possible.
-fn rewritten_text(
-    alloc: Global,
-    text: &str,
-    path: &[&str],
-    value: &str,
-    old: &Value<'_>,
-) -> Edited<String>
-    ensures { IfOk result (λ new. spec.IsRewritten (map (λ s. s.now) path.now) (view old.now) text.now
-        (string_bytes new)) }
-{
-    if path.is_empty() {
+    let [front @ .., _] = path else {
         return Err(Stop::Fault(Reason::Root));
-    }
-    match element_at(alloc, text, path)? {
-        Some((place, true)) => array_rewritten(alloc, text, path, place, value, old),
-        Some((place, false)) => cut_then_written(alloc, text, path, place, value, old),
-        None => cut_then_added(alloc, text, path, value, old),
+    };
+    match element_at(old.alloc, old.text, path)? {
+        Some((place, true)) => cut_then_inserted(old, front, Some(place), value),
+        Some((place, false)) => cut_then_inserted(old, path, Some(place), value),
+        None => cut_then_inserted(old, path, None, value),
     }
 }
 
-/// Returns what `rewritten_text` returns for these arguments. Fails with `WouldDiffer` if that has a comment that is
-/// neither in `text` nor in `value`.
-fn checked_text(
-    alloc: Global,
-    text: &str,
-    path: &[&str],
-    value: &str,
-    old: &Value<'_>,
-) -> Edited<String>
-    ensures { IfOk result (λ new. (spec.IsRewritten (map (λ s. s.now) path.now) (view old.now) text.now
-        (string_bytes new)) × (AddsNoComment value.now text.now (string_bytes new))) }
+/// Returns `old` with `value` in place of the value at `path`, which headers or dotted keys may define. Fails with a
+/// reason if this is not possible, and with `WouldDiffer` if the result has a comment that is neither in `old` nor in
+/// `value`.
+fn replaced_text(old: Old<'_, '_>, path: &[&str], value: &str) -> Edited<String>
+    ensures { IfOk result (λ new. (spec.IsWrittenOver value.now (map (λ s. s.now) path.now) (view old.entry.tree.now)
+        old.entry.text.now (string_bytes new)) ⊎ ((spec.IsRewritten (map (λ s. s.now) path.now) (view
+        old.entry.tree.now) old.entry.text.now (string_bytes new)) × (AddsNoComment value.now old.entry.text.now
+        (string_bytes new)))) }
 {
-    let new = rewritten_text(alloc, text, path, value, old)?;
-    check_comments(alloc, value, text, new.as_str())?;
-    Ok(new)
-}
-
-/// Returns `text` with `value` in place of the value at `path`, which headers or dotted keys may define. `old` is the
-/// tree of `text`. Fails with a reason if this is not possible.
-fn replaced_text(
-    alloc: Global,
-    text: &str,
-    path: &[&str],
-    value: &str,
-    old: &Value<'_>,
-) -> Edited<String>
-    ensures { IfOk result (λ new.
-        (spec.IsWrittenOver value.now (map (λ s. s.now) path.now) (view old.now) text.now (string_bytes new))
-        ⊎ ((spec.IsRewritten (map (λ s. s.now) path.now) (view old.now) text.now (string_bytes new))
-        × (AddsNoComment value.now text.now (string_bytes new)))) }
-{
-    match how_written(alloc, text, path, value, old)? {
-        Written::Literal => write_over(alloc, text, path, value, old),
-        _ => checked_text(alloc, text, path, value, old),
+    match how_written(old, path, value)? {
+        Written::Literal => write_over(old, path, value),
+        _ => {
+            let new = rewritten_text(old, path, value)?;
+            check_comments(old.alloc, value, old.text, new.as_str())?;
+            Ok(new)
+        }
     }
 }
 
 // ---- what is moved
 
-/// Returns `text` with `header` in place of `path` in the headers of the table, or array of tables, at `path`, and of
-/// the tables inside it. Fails with a reason if this is not possible.
-fn headers_text(alloc: Global, text: &str, path: &[&str], header: &str) -> Edited<String>
-    ensures { IfOk result (λ new. spec.AreHeadersReplaced text.now (string_bytes new)) }
+/// Returns `text` with the headers of the table, or array of tables, at `path` rewritten, so that they begin with
+/// `header`. A table that exists only because of it gets a header. Fails with a reason if this is not possible.
+fn renamed_headers(alloc: Global, text: &str, path: &[&str], header: &str) -> Edited<String>
+    ensures { IfOk result (λ new. spec.HasOtherHeaders text.now (string_bytes new)) }
 {
+    let kept = inserted_text(alloc, text, path, Insertion::Header)?;
+    let text = kept.as_str();
     let sections = sections_of(alloc, text)?;
     let document = Document {
         alloc,
@@ -423,15 +314,6 @@ fn headers_text(alloc: Global, text: &str, path: &[&str], header: &str) -> Edite
     let mut pieces = Plan::new(alloc);
     rename_headers(document, path, header, &mut pieces)?;
     pieces.in_headers(text)
-}
-
-/// Returns `text` with the headers of the table, or array of tables, at `path` rewritten, so that they begin with
-/// `header`. A table that exists only because of it gets a header. Fails with a reason if this is not possible.
-fn renamed_headers(alloc: Global, text: &str, path: &[&str], header: &str) -> Edited<String>
-    ensures { IfOk result (λ new. spec.HasOtherHeaders text.now (string_bytes new)) }
-{
-    let kept = inserted_text(alloc, text, path, Insertion::Header)?;
-    headers_text(alloc, kept.as_str(), path, header)
 }
 
 /// Returns where the sections of the value at `path` of `document` are written when it is moved to `target`. `without`
@@ -444,7 +326,10 @@ fn site_of(
     target: &[&str],
     is_table: bool,
 ) -> Edited<Option<Site>> {
-    let is_braced = is_in_braces(document.mentions(path)?.as_slice());
+    let mut is_braced = false;
+    for mention in document.mentions(path)? {
+        is_braced |= matches!(mention, PathMention::Dotted(_, _, Home::Braces(_, _)));
+    }
     let sections = sections_of(document.alloc, without)?;
     let rest = Document {
         alloc: document.alloc,
@@ -487,31 +372,21 @@ fn sections_moved(
         ⊎ (spec.HasOtherHeaders document.entry.text.now (string_bytes new))) }
 {
     let header = site.header.as_str();
-    if site.is_plain && are_headers(document.mentions(path)?.as_slice()) {
+    let mut only_headers = site.is_plain;
+    for mention in document.mentions(path)? {
+        only_headers &= match mention {
+            PathMention::Own(section) => !section.array,
+            PathMention::Below(_, _) => true,
+            _ => false,
+        };
+    }
+    if only_headers {
         return renamed_headers(document.alloc, document.text, path, header);
     }
     let lines = sections_text(document, path, header, site.is_element)?;
     let mut pieces = Plan::new(document.alloc);
     put_section(without, site.at, lines.as_str(), &mut pieces);
     pieces.inserted(without)
-}
-
-/// Returns `text` with the value `value` at `path`, which headers or dotted keys define, moved to `target`. `without`
-/// is `text` without it. Fails with a reason if the value can't be moved.
-fn table_text(
-    document: Document<'_, '_>,
-    without: &str,
-    path: &[&str],
-    target: &[&str],
-    value: &Value<'_>,
-) -> Edited<String>
-    ensures { IfOk result (λ new. (spec.IsInserted without.now (string_bytes new))
-        ⊎ (spec.HasOtherHeaders document.entry.text.now (string_bytes new))) }
-{
-    match site_of(document, without, path, target, value.as_table().is_some())? {
-        Some(site) => sections_moved(document, without, path, &site),
-        None => inline_moved(document, without, path, target, value),
-    }
 }
 
 /// Returns the new name of the value at `path` if moving it to `target` only renames its key: if both paths lead into
@@ -535,22 +410,21 @@ fn new_name<'t>(
     Ok(Some(*name))
 }
 
-/// Returns `text` with the value `value` at `path` moved to `target`. `old` is the tree of `text`, and `without` what
-/// `text_without` returned for `text` and `path`. Fails with a reason if the value can't be moved.
+/// Returns `old` with the value `value` at `path` moved to `target`. `without` is what `text_without` returned for
+/// `path`. Fails with a reason if the value can't be moved.
 pub(crate) fn moved_text(
-    alloc: Global,
-    text: &str,
+    old: Old<'_, '_>,
     without: &str,
     path: &[&str],
     target: &[&str],
     value: &Value<'_>,
-    old: &Value<'_>,
 ) -> Edited<String>
     ensures { IfOk result (λ new. (spec.IsInserted without.now (string_bytes new))
-        ⊎ ((spec.HasOtherHeaders text.now (string_bytes new))
-        ⊎ (spec.HasOtherKey (map (λ s. s.now) path.now) text.now (string_bytes new)))) }
+        ⊎ ((spec.HasOtherHeaders old.entry.text.now (string_bytes new))
+        ⊎ (spec.HasOtherKey (map (λ s. s.now) path.now) old.entry.text.now (string_bytes new)))) }
 {
-    if let Some(name) = new_name(alloc, path, target, old)? {
+    let Old { alloc, text, tree } = old;
+    if let Some(name) = new_name(alloc, path, target, tree)? {
         return renamed_text(alloc, text, path, name);
     }
     let sections = sections_of(alloc, text)?;
@@ -561,30 +435,36 @@ pub(crate) fn moved_text(
     };
     match moved_value(document, path)? {
         Some(item) => inserted_text(alloc, without, target, Insertion::Moved(item)),
-        None => table_text(document, without, path, target, value),
+        None => match site_of(document, without, path, target, value.as_table().is_some())? {
+            Some(site) => sections_moved(document, without, path, &site),
+            None => inline_moved(document, without, path, target, value),
+        },
     }
 }
 
 // ---- changes
 
-/// Returns `text` with `edit` made. `old` is the tree of `text`. Fails with a reason if `edit` can't be made, and with
-/// `WouldDiffer` if it is a move.
-pub(crate) fn edited_text(
-    alloc: Global,
-    text: &str,
-    edit: Edit<'_>,
-    old: &Value<'_>,
-) -> Edited<String>
+/// Returns `old` with `edit` made. Fails with a reason if `edit` can't be made, and with `WouldDiffer` if it is a move.
+pub(crate) fn edited_text(old: Old<'_, '_>, edit: Edit<'_>) -> Edited<String>
     ensures { IfOk result (λ new. spec.Keeps edit.entry.change (map (λ s. s.now) edit.entry.path.now)
-        (view old.now) text.now (string_bytes new)) }
+        (view old.entry.tree.now) old.entry.text.now (string_bytes new)) }
 {
-    let Edit { path, change } = edit;
+    let (Old { alloc, text, tree }, Edit { path, change }) = (old, edit);
     match change {
-        Change::Set(value) => set_text(alloc, text, path, value, old),
-        Change::Replace(value) => replaced_text(alloc, text, path, value, old),
-        Change::SetOrAdd(value) => set_or_added_text(alloc, text, path, value, old),
+        Change::Set(value) => set_text(old, path, value),
+        Change::Replace(value) => replaced_text(old, path, value),
+        Change::SetOrAdd(value) => {
+            if value_at(path, tree).is_none() {
+                return added_text(alloc, text, path, change, value);
+            }
+            set_text(old, path, value)
+        }
         Change::Rename(name) => renamed_text(alloc, text, path, name),
-        Change::Remove => removed_text(alloc, text, path, old),
+        Change::Remove => {
+            let new = text_without(old, path)?;
+            check_comments(alloc, "", text, new.as_str())?;
+            Ok(new)
+        }
         Change::Add(value) => added_text(alloc, text, path, change, value),
         Change::AddTable => added_text(alloc, text, path, change, ""),
         Change::Append(value) => added_text(alloc, text, path, change, value),

@@ -1,10 +1,10 @@
 //! Suggests what can be written at an offset.
-ghost use Rattle.std.specs.Prelude.{◌≡◌, ◌≤◌, IfOk, IfSome, false, length};
+ghost use Rattle.std.specs.Prelude.{◌≡◌, ◌≤◌, IfOk, false, length};
 
 use crate::context::{Context, ExpectedText, NamedStep, context_at};
 use crate::document::{Document, read};
-use crate::keys::value_of;
-use crate::schemas::subschemas_at;
+use crate::keys::{has_key, value_of};
+use crate::schemas::{has_text, subschemas_at};
 use crate::siblings::{booleans, sibling_keys};
 use crate::suggestions::{key_suggestions, value_suggestions};
 use crate::syntax::Syntax;
@@ -91,6 +91,13 @@ pub(crate) struct Outer<'d, 's, 'p, 't> {
     pub(crate) written: &'s [String],
 }
 
+impl Outer<'_, '_, '_, '_> {
+    /// Returns whether the table has the key `name`, whether or not it can be read.
+    pub(crate) fn has(self, name: &str) -> bool {
+        has_key(self.own, name) || has_text(self.written, name)
+    }
+}
+
 /// Returns whether `label` has the bytes of `front` in order, in either case, with others between them.
 fn is_matched(front: &str, label: &str) -> bool {
     let mut left = front.as_bytes();
@@ -124,24 +131,21 @@ pub(crate) fn narrowed<'n>(
     Ok((kept, true))
 }
 
-/// Returns whether something can be added before `context.rest`, which does not begin with a blank.
-fn may_be_added(context: &Context<'_>) -> bool {
-    let is_header = matches!(
-        context.expected,
-        ExpectedText::Table | ExpectedText::TableInArray
-    );
-    match context.rest.as_bytes().first() {
-        None | Some(b'\n' | b'\r' | b'#' | b',' | b']' | b'}' | b'=') => true,
-        Some(b'.') => is_header,
-        _ => context.is_followed,
-    }
+/// Returns whether a part of a header is expected.
+fn is_header(expected: ExpectedText) -> bool {
+    matches!(expected, ExpectedText::Table | ExpectedText::TableInArray)
 }
 
 /// Returns the place for which suggestions are made at the offset `at`. Returns `None` if nothing can be written there.
 fn site_of<'t>(text: &'t str, context: &Context<'t>, at: usize) -> Option<Site<'t>> {
     let typed = context.typed;
     let is_new = typed.start == typed.end;
-    if context.expected == ExpectedText::Other || (is_new && !may_be_added(context)) {
+    let may_be_added = match context.rest.as_bytes().first() {
+        None | Some(b'\n' | b'\r' | b'#' | b',' | b']' | b'}' | b'=') => true,
+        Some(b'.') => is_header(context.expected),
+        _ => context.is_followed,
+    };
+    if context.expected == ExpectedText::Other || (is_new && !may_be_added) {
         return None;
     }
     if typed.start > at || typed.start > typed.end {
@@ -152,7 +156,7 @@ fn site_of<'t>(text: &'t str, context: &Context<'t>, at: usize) -> Option<Site<'
     Some(Site {
         expected: context.expected,
         typed,
-        front: front.trim_start_matches(|c| c == '"' || c == '\''),
+        front: front.trim_start_matches(['"', '\'']),
         rest: context.rest,
         is_tight: is_new && text.get(..at)?.ends_with('='),
         is_followed: context.is_followed,
@@ -222,64 +226,6 @@ fn header_steps<'p>(
     Ok(steps)
 }
 
-/// Returns where the document names tables, if `expected` is a part of a header.
-fn tables_of<'d>(
-    alloc: Global,
-    document: &'d Document<'_>,
-    expected: ExpectedText,
-) -> Result<Vec<TablePlace<'d>>, AllocError> {
-    match expected {
-        ExpectedText::Table | ExpectedText::TableInArray => {
-            table_places(alloc, document.sections.as_slice())
-        }
-        _ => Ok(Vec::new(alloc)),
-    }
-}
-
-/// Returns `context.path` as a path from the root of `document`. `context` describes the offset `at`.
-fn steps_of<'p>(
-    alloc: Global,
-    document: &'p Document<'_>,
-    tables: &[TablePlace<'_>],
-    at: usize,
-    context: &'p Context<'_>,
-) -> Result<Vec<Step<'p>>, AllocError> {
-    let path = context.path.as_slice();
-    if matches!(
-        context.expected,
-        ExpectedText::Table | ExpectedText::TableInArray
-    ) {
-        return header_steps(alloc, tables, path, at);
-    }
-    let mut steps = table_path(alloc, document, at)?;
-    for step in path {
-        push_step(step, &mut steps)?;
-    }
-    Ok(steps)
-}
-
-/// Returns the suggestions of the schema `guide` for a key of the table `outer` or, if a value is expected, for the
-/// value at `outer.steps`. Returns `None` where a key or a part of a header is expected, if there is no key to suggest.
-/// Also returns `None` where a value is expected, if there is no value to suggest and the schema does not restrict the
-/// value's kind.
-fn guided(
-    alloc: Global,
-    guide: &Guide,
-    outer: Outer<'_, '_, '_, '_>,
-    site: Site<'_>,
-) -> Result<Option<Completion>, AllocError> {
-    let found = subschemas_at(alloc, guide, &outer.document.root, outer.steps)?;
-    if site.expected == ExpectedText::Value {
-        return value_suggestions(alloc, guide, &found, site);
-    }
-    let made = key_suggestions(alloc, guide, &found, outer, site)?;
-    Ok(if made.suggestions.is_empty() {
-        None
-    } else {
-        Some(made)
-    })
-}
-
 /// Returns the table at the path `steps`.
 fn outer_of<'d, 's, 'p, 't>(
     document: &'d Document<'t>,
@@ -296,24 +242,26 @@ fn outer_of<'d, 's, 'p, 't>(
     }
 }
 
-/// Returns a list without suggestions.
-fn nothing(alloc: Global) -> Completion {
-    Completion {
-        suggestions: Vec::new(alloc),
-        is_incomplete: false,
-    }
-}
-
-/// Returns what can be written at `site`, in the table `outer` (see `completion_at`).
+/// Returns what can be written at `site`, in the table `outer` (see `completion_at`): the suggestions of the schema
+/// `guide` or, if there is nothing to suggest and the schema does not restrict the kind of a value, those without a
+/// schema.
 fn completed(
     alloc: Global,
     guide: Option<&Guide>,
     outer: Outer<'_, '_, '_, '_>,
     site: Site<'_>,
 ) -> Result<Completion, AllocError> {
-    if let Some(known) = guide {
-        if let Some(made) = guided(alloc, known, outer, site)? {
-            return Ok(made);
+    if let Some(guide) = guide {
+        let found = subschemas_at(alloc, guide, &outer.document.root, outer.steps)?;
+        if site.expected == ExpectedText::Value {
+            if let Some(made) = value_suggestions(alloc, guide, &found, site)? {
+                return Ok(made);
+            }
+        } else {
+            let made = key_suggestions(alloc, guide, &found, outer, site)?;
+            if !made.suggestions.is_empty() {
+                return Ok(made);
+            }
         }
     }
     let suggestions = match site.expected {
@@ -335,8 +283,18 @@ fn completion_in<'p>(
     context: &'p Context<'_>,
     site: Site<'_>,
 ) -> Result<Completion, AllocError> {
-    let tables = tables_of(alloc, &*document, site.expected)?;
-    let steps = steps_of(alloc, &*document, tables.as_slice(), site.at, &*context)?;
+    let (path, at) = (context.path.as_slice(), site.at);
+    let mut tables = Vec::new(alloc);
+    let mut steps;
+    if is_header(site.expected) {
+        tables = table_places(alloc, document.sections.as_slice())?;
+        steps = header_steps(alloc, tables.as_slice(), path, at)?;
+    } else {
+        steps = table_path(alloc, &*document, at)?;
+        for step in path {
+            push_step(step, &mut steps)?;
+        }
+    }
     let outer = outer_of(
         &*document,
         steps.as_slice(),
@@ -345,7 +303,11 @@ fn completion_in<'p>(
     );
     let made = completed(alloc, guide, outer, site)?;
     if site.expected == ExpectedText::Key && made.suggestions.is_empty() {
-        return open_siblings(alloc, &*context, site);
+        let suggestions = open_siblings(alloc, &*context, site)?;
+        return Ok(Completion {
+            suggestions,
+            ..made
+        });
     }
     Ok(made)
 }
@@ -356,10 +318,9 @@ fn open_siblings(
     alloc: Global,
     context: &Context<'_>,
     site: Site<'_>,
-) -> Result<Completion, AllocError> {
-    let mut made = nothing(alloc);
+) -> Result<Vec<Suggestion>, AllocError> {
     let Some(document) = read(alloc, context.front.as_str())? else {
-        return Ok(made);
+        return Ok(Vec::new(alloc));
     };
     let mut steps = Vec::new(alloc);
     for step in &context.path {
@@ -372,8 +333,7 @@ fn open_siblings(
         tables.as_slice(),
         context.names.as_slice(),
     );
-    made.suggestions = sibling_keys(alloc, outer, site)?;
-    Ok(made)
+    sibling_keys(alloc, outer, site)
 }
 
 /// Returns what can be written at the byte offset `at`: keys that the table at `at` lacks, values or, in a header,
@@ -392,7 +352,10 @@ pub fn completion_at<'d>(
 ) -> Result<Completion, AllocError> {
     let context = context_at(alloc, syntax, at)?;
     let Some(site) = site_of(syntax.text, &context, at) else {
-        return Ok(nothing(alloc));
+        return Ok(Completion {
+            suggestions: Vec::new(alloc),
+            is_incomplete: false,
+        });
     };
     completion_in(alloc, guide, &*document, &context, site)
 }

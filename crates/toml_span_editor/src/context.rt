@@ -265,7 +265,7 @@ pub(crate) fn context_at<'t>(
         context.typed.end = typed.span.end.max(literal_end(pieces, typed.before));
     }
     let rest = text.get(context.typed.end..).unwrap_or("");
-    context.rest = rest.trim_start_matches(|c| c == ' ' || c == '\t');
+    context.rest = rest.trim_start_matches([' ', '\t']);
     context.path = named(alloc, text, pieces, walk.path.as_slice())?;
     let Some(opened) = walk.opened.last() else {
         return Ok(context);
@@ -277,7 +277,10 @@ pub(crate) fn context_at<'t>(
         && is_followed(pieces, typed.before, end);
     if is_pair {
         context.names = names_in(alloc, text, pieces, opened.at, end, typed.before)?;
-        let start = pieces.get(first).map_or(0, |piece| piece.start);
+        let start = match pieces.get(first) {
+            Some(piece) => piece.start,
+            None => 0,
+        };
         context.front = closed_front(alloc, text, pieces, start, walk.opened.as_slice())?;
     }
     Ok(context)

@@ -3,11 +3,10 @@ ghost use Rattle.std.specs.Prelude.{IfOk, IfSome, map};
 ghost use Rattle.toml_span_editor.specs.Conversions.{ConvertsBy};
 ghost use Rattle.toml_span_read.specs.Data.{parsed_section};
 
-use crate::converted::is_converted_at;
 use crate::document::Document;
 use crate::edits::{Rewritten, differences};
 use std::alloc::{AllocError, Global};
-use toml_span_convert::{Conversion, converted};
+use toml_span_edit::{Conversion, converted};
 
 /// A conversion that an editor offers.
 #[derive(Clone, Copy)]
@@ -58,9 +57,6 @@ pub fn converting(
     let Some(new) = converted(alloc, text, sections, conversion, at)? else {
         return Ok(None);
     };
-    if !is_converted_at(alloc, document, conversion, at, new.as_str())? {
-        return Ok(None);
-    }
     let edits = differences(alloc, text, new.as_str())?;
     Ok(Some(Rewritten { edits, text: new }))
 }

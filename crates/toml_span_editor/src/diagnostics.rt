@@ -9,8 +9,6 @@ ghost use Rattle.toml_span_editor.specs.Diagnostics as spec;
 ghost use Rattle.toml_span_editor.specs.Edits.{edit_content};
 ghost use Rattle.toml_span_editor.specs.Repairs as mending;
 
-use crate::document::Document;
-use crate::duplicates::without_duplicate;
 use crate::edits::{Edit, differences, edited};
 use crate::partial::partial_reports;
 use crate::positions::{Encoding, Range};
@@ -22,6 +20,7 @@ use toml_span_check::every::parse_with_reports;
 use toml_span_check::fixing::FixLevel;
 use toml_span_check::newer::{Version, version_reports, with_all_fixes};
 use toml_span_check::schemas::{Chooser, SchemaReports, Schemas};
+use toml_span_check::statements::assignment_lines;
 use toml_span_lex::span::Span;
 use toml_span_report::{Replacement, Report, Severity};
 use toml_span_tree::Label;
@@ -264,9 +263,9 @@ fn text_reports<S: Schemas>(
 }
 
 /// Returns the diagnostics of a text, in the order in which `toml-span check` prints reports. For a text with errors,
-/// they are the reports of `check`, and then what `schemas` finds in what can be read, except for what may be wrong. For
-/// valid TOML, they report syntax that `version` lacks, and then what `schemas` finds. `name` is the name of the file.
-/// Fails if an allocation fails.
+/// they are the reports of `check`, and then what `schemas` finds in what can be read, except for what may be wrong.
+/// For valid TOML, they report syntax that `version` lacks, and then what `schemas` finds. `name` is the name of the
+/// file. Fails if an allocation fails.
 pub fn diagnostics<S: Schemas>(
     alloc: Global,
     encoding: Encoding,
@@ -304,9 +303,9 @@ fn reports_without_schema(
     }
 }
 
-/// Returns the diagnostics of a text without a schema, in the order in which `toml-span check` prints reports. For a text
-/// with errors, they are the reports of `check`. For valid TOML, they report syntax that `version` lacks. `name` is the
-/// name of the file. Fails if an allocation fails.
+/// Returns the diagnostics of a text without a schema, in the order in which `toml-span check` prints reports. For a
+/// text with errors, they are the reports of `check`. For valid TOML, they report syntax that `version` lacks. `name`
+/// is the name of the file. Fails if an allocation fails.
 pub fn diagnostics_without_schema(
     alloc: Global,
     encoding: Encoding,
@@ -339,11 +338,30 @@ fn edits_of(alloc: Global, replacements: &[Replacement]) -> Result<Vec<Edit>, Al
     Ok(edits)
 }
 
+/// Returns the edit that removes the lines of the assignment whose key is at the offset `at`. Since only errors about
+/// the key or its value can be gone without the assignment, the text has no new ones. Returns `None` if
+/// `assignment_lines` does. Takes time linear in the length of the text.
+fn without_duplicate(alloc: Global, text: &str, at: usize) -> Result<Option<Vec<Edit>>, AllocError>
+    ensures { IfOk result (λ made. RemovesLines text.now at
+        (option_map (λ edits. map edit_content edits.items) made)) }
+{
+    let Some(span) = assignment_lines(alloc, text, at)? else {
+        return Ok(None);
+    };
+    let mut edits = Vec::new(alloc);
+    edits.push(Edit {
+        span,
+        text: String::new(alloc),
+    })?;
+    Ok(Some(edits))
+}
+
 /// Returns the title of a repair whose report has this help: "write `a`" for "did you mean `a`?", otherwise the help.
 fn title_of(alloc: Global, help: &str) -> Result<String, AllocError> {
-    let meant = help
-        .strip_prefix("did you mean ")
-        .and_then(|rest| rest.strip_suffix('?'));
+    let meant = match help.strip_prefix("did you mean ") {
+        Some(rest) => rest.strip_suffix('?'),
+        None => None,
+    };
     match meant {
         Some(meant) => format!(in alloc; "write {meant}"),
         None => String::from_str(alloc, help),

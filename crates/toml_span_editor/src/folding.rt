@@ -15,37 +15,18 @@ pub struct Fold {
     pub is_comment: bool,
 }
 
-/// Returns whether a span of `text` has more than one line, not counting blanks and line ends at its end.
-fn has_lines(text: &str, span: Span) -> bool {
-    match text.get(span.start..span.end) {
-        Some(part) => part.trim_ascii_end().contains('\n'),
-        None => false,
-    }
-}
-
-/// Appends a fold of a span, or nothing if the span has only one line.
+/// Appends a fold of a span, or nothing if the span has only one line, not counting blanks and line ends at its end.
 fn push_fold(
     text: &str,
     span: Span,
     is_comment: bool,
     folds: &mut Vec<Fold>,
 ) -> Result<(), AllocError> {
-    if span.start <= span.end && has_lines(text, span) {
+    let part = text.get(span.start..span.end).unwrap_or("");
+    if part.trim_ascii_end().contains('\n') {
         folds.push(Fold { span, is_comment })?;
     }
     Ok(())
-}
-
-/// Returns whether there are only blanks and one line end between the offsets `from` and `to`. Returns `false` if
-/// `from` is after `to`.
-fn is_next_line(text: &str, from: usize, to: usize) -> bool {
-    if from > to {
-        return false;
-    }
-    match text.get(from..to) {
-        Some(part) => part.trim().is_empty() && part.chars().filter(|c| *c == '\n').count() == 1,
-        None => false,
-    }
 }
 
 /// Appends a fold for each group of several comments on consecutive lines with nothing else between them.
@@ -56,7 +37,9 @@ fn push_comments(text: &str, pieces: &[Piece], folds: &mut Vec<Fold>) -> Result<
         if kind != Kind::Comment {
             continue;
         }
-        if is_next_line(text, group.end, start) && group.start < group.end {
+        let between = text.get(group.end..start).unwrap_or("");
+        let is_next_line = between.trim().is_empty() && between.split('\n').count() == 2;
+        if is_next_line && group.start < group.end {
             group.end = end;
         } else {
             push_fold(text, group, true, folds)?;
@@ -108,32 +91,20 @@ fn push_values(
             Kind::LineEnd => line = line.saturating_add(1),
             Kind::String(true) | Kind::Faulty(true) => push_fold(text, span, false, folds)?,
             Kind::Mark(b'[' | b'{') => opened.push((start, line))?,
-            _ if closes(kind) => close_fold(opened.pop(), line, end, folds)?,
+            _ if closes(kind) => match opened.pop() {
+                Some((start, first)) if first < line => {
+                    let span = Span { start, end };
+                    folds.push(Fold {
+                        span,
+                        is_comment: false,
+                    })?;
+                }
+                _ => (),
+            },
             _ => (),
         }
     }
     Ok(())
-}
-
-/// Appends the fold of brackets that end at the offset `end`, on the line `line` of their statement. `opened` is the
-/// offset and the line at which they begin. Appends nothing for brackets on one line.
-fn close_fold(
-    opened: Option<(usize, usize)>,
-    line: usize,
-    end: usize,
-    folds: &mut Vec<Fold>,
-) -> Result<(), AllocError> {
-    match opened {
-        Some((start, first)) if first < line => {
-            let span = Span { start, end };
-            folds.push(Fold {
-                span,
-                is_comment: false,
-            })?;
-            Ok(())
-        }
-        _ => Ok(()),
-    }
 }
 
 /// Returns the parts of a text that can be folded: sections that begin with a header, arrays, inline tables and

@@ -7,34 +7,21 @@ ghost use Rattle.toml_span_tree.specs.Value.{view};
 
 use crate::document::Document;
 use crate::keys::{key_at, value_of};
-use crate::paths::{dotted, pointer};
-use crate::schemas::{choices, description, subschemas_at};
+use crate::schemas::{documentation, subschemas_at};
 use std::alloc::{AllocError, Global};
 use std::fmt::Write;
 use toml_span::Value;
 use toml_span::value::Step;
 use toml_span_lex::span::Span;
-use toml_span_places::{key_places, literal_span, node_at};
+use toml_span_places::{key_places, literal_span, node_at, quote_key};
 use toml_span_schema::Guide;
 
 /// The maximum number of keys to list.
 const MOST: usize = 12;
 
-/// The names of the months.
-const MONTHS: [&str; 12] = [
-    "January",
-    "February",
-    "March",
-    "April",
-    "May",
-    "June",
-    "July",
-    "August",
-    "September",
-    "October",
-    "November",
-    "December",
-];
+/// The names of the months, each after a blank.
+const MONTHS: &str =
+    " January February March April May June July August September October November December";
 
 /// The span of a key or value, and its description in Markdown.
 #[derive(Drop)]
@@ -45,37 +32,13 @@ pub struct Hover {
 
 /// Returns the text between two offsets. Returns an empty text if they are not in order or not character boundaries.
 fn part(text: &str, from: usize, to: usize) -> &str {
-    if from > to {
-        return "";
-    }
     text.get(from..to).unwrap_or("")
-}
-
-/// Returns the name of the month with the number `digits`, from `01` to `12`. Returns an empty text for any other
-/// number, or if `digits` is not a number.
-fn month_of(digits: &str) -> &'static str {
-    match digits.parse::<usize>() {
-        Ok(month) if month > 0 => MONTHS.get(month.saturating_sub(1)).copied().unwrap_or(""),
-        _ => "",
-    }
-}
-
-/// Appends a date `YYYY-MM-DD` in words, such as `5 January 2024`.
-fn push_day(date: &str, out: &mut String) -> Result<(), AllocError> {
-    let day = part(date, 8, 10);
-    out.push_str(day.strip_prefix('0').unwrap_or(day))?;
-    out.push(' ')?;
-    out.push_str(month_of(part(date, 5, 7)))?;
-    out.push(' ')?;
-    out.push_str(part(date, 0, 4))
 }
 
 /// Appends a time, with its offset from UTC if there is one.
 fn push_time(time: &str, out: &mut String) -> Result<(), AllocError> {
     let is_utc = time.ends_with('Z') || time.ends_with('z');
-    let local = time
-        .find(|c| matches!(c, 'Z' | 'z' | '+' | '-'))
-        .unwrap_or(time.len());
+    let local = time.find(['Z', 'z', '+', '-']).unwrap_or(time.len());
     out.push_str(part(time, 0, local))?;
     if is_utc {
         out.push_str(" UTC")?;
@@ -91,7 +54,13 @@ fn push_date(date: &str, out: &mut String) -> Result<(), AllocError> {
     if date.as_bytes().get(4) != Some(&b'-') {
         return push_time(date, out);
     }
-    push_day(date, out)?;
+    let (day, month) = (part(date, 8, 10), part(date, 5, 7));
+    let month = month.parse::<usize>().unwrap_or(0);
+    out.push_str(day.strip_prefix('0').unwrap_or(day))?;
+    out.push(' ')?;
+    out.push_str(MONTHS.split(' ').nth(month).unwrap_or(""))?;
+    out.push(' ')?;
+    out.push_str(part(date, 0, 4))?;
     if date.len() > 11 {
         out.push_str(", ")?;
         push_time(part(date, 11, date.len()), out)?;
@@ -108,25 +77,9 @@ fn push_count(out: &mut String, count: usize, word: &str) -> Result<(), AllocErr
     Ok(())
 }
 
-/// Appends the number of a table's keys, and the names of the first `MOST` keys. Appends nothing for any other value.
-fn push_names(value: &Value<'_>, out: &mut String) -> Result<(), AllocError> {
-    let Some(table) = value.as_table() else {
-        return Ok(());
-    };
-    push_count(out, table.len(), "key")?;
-    for (count, (key, _)) in table.iter().enumerate() {
-        if count >= MOST {
-            return out.push_str(", …");
-        }
-        out.push_str(if count == 0 { ": `" } else { ", `" })?;
-        out.push_str(key.name.as_ref())?;
-        out.push('`')?;
-    }
-    Ok(())
-}
-
-/// Appends the decimal value of an integer, a date (in words) or time, the size of a string or array, or the keys of a
-/// table. Appends nothing for a float or boolean, or for an integer whose `literal` is its decimal value already.
+/// Appends the decimal value of an integer, a date (in words) or time, the size of a string or array, or the number of
+/// a table's keys, and the names of the first `MOST` keys. Appends nothing for a float or boolean, or for an integer
+/// whose `literal` is its decimal value already.
 fn push_details(value: &Value<'_>, literal: &str, out: &mut String) -> Result<(), AllocError> {
     if let Some(number) = value.as_integer() {
         let number = format!(in *out.allocator(); "{number}")?;
@@ -143,7 +96,19 @@ fn push_details(value: &Value<'_>, literal: &str, out: &mut String) -> Result<()
     if let Some(array) = value.as_array() {
         push_count(out, array.len(), "element")?;
     }
-    push_names(value, out)
+    let Some(table) = value.as_table() else {
+        return Ok(());
+    };
+    push_count(out, table.len(), "key")?;
+    for (count, (key, _)) in table.iter().enumerate() {
+        if count >= MOST {
+            return out.push_str(", …");
+        }
+        out.push_str(if count == 0 { ": `" } else { ", `" })?;
+        out.push_str(key.name.as_ref())?;
+        out.push('`')?;
+    }
+    Ok(())
 }
 
 /// Appends a paragraph, after a blank line if it is not the first. Appends nothing if `text` is empty.
@@ -152,6 +117,36 @@ fn push_paragraph(out: &mut String, text: &str) -> Result<(), AllocError> {
         out.push_str("\n\n")?;
     }
     out.push_str(text)
+}
+
+/// Returns a path as a pointer, such as `/a/0/b`. Names are not escaped.
+fn pointer(alloc: Global, path: &[Step<'_>]) -> Result<String, AllocError> {
+    let mut out = String::new(alloc);
+    for step in path {
+        out.push('/')?;
+        match *step {
+            Step::Key(name) => out.push_str(name)?,
+            Step::Position(at) => write!(out, "{at}")?,
+        }
+    }
+    Ok(out)
+}
+
+/// Returns a path as a dotted key with positions in brackets, such as `a[0].b`.
+fn dotted(alloc: Global, path: &[Step<'_>]) -> Result<String, AllocError> {
+    let mut out = String::new(alloc);
+    for step in path {
+        match *step {
+            Step::Key(name) => {
+                if !out.is_empty() {
+                    out.push('.')?;
+                }
+                out.push_str(quote_key(alloc, name)?.as_str())?;
+            }
+            Step::Position(at) => write!(out, "[{at}]")?,
+        }
+    }
+    Ok(out)
 }
 
 /// Appends the `path` and the kind of `value`, and the details that `push_details` appends. `text` is the source of the
@@ -189,8 +184,8 @@ fn described(
         return Ok(out);
     };
     let found = subschemas_at(alloc, guide, &document.root, path)?;
-    let said = description(alloc, guide, &found)?;
-    let choices = choices(alloc, guide, &found)?;
+    let said = documentation(alloc, guide, &found, true, false)?;
+    let choices = documentation(alloc, guide, &found, false, true)?;
     push_paragraph(&mut out, said.as_str())?;
     push_value(alloc, document.text, path, value, &mut out)?;
     push_paragraph(&mut out, choices.as_str())?;

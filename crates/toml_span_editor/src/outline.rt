@@ -21,15 +21,6 @@ pub struct Symbol {
     pub children: Vec<Symbol>,
 }
 
-/// Returns the shortest span that contains `span` and the spans of the symbols.
-fn around(span: Span, symbols: &[Symbol]) -> Span {
-    let mut span = span;
-    for symbol in symbols {
-        span = cover(span, symbol.span);
-    }
-    span
-}
-
 /// Returns the symbol of a value. Its span contains `selection`, the literal of the value, and the children.
 fn symbol_of(
     text: &str,
@@ -38,11 +29,14 @@ fn symbol_of(
     value: &Value<'_>,
     children: Vec<Symbol>,
 ) -> Symbol {
-    let own = cover(selection, literal_span(text, value));
+    let mut span = cover(selection, literal_span(text, value));
+    for symbol in &children {
+        span = cover(span, symbol.span);
+    }
     Symbol {
         name,
         kind: value.type_str(),
-        span: around(own, children.as_slice()),
+        span,
         selection,
         children,
     }
@@ -71,7 +65,7 @@ fn element_symbols(
     let mut out = Vec::new(alloc);
     let mut position: usize = 0;
     for element in elements {
-        if has_inner(element) {
+        if element.as_table().is_some() || element.as_array().is_some() {
             let children = symbols_in(alloc, text, element)?;
             let name = format!(in alloc; "{position}")?;
             let selection = literal_span(text, element);
@@ -94,11 +88,6 @@ fn entry_symbols(alloc: Global, text: &str, table: &Table<'_>) -> Result<Vec<Sym
     }
     out.sort_by_key(|symbol| symbol.span.start)?;
     Ok(out)
-}
-
-/// Returns whether a value is a table or an array.
-fn has_inner(value: &Value<'_>) -> bool {
-    value.as_table().is_some() || value.as_array().is_some()
 }
 
 /// Returns the symbols of a document, in the order of the text. An array lists only those elements that are tables or

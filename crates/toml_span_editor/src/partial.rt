@@ -115,8 +115,8 @@ fn is_among(code: &str, codes: &[&str]) -> bool
     false
 }
 
-/// Returns whether a report at the offset `place` may be wrong because of what is in doubt about a section. `is_certain`
-/// says whether its code is among the certain ones.
+/// Returns whether a report at the offset `place` may be wrong because of what is in doubt about a section.
+/// `is_certain` says whether its code is among the certain ones.
 fn is_doubted_by(doubt: Doubt, place: usize, is_certain: bool) -> bool
     ensures { result ≡ spec.is_doubted_by place is_certain doubt }
 {

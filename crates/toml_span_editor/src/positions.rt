@@ -3,6 +3,8 @@ ghost use Rattle.std.specs.Prelude.{◌≡◌, ◌+◌, ◌-◌, ◌<◌, ◌≤
 ghost use Rattle.std.specs.Str.{IsCharBoundary};
 ghost use Rattle.toml_span_editor.specs.Positions as spec;
 
+use toml_span_read::gaps::byte_at;
+
 /// The code units in which a position counts the characters of its line.
 #[derive(Clone, Copy, Debug, PartialEq, Eq)]
 pub enum Encoding {
@@ -40,14 +42,6 @@ fn plus(count: usize, more: usize) -> usize
     ensures { result ≡ spec.plus count more }
 {
     count.saturating_add(more).min(LARGEST)
-}
-
-/// Returns the byte at the offset `at`, or 0 at the end of the text and after it.
-pub(crate) fn byte_at(text: &str, at: usize) -> u8
-    ensures { result ≡ slice_index text.now at }
-{
-    let bytes = text.as_bytes();
-    if at < bytes.len() { bytes[at] } else { 0 }
 }
 
 /// Returns the number of code units of a character that has several bytes in UTF-8 and begins with `byte`.

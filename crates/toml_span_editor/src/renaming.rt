@@ -13,7 +13,7 @@ use std::alloc::{AllocError, Global};
 use std::borrow::CowStr;
 use toml_span::Stop;
 use toml_span::value::Step;
-use toml_span_edit::{Change, Edit as KeyEdit, EditError, Edits};
+use toml_span_edit::{Change, Edit as KeyEdit, Edits};
 use toml_span_lex::span::Span;
 use toml_span_places::{key_places, quote_key, segment_names};
 
@@ -73,13 +73,6 @@ pub fn renamable_at<'d>(
     }
 }
 
-/// Returns the message for a rename that was refused with `error`.
-fn refusal(alloc: Global, error: &EditError) -> Result<String, AllocError> {
-    let mut message = String::from_str(alloc, error.reason.text())?;
-    message.push_str(error.reason.detail())?;
-    Ok(message)
-}
-
 /// Returns the text with the key at a path renamed to `name`. Fails with a message if the rename is refused.
 fn renamed(alloc: Global, text: &str, path: &[&str], name: &str) -> Result<String, Stop<String>>
     ensures { IfOk result (λ new. Renames name.now (map (λ s. s.now) path.now) text.now (string_bytes new)) }
@@ -93,26 +86,9 @@ fn renamed(alloc: Global, text: &str, path: &[&str], name: &str) -> Result<Strin
         Ok(new) => Ok(new),
         Err(stop) => {
             let error = stop.fault()?;
-            Err(Stop::Fault(refusal(alloc, &error)?))
+            Err(Stop::Fault(format!(in alloc; "{}", error.reason)?))
         }
     }
-}
-
-/// Returns edits that replace each mention of the key at the offset `at` with the key `name`.
-fn mention_edits(
-    alloc: Global,
-    document: &Document<'_>,
-    at: usize,
-    name: &str,
-) -> Result<Vec<Edit>, AllocError> {
-    let mut edits = Vec::new(alloc);
-    for mention in mentions(alloc, document, at)? {
-        edits.push(Edit {
-            span: mention.span,
-            text: quote_key(alloc, name)?,
-        })?;
-    }
-    Ok(edits)
 }
 
 /// Returns the edits that rename the key at the byte offset `at` (see `renamable_at`) to `name`, wherever the key is
@@ -132,7 +108,13 @@ pub fn rename(
     };
     let path = segment_names(alloc, key.path.as_slice())?;
     let text = renamed(alloc, document.text, path.as_slice(), name)?;
-    let edits = mention_edits(alloc, document, at, name)?;
+    let mut edits = Vec::new(alloc);
+    for mention in mentions(alloc, document, at)? {
+        edits.push(Edit {
+            span: mention.span,
+            text: quote_key(alloc, name)?,
+        })?;
+    }
     if changes_into(alloc, document.text, edits.as_slice(), text.as_str())? {
         return Ok(Rewritten { edits, text });
     }

@@ -28,6 +28,16 @@ pub(crate) fn subschemas_at(
     Ok(found)
 }
 
+/// Returns whether one of `texts` is `text`.
+pub(crate) fn has_text(texts: &[String], text: &str) -> bool {
+    for other in texts {
+        if other.as_str() == text {
+            return true;
+        }
+    }
+    false
+}
+
 /// Returns the values of `enum` and `const` in the subschemas, each once, as TOML.
 pub(crate) fn listed_values(
     alloc: Global,
@@ -38,7 +48,7 @@ pub(crate) fn listed_values(
     for note in guide.notes_of(alloc, found)? {
         for value in &note.values {
             let value = to_toml(alloc, value)?;
-            if !values.iter().any(|other| other.as_str() == value.as_str()) {
+            if !has_text(values.as_slice(), value.as_str()) {
                 values.push(value)?;
             }
         }
@@ -76,18 +86,14 @@ pub(crate) fn is_deprecated(
 
 /// Appends a paragraph, or nothing if `text` is empty or one of the paragraphs already.
 fn push_paragraph(paragraphs: &mut Vec<String>, text: String) -> Result<(), AllocError> {
-    if !text.is_empty()
-        && !paragraphs
-            .iter()
-            .any(|other| other.as_str() == text.as_str())
-    {
+    if !text.is_empty() && !has_text(paragraphs.as_slice(), text.as_str()) {
         paragraphs.push(text)?;
     }
     Ok(())
 }
 
 /// Appends the title (in bold) and the description of a schema, each as a paragraph, if the schema has them.
-fn push_text(alloc: Global, note: &Notes, paragraphs: &mut Vec<String>) -> Result<(), AllocError> {
+fn push_notes(alloc: Global, note: &Notes, paragraphs: &mut Vec<String>) -> Result<(), AllocError> {
     if let Some(title) = &note.title {
         push_paragraph(paragraphs, format!(in alloc; "**{title}**")?)?;
     }
@@ -113,81 +119,36 @@ fn values_line(alloc: Global, values: &[String]) -> Result<String, AllocError> {
     Ok(line)
 }
 
-/// Returns the paragraphs, separated by blank lines.
-fn joined(alloc: Global, paragraphs: &[String]) -> Result<String, AllocError> {
-    let mut out = String::new(alloc);
-    for paragraph in paragraphs {
-        if !out.is_empty() {
-            out.push_str("\n\n")?;
-        }
-        out.push_str(paragraph.as_str())?;
-    }
-    Ok(out)
-}
-
-/// Appends `Deprecated.` if one of the subschemas `found` is deprecated, and their titles and descriptions.
-fn push_description(
-    alloc: Global,
-    guide: &Guide,
-    found: &Subschemas,
-    paragraphs: &mut Vec<String>,
-) -> Result<(), AllocError> {
-    if is_deprecated(alloc, guide, found)? {
-        push_paragraph(paragraphs, String::from_str(alloc, "Deprecated.")?)?;
-    }
-    for note in guide.notes_of(alloc, found)? {
-        push_text(alloc, note, paragraphs)?;
-    }
-    Ok(())
-}
-
-/// Appends the default, and the values of `enum` and `const`, of the subschemas `found`.
-fn push_choices(
-    alloc: Global,
-    guide: &Guide,
-    found: &Subschemas,
-    paragraphs: &mut Vec<String>,
-) -> Result<(), AllocError> {
-    if let Some(default) = default_of(alloc, guide, found)? {
-        push_paragraph(paragraphs, format!(in alloc; "Default: `{default}`")?)?;
-    }
-    let values = listed_values(alloc, guide, found)?;
-    push_paragraph(paragraphs, values_line(alloc, values.as_slice())?)
-}
-
-/// Returns what the subschemas `found` say about a value, in Markdown: `Deprecated.` if one of them is deprecated, and
-/// their titles and descriptions. The text is empty if they have none of these.
-pub(crate) fn description(
-    alloc: Global,
-    guide: &Guide,
-    found: &Subschemas,
-) -> Result<String, AllocError> {
-    let mut paragraphs = Vec::new(alloc);
-    push_description(alloc, guide, found, &mut paragraphs)?;
-    joined(alloc, paragraphs.as_slice())
-}
-
-/// Returns the values that the subschemas `found` suggest, in Markdown: the default, and the values of `enum` and
-/// `const`. The text is empty if they suggest none.
-pub(crate) fn choices(
-    alloc: Global,
-    guide: &Guide,
-    found: &Subschemas,
-) -> Result<String, AllocError> {
-    let mut paragraphs = Vec::new(alloc);
-    push_choices(alloc, guide, found, &mut paragraphs)?;
-    joined(alloc, paragraphs.as_slice())
-}
-
-/// Returns the documentation of a value in Markdown, from the subschemas `found` for the value: the result of
-/// `description`, followed by that of `choices`.
+/// Returns the documentation of a value in Markdown, from the subschemas `found` for the value. If `is_described`, it
+/// has `Deprecated.` if one of them is deprecated, their titles (in bold) and their descriptions. If `has_choices`, it
+/// has the default, and the values of `enum` and `const`. The text is empty if there are none of these.
 pub(crate) fn documentation(
     alloc: Global,
     guide: &Guide,
     found: &Subschemas,
+    is_described: bool,
+    has_choices: bool,
 ) -> Result<String, AllocError> {
     let mut paragraphs = Vec::new(alloc);
-    push_description(alloc, guide, found, &mut paragraphs)?;
-    push_choices(alloc, guide, found, &mut paragraphs)?;
-    joined(alloc, paragraphs.as_slice())
+    if is_described {
+        if is_deprecated(alloc, guide, found)? {
+            push_paragraph(&mut paragraphs, String::from_str(alloc, "Deprecated.")?)?;
+        }
+        for note in guide.notes_of(alloc, found)? {
+            push_notes(alloc, note, &mut paragraphs)?;
+        }
+    }
+    if has_choices {
+        if let Some(default) = default_of(alloc, guide, found)? {
+            push_paragraph(&mut paragraphs, format!(in alloc; "Default: `{default}`")?)?;
+        }
+        let values = listed_values(alloc, guide, found)?;
+        push_paragraph(&mut paragraphs, values_line(alloc, values.as_slice())?)?;
+    }
+    let mut out = String::new(alloc);
+    for paragraph in &paragraphs {
+        out.push_str(if out.is_empty() { "" } else { "\n\n" })?;
+        out.push_str(paragraph.as_str())?;
+    }
+    Ok(out)
 }

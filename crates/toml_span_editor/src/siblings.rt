@@ -3,7 +3,7 @@ ghost use Rattle.std.specs.Prelude.{◌≡◌, IfOk};
 ghost use Rattle.toml_span_editor.specs.Completions.{Replace};
 
 use crate::completion::{Outer, Site, Suggestion, SuggestionKind};
-use crate::keys::{has_key, value_of};
+use crate::keys::value_of;
 use crate::suggestions::{is_assigned, snippet_of, value_suggestion};
 use std::alloc::{AllocError, Global};
 use toml_span::Value;
@@ -24,17 +24,6 @@ struct Sibling<'v, 't> {
     value: &'v Value<'t>,
 }
 
-/// Returns the index of the last step that is a position in an array, or `None` if no step is a position.
-fn last_position(path: &[Step<'_>]) -> Option<usize> {
-    let mut found = None;
-    for (index, step) in path.iter().enumerate() {
-        if let Step::Position(_) = step {
-            found = Some(index);
-        }
-    }
-    found
-}
-
 /// Appends each key of `table` that the table `outer` lacks and that is not in the list yet. Appends nothing if `table`
 /// is not a table.
 fn push_keys<'v, 't>(
@@ -47,9 +36,7 @@ fn push_keys<'v, 't>(
     };
     for (key, value) in table.iter() {
         let name = key.name.as_ref();
-        let is_written = has_key(outer.own, name)
-            || outer.written.iter().any(|other| other.as_str() == name);
-        let is_new = !is_written && !found.iter().any(|other| other.name == name);
+        let is_new = !outer.has(name) && !found.iter().any(|other| other.name == name);
         if is_new && found.len() < MOST {
             found.push(Sibling { name, value })?;
         }
@@ -94,8 +81,11 @@ fn siblings<'d, 't>(
     outer: Outer<'d, '_, '_, 't>,
 ) -> Result<Vec<Sibling<'d, 't>>, AllocError> {
     let mut found = Vec::new(alloc);
-    if let Some(index) = last_position(outer.steps) {
-        push_siblings(outer, index, &mut found)?;
+    for (index, step) in outer.steps.iter().enumerate().rev() {
+        if let Step::Position(_) = step {
+            push_siblings(outer, index, &mut found)?;
+            break;
+        }
     }
     for index in 1..outer.steps.len() {
         if found.is_empty() {

@@ -2,21 +2,13 @@
 use std::alloc::AllocError;
 use toml_span_schema::Kinds;
 
-/// Appends text outside a choice, with `\` before each `$`, `}` and `\`.
-pub(crate) fn push_text(out: &mut String, text: &str) -> Result<(), AllocError> {
-    for c in text.chars() {
-        if matches!(c, '$' | '}' | '\\') {
-            out.push('\\')?;
-        }
-        out.push(c)?;
-    }
-    Ok(())
-}
+/// The characters before which text outside a choice needs `\`.
+pub(crate) const OUTSIDE: &str = "$}\\";
 
-/// Appends a word of a choice, with `\` before each `,`, `|` and `\`.
-fn push_word(out: &mut String, word: &str) -> Result<(), AllocError> {
-    for c in word.chars() {
-        if matches!(c, ',' | '|' | '\\') {
+/// Appends text, with `\` before each of the characters `special`.
+pub(crate) fn push_text(out: &mut String, text: &str, special: &str) -> Result<(), AllocError> {
+    for c in text.chars() {
+        if special.contains(c) {
             out.push('\\')?;
         }
         out.push(c)?;
@@ -31,7 +23,7 @@ fn push_choice(out: &mut String, words: &[&str]) -> Result<(), AllocError> {
         if at > 0 {
             out.push(',')?;
         }
-        push_word(out, *word)?;
+        push_text(out, *word, ",|\\")?;
     }
     out.push_str("|}")
 }
@@ -79,7 +71,7 @@ pub(crate) fn push_place(
     match default {
         Some(default) => {
             out.push_str("${1:")?;
-            push_text(out, default)?;
+            push_text(out, default, OUTSIDE)?;
             out.push('}')
         }
         None => push_kind(out, kinds),

@@ -8,7 +8,7 @@ use crate::completion::{
 use crate::context::ExpectedText;
 use crate::keys::{child, has_key};
 use crate::schemas::{default_of, documentation, is_deprecated, listed_values};
-use crate::snippets::{push_place, push_text};
+use crate::snippets::{OUTSIDE, push_place, push_text};
 use crate::spans::touches;
 use std::alloc::{AllocError, Global};
 use toml_span::Value;
@@ -21,8 +21,9 @@ pub(crate) fn is_assigned(rest: &str) -> bool {
     rest.starts_with('=') || rest.starts_with('.')
 }
 
-/// Returns the names of the kinds, as in `string or table`.
-fn kinds_text(alloc: Global, kinds: Kinds) -> Result<String, AllocError> {
+/// Returns the detail of a key: the kinds of its values, and `required` if `is_required`, as in `string or table,
+/// required`.
+fn detail_of(alloc: Global, kinds: Kinds, is_required: bool) -> Result<String, AllocError> {
     let named = [
         (kinds.string, "string"),
         (kinds.integer, "integer"),
@@ -38,18 +39,9 @@ fn kinds_text(alloc: Global, kinds: Kinds) -> Result<String, AllocError> {
             out.push_str(name)?;
         }
     }
-    Ok(out)
-}
-
-/// Returns the detail of a key: the kinds of its values, and `required` if `is_required`.
-fn detail_of(alloc: Global, kinds: Kinds, is_required: bool) -> Result<String, AllocError> {
-    let mut out = kinds_text(alloc, kinds)?;
     if is_required {
-        out.push_str(if out.is_empty() {
-            "required"
-        } else {
-            ", required"
-        })?;
+        out.push_str(if out.is_empty() { "" } else { ", " })?;
+        out.push_str("required")?;
     }
     Ok(out)
 }
@@ -176,15 +168,6 @@ fn is_free(
     value.is_none() || is_named
 }
 
-/// Returns the kind of a suggestion of a key: `Key` in an assignment, `Table` in a header.
-fn key_kind(expected: ExpectedText) -> SuggestionKind {
-    if expected == ExpectedText::Key {
-        SuggestionKind::Key
-    } else {
-        SuggestionKind::Table
-    }
-}
-
 /// Returns a name for a table inside `value` that `value` does not have yet.
 fn new_name(value: Option<&Value<'_>>) -> &'static str {
     for name in ["name", "table", "key"] {
@@ -221,7 +204,7 @@ fn with_rest(
     };
     text.push('.')?;
     let mut snippet = String::new(alloc);
-    push_text(&mut snippet, text.as_str())?;
+    push_text(&mut snippet, text.as_str(), OUTSIDE)?;
     snippet.push_str("${1:")?;
     snippet.push_str(name)?;
     snippet.push('}')?;
@@ -250,10 +233,14 @@ fn key_suggestion(
         snippet = with_rest(alloc, guide, inner, site, &mut text, next)?;
     }
     Ok(Suggestion {
-        kind: key_kind(site.expected),
+        kind: if site.expected == ExpectedText::Key {
+            SuggestionKind::Key
+        } else {
+            SuggestionKind::Table
+        },
         label,
         detail: detail_of(alloc, kinds, is_required)?,
-        documentation: documentation(alloc, guide, inner)?,
+        documentation: documentation(alloc, guide, inner, true, true)?,
         is_required,
         is_deprecated: is_deprecated(alloc, guide, inner)?,
         span: site.typed,
@@ -277,7 +264,7 @@ pub(crate) fn snippet_of(
         borrowed.push(value.as_str())?;
     }
     let mut out = String::new(alloc);
-    push_text(&mut out, front)?;
+    push_text(&mut out, front, OUTSIDE)?;
     push_place(&mut out, kinds, borrowed.as_slice(), default)?;
     if site.is_followed {
         out.push(',')?;
@@ -296,9 +283,7 @@ fn new_names<'s>(
 ) -> Result<Vec<&'s str>, AllocError> {
     let mut names = Vec::new(alloc);
     for name in guide.keys_of(alloc, table)? {
-        let is_written = has_key(outer.own, name)
-            || outer.written.iter().any(|other| other.as_str() == name);
-        if site.expected != ExpectedText::Key || !is_written {
+        if site.expected != ExpectedText::Key || !outer.has(name) {
             names.push(name)?;
         }
     }
@@ -319,7 +304,10 @@ pub(crate) fn key_suggestions(
     let (names, is_incomplete) = narrowed(alloc, names, site)?;
     let mut suggestions = Vec::new(alloc);
     for name in names {
-        let value = outer.own.and_then(|own| child(own, Step::Key(name)));
+        let value = match outer.own {
+            Some(own) => child(own, Step::Key(name)),
+            None => None,
+        };
         let inner = guide.subschemas_inside(alloc, table, Step::Key(name), value)?;
         let ends = site.expected == ExpectedText::Key
             || !site.rest.starts_with('.')
@@ -374,15 +362,6 @@ pub(crate) fn value_suggestion(
     })
 }
 
-/// Returns what is said of a value: whether it is the default.
-fn default_mark(literal: &str, default: Option<&str>) -> &'static str {
-    if default == Some(literal) {
-        "default"
-    } else {
-        ""
-    }
-}
-
 /// Returns suggestions of these values, one of which may be the default.
 #[tactic(auto, using(crate::proofs::SuggestionLemmas::replace_push))]
 fn listed_suggestions<'l>(
@@ -396,7 +375,11 @@ fn listed_suggestions<'l>(
     let (literals, is_incomplete) = narrowed(alloc, literals, site)?;
     let mut suggestions = Vec::new(alloc);
     for literal in literals {
-        let detail = default_mark(literal, default);
+        let detail = if default == Some(literal) {
+            "default"
+        } else {
+            ""
+        };
         let one = value_suggestion(alloc, site, literal, detail)?;
         suggestions.push(one)?;
     }

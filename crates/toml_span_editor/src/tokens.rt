@@ -33,8 +33,10 @@ fn literal_meaning(text: &str) -> Option<Meaning> {
     match text {
         "true" | "false" => Some(Meaning::Boolean),
         "inf" | "nan" => Some(Meaning::Number),
-        _ if text.starts_with(|c| matches!(c, '0'..='9' | '+' | '-')) => Some(Meaning::Number),
-        _ => None,
+        _ => match text.as_bytes().first() {
+            Some(b'0'..=b'9' | b'+' | b'-') => Some(Meaning::Number),
+            _ => None,
+        },
     }
 }
 
@@ -61,16 +63,6 @@ fn token_at(text: &str, pieces: &[Piece], at: usize, next: Next) -> Option<Token
     Some(Token { span, meaning })
 }
 
-/// Returns whether a text has no line feed and no carriage return.
-fn is_one_line(text: &str) -> bool {
-    for byte in text.as_bytes() {
-        if *byte == b'\n' || *byte == b'\r' {
-            return false;
-        }
-    }
-    true
-}
-
 /// Appends a token for each line of a token, except for empty lines.
 fn push_lines(text: &str, token: Token, tokens: &mut Vec<Token>) -> Result<(), AllocError> {
     let Token { span, meaning } = token;
@@ -78,7 +70,7 @@ fn push_lines(text: &str, token: Token, tokens: &mut Vec<Token>) -> Result<(), A
         return Ok(());
     }
     let part = text.get(span.start..span.end).unwrap_or("");
-    if is_one_line(part) && !part.is_empty() {
+    if !part.contains(['\n', '\r']) && !part.is_empty() {
         // (most tokens)
         tokens.push(token)?;
         return Ok(());

@@ -61,17 +61,6 @@ pub(crate) fn is_name(kind: Kind) -> bool {
     )
 }
 
-/// Returns what is expected after a mark that opens and closes nothing. `next` is what is expected before it.
-fn after_mark(next: Next, mark: u8) -> Next {
-    match (next, mark) {
-        (Next::AfterKey, b'.') => Next::Key,
-        (Next::AfterKey, b'=') => Next::Value,
-        (Next::AfterHeader, b'.') => Next::Header,
-        (Next::Key, b'=') | (Next::Value, b'+') => Next::AfterValue,
-        _ => next,
-    }
-}
-
 impl Walk {
     /// Returns the state before the first piece of a statement.
     pub(crate) fn new(alloc: Global) -> Self {
@@ -81,13 +70,6 @@ impl Walk {
             path: Vec::new(alloc),
             opened: Vec::new(alloc),
         }
-    }
-
-    /// Begins a new statement.
-    fn begin(&mut self) {
-        self.next = Next::Key;
-        self.is_in_array = false;
-        self.path.clear();
     }
 
     /// Takes a word or a string.
@@ -121,25 +103,6 @@ impl Walk {
         Ok(())
     }
 
-    /// Takes `[`: it opens an array, or a header at the start of a statement.
-    fn take_bracket(&mut self, at: usize) -> Result<(), AllocError> {
-        match self.next {
-            Next::Value => return self.open(at, false),
-            Next::Key if self.path.is_empty() && self.opened.is_empty() => self.next = Next::Header,
-            Next::Header if self.path.is_empty() => self.is_in_array = true,
-            _ => (),
-        }
-        Ok(())
-    }
-
-    /// Takes `]` or `}`: it closes the innermost inline table or array, or the header.
-    fn close(&mut self) {
-        if let Some(opened) = self.opened.pop() {
-            self.path.truncate(opened.length);
-        }
-        self.next = Next::AfterValue;
-    }
-
     /// Takes a comma: the next key of an inline table or the next element of an array follows.
     fn take_comma(&mut self) -> Result<(), AllocError> {
         let Some(mut opened) = self.opened.pop() else {
@@ -157,14 +120,33 @@ impl Walk {
         Ok(())
     }
 
-    /// Takes the mark `mark`.
+    /// Takes the mark `mark`. `[` opens an array, or a header at the start of a statement. `]` or `}` closes the
+    /// innermost inline table or array, or the header.
     fn take_mark(&mut self, at: usize, mark: u8) -> Result<(), AllocError> {
         match mark {
-            b'[' => return self.take_bracket(at),
+            b'[' => match self.next {
+                Next::Value => return self.open(at, false),
+                Next::Key if self.path.is_empty() && self.opened.is_empty() => {
+                    self.next = Next::Header;
+                }
+                Next::Header if self.path.is_empty() => self.is_in_array = true,
+                _ => (),
+            },
             b'{' if self.next == Next::Value => return self.open(at, true),
             b',' => return self.take_comma(),
-            b']' | b'}' => self.close(),
-            _ => self.next = after_mark(self.next, mark),
+            b']' | b'}' => {
+                if let Some(opened) = self.opened.pop() {
+                    self.path.truncate(opened.length);
+                }
+                self.next = Next::AfterValue;
+            }
+            _ => self.next = match (self.next, mark) {
+                (Next::AfterKey, b'.') => Next::Key,
+                (Next::AfterKey, b'=') => Next::Value,
+                (Next::AfterHeader, b'.') => Next::Header,
+                (Next::Key, b'=') | (Next::Value, b'+') => Next::AfterValue,
+                (next, _) => next,
+            },
         }
         Ok(())
     }
@@ -173,7 +155,11 @@ impl Walk {
     pub(crate) fn take(&mut self, at: usize, kind: Kind) -> Result<(), AllocError> {
         match kind {
             _ if self.next == Next::Rest => (),
-            Kind::LineEnd if self.opened.is_empty() => self.begin(),
+            Kind::LineEnd if self.opened.is_empty() => {
+                self.next = Next::Key;
+                self.is_in_array = false;
+                self.path.clear();
+            }
             Kind::Open(true) => self.next = Next::Rest,
             Kind::Mark(mark) => return self.take_mark(at, mark),
             kind if is_name(kind) => return self.take_name(at),

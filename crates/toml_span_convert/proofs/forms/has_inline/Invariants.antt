@@ -1,7 +1,0 @@
-use Rattle.toml_span_lex.proofs.Common.{◌≡◌, drop}
-use Rattle.std.specs.List.{list_any}
-use Rattle.toml_span_convert.specs.Forms.{is_inline}
-use Rattle.toml_span_convert.proofs.forms.has_inline.Given as goal
-
-abbrev pub invariant-loop-form : goal.invariant-loop-form
-invariant-loop-form l = list_any is_inline l.forms ≡ list_any is_inline (drop l.form-index l.forms)

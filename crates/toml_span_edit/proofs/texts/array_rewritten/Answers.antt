@@ -1,9 +1,0 @@
-use Rattle.toml_span_lex.proofs.Common.{inr}
-use Rattle.toml_span_edit.proofs.Steps.{front_of, last_of, split_last, if_ok}
-use Rattle.toml_span_edit.proofs.texts.array_rewritten.Goals as goal
-
-pub returns-in-len1-up : goal.returns-in-len1-up
-returns-in-len1-up c =
-    let path = c.args.path.now in
-    if_ok _ _ (λ new cut. inr (front_of path, last_of path, split_last path c.in-len1-up.len_at_least, cut))
-    c.cut_then_written.result c.cut_then_written.ensures

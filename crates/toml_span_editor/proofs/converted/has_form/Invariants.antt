@@ -1,8 +1,0 @@
-use Rattle.toml_span_lex.proofs.Common.{◌≡◌, drop}
-use Rattle.std.specs.List.{list_any}
-use Rattle.toml_span_editor.specs.Conversions.{is_form}
-use Rattle.toml_span_editor.proofs.converted.has_form.Given as goal
-
-abbrev pub invariant-loop-form : goal.invariant-loop-form
-invariant-loop-form l =
-    list_any (is_form l.other) l.forms ≡ list_any (is_form l.other) (drop l.form-index l.forms)
