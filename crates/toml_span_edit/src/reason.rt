@@ -66,9 +66,8 @@ impl Reason {
             Reason::NoArray => {
                 "the path does not name an array, or does not end with a position such as `[0]`"
             }
-            Reason::PastEnd => {
-                "the array has no element at this position; `append` adds one at its end"
-            }
+            Reason::PastEnd =>
+                "no array has an element at this position: `append` adds one; for a key that is a number, set its table",
             Reason::NoInlineTable =>
                 "this array has `[[..]]` headers, so each element must be a table",
             Reason::ResultInvalid(_) => "the result would not be valid TOML: ",
