@@ -95,7 +95,7 @@ error: cannot read \`caf\\xe9.toml\`: its name is not valid UTF-8
 error: cannot read \`\\xc3\\xa9\\u000a\\xff\`: its name is not valid UTF-8
 error: cannot read \`tree/caf\\xe9.toml\`: its name is not valid UTF-8
 error: cannot read \`tree/lost.toml\`: no such file
-error: cannot read \`empty\`: no \`*.toml\` file in this directory
+error: cannot read \`empty\`: no \`*.toml\` file in this directory, or only ignored ones
 error: cannot read \`loop\`: Too many levels of symbolic links (os error 40)
 error: cannot read \`socket\`: No such device or address (os error 6)
 error: cannot read \`once.toml/x\`: Not a directory (os error 20)
