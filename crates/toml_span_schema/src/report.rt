@@ -38,11 +38,20 @@ impl Schema {
         if self.is_valid(&mut left, self.depth, 0, value)? {
             return Ok(Vec::new(alloc));
         }
+        self.reports(value)
+    }
+
+    /// Returns the reports on a value that is not valid, at least one. Fails like `check`.
+    fn reports(&self, value: &Value<'_>) -> Result<Vec<Report>, CheckError>
+        ensures some { IfOk result (λ reports. 0 < length reports.items) }
+        ensures errors { IfOk result (λ reports. All IsError reports.items) }
+    {
         let mut reports = self.violations(value)?;
         if !reports.is_empty() {
             return Ok(reports);
         }
-        let report = Report::error(alloc, "schema", "the value does not match the schema")?;
+        let message = "the value does not match the schema";
+        let report = Report::error(self.alloc(), "schema", message)?;
         reports.push(report.primary(value.span, "")?)?;
         Ok(reports)
     }
