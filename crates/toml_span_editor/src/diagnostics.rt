@@ -342,7 +342,7 @@ fn edits_of(alloc: Global, replacements: &[Replacement]) -> Result<Vec<Edit>, Al
 /// the key or its value can be gone without the assignment, the text has no new ones. Returns `None` if
 /// `assignment_lines` does. Takes time linear in the length of the text.
 fn without_duplicate(alloc: Global, text: &str, at: usize) -> Result<Option<Vec<Edit>>, AllocError>
-    ensures { IfOk result (λ made. RemovesLines text.now at
+    ensures { IfOk result (λ made. mending.RemovesLines text.now at
         (option_map (λ edits. map edit_content edits.items) made)) }
 {
     let Some(span) = assignment_lines(alloc, text, at)? else {
