@@ -60,6 +60,15 @@ pub(crate) fn is_among(name: &str, names: &[&str]) -> bool
     false
 }
 
+/// Returns the name and the value of an argument such as `--name=value`. Any other argument is a name, and has an empty
+/// value.
+fn option_parts(word: &str) -> (&str, &str) {
+    match word.split_once('=') {
+        Some((name, value)) if name.len() > 2 && name.starts_with("--") => (name, value),
+        _ => (word, ""),
+    }
+}
+
 /// Returns the message that an argument is unexpected, in the words of clap. An option is named without its value. If
 /// one of the options `names` is similar, a second line names it. Otherwise, if the command has the option `--`
 /// (`has_dashes`), a second line says how to pass an argument with two dashes as a value.
@@ -71,10 +80,7 @@ pub(crate) fn unexpected(
 ) -> Result<String, AllocError> {
     let shown = shown_word(alloc, word)?;
     let shown = visible(alloc, shown.as_str())?;
-    let (name, value) = match shown.as_str().split_once('=') {
-        Some((name, value)) if name.len() > 2 && name.starts_with("--") => (name, value),
-        _ => (shown.as_str(), ""),
-    };
+    let (name, value) = option_parts(shown.as_str());
     if !value.is_empty() && is_among(name, names) {
         return format!(in alloc;
             "unexpected value '{value}' for '{name}' found; no more were expected"
