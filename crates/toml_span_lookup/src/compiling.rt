@@ -69,6 +69,15 @@ impl Loaded {
     }
 }
 
+/// Returns these documents as ones that are compiled.
+fn documents_of(alloc: Global, loaded: &[Loaded]) -> Result<Vec<Document<'_>>, AllocError> {
+    let mut documents = Vec::new(alloc);
+    for one in loaded {
+        documents.push(one.document())?;
+    }
+    Ok(documents)
+}
+
 /// Compiles the schema in the first of `documents`. The schema may refer to the other documents. Fails as
 /// `Guide::from_document` does.
 fn compile(alloc: Global, documents: &[Loaded]) -> Result<Guide, SchemaError>
@@ -78,10 +87,7 @@ fn compile(alloc: Global, documents: &[Loaded]) -> Result<Guide, SchemaError>
     let Some((root, rest)) = documents.split_first() else {
         return Err(SchemaError::Internal);
     };
-    let mut others = Vec::new(alloc);
-    for other in rest {
-        others.push(other.document())?;
-    }
+    let others = documents_of(alloc, rest)?;
     Guide::from_document(alloc, root.document(), others.as_slice())
 }
 
