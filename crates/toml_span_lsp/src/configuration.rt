@@ -58,9 +58,18 @@ pub(crate) fn use_options(
     Ok(())
 }
 
-/// Uses the settings in `value`, or those of `initializationOptions` if `value` has none: if it is missing, null or an
-/// empty object. Then checks the open documents, as `check_all` does. Does nothing if `value` has no settings and those
-/// of `initializationOptions` are in use.
+/// Returns `value`, or `None` if it is missing, null or an empty object.
+fn not_empty<'v, 'j>(value: Option<&'v Value<'j>>) -> Option<&'v Value<'j>> {
+    match value? {
+        Value::Null => None,
+        Value::Object(members) if members.is_empty() => None,
+        _ => value,
+    }
+}
+
+/// Uses the settings in `value`, or those of `initializationOptions` if `value` has none. Then checks the open
+/// documents, as `check_all` does. Does nothing if `value` has no settings and those of `initializationOptions` are in
+/// use.
 fn change_settings<D: Disk>(
     alloc: Global,
     state: &mut State,
@@ -68,11 +77,7 @@ fn change_settings<D: Disk>(
     value: Option<&Value<'_>>,
     out: &mut Outbox,
 ) -> Result<(), AllocError> {
-    let value = match value {
-        None | Some(Value::Null) => None,
-        Some(Value::Object(members)) if members.is_empty() => None,
-        Some(value) => Some(value),
-    };
+    let value = not_empty(value);
     let settings = match value {
         Some(value) => settings_in(alloc, state, value)?,
         None if state.has_later_settings => state.initial.clone()?,

@@ -54,11 +54,11 @@ pub(crate) fn write_renamable(
     at: usize,
     out: &mut Json,
 ) -> Result<(), AllocError> {
-    let key = match document {
-        Some(document) => renamable_at(request.alloc, document, at)?,
-        None => None,
+    let Some(document) = document else {
+        out.null();
+        return Ok(());
     };
-    let Some(key) = key else {
+    let Some(key) = renamable_at(request.alloc, document, at)? else {
         out.null();
         return Ok(());
     };

@@ -132,6 +132,25 @@ fn applied(
     Ok(made)
 }
 
+/// Returns the text of the open document `uri` after the changes in a notification. Returns `None` if the document is
+/// not open, or if the changes are missing or not valid.
+fn new_text(
+    alloc: Global,
+    state: &State,
+    uri: &str,
+    params: &Value<'_>,
+) -> Result<Option<String>, AllocError> {
+    let changes = params.get("contentChanges");
+    let (Some(open), Some(Value::Array(changes))) = (state.documents.get(uri), changes) else {
+        return Ok(None);
+    };
+    let text = open.text.as_str();
+    match changes_in(alloc, changes.as_slice())? {
+        Some(read) => Ok(Some(applied(alloc, state.encoding, text, read.as_slice())?)),
+        None => Ok(None),
+    }
+}
+
 /// Changes a document, whose diagnostics are then pending (see `settle`). If the document is not open or a change is
 /// not valid, changes nothing and appends a warning.
 pub(crate) fn change(
@@ -144,17 +163,7 @@ pub(crate) fn change(
         out.add(warning(alloc, LOG, "didChange: `textDocument` must have a `uri`"));
         return Ok(());
     };
-    let changes = match params.get("contentChanges") {
-        Some(Value::Array(changes)) => changes_in(alloc, changes.as_slice())?,
-        _ => None,
-    };
-    let new = match (state.documents.get(uri), changes) {
-        (Some(open), Some(changes)) => {
-            let (encoding, text) = (state.encoding, open.text.as_str());
-            Some(applied(alloc, encoding, text, changes.as_slice())?)
-        }
-        _ => None,
-    };
+    let new = new_text(alloc, state, uri, params)?;
     let revision = state.next_number();
     let (Some(open), Some(text)) = (state.documents.get_mut(uri), new) else {
         let message = "didChange: the document is not open, or a change is not valid";
