@@ -174,6 +174,12 @@ impl Fixes {
         Ok(())
     }
 
+    /// Removes what would be printed.
+    fn silence(&mut self, alloc: Global) {
+        self.changes = String::new(alloc);
+        self.lines = String::new(alloc);
+    }
+
     /// Adds the line that says how many errors were fixed, or would be fixed, in how many files. Adds nothing without
     /// fixes.
     fn add_total(&mut self, alloc: Global) -> Result<(), AllocError> {
@@ -214,8 +220,7 @@ fn fix_files(
     }
     fixes.add_total(alloc)?;
     if options.request.is_quiet {
-        fixes.changes = String::new(alloc);
-        fixes.lines = String::new(alloc);
+        fixes.silence(alloc);
     }
     Ok(fixes)
 }
