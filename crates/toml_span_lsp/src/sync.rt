@@ -32,6 +32,15 @@ fn version_of(params: &Value<'_>) -> Option<i64> {
     member(params, &["textDocument", "version"])?.as_i64()
 }
 
+/// Returns the path of the folder that is open in the editor, or of the first of several folders. Returns an empty text
+/// if there is none.
+fn root_of(state: &State) -> &str {
+    match state.roots.first() {
+        Some(path) => path.as_str(),
+        None => "",
+    }
+}
+
 /// Stores the text and the version of an open document under its URI in `state.documents`.
 fn store(
     alloc: Global,
@@ -40,9 +49,7 @@ fn store(
     text: String,
     version: Option<i64>,
 ) -> Result<(), AllocError> {
-    // The path of the folder that is open in the editor, or of the first of several folders.
-    let root = state.roots.first().map_or("", |path| path.as_str());
-    let name = name_of(alloc, root, uri)?;
+    let name = name_of(alloc, root_of(state), uri)?;
     let uri = String::from_str(alloc, uri)?;
     let revision = state.next_number();
     let open = Open {
