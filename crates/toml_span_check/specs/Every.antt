@@ -108,8 +108,8 @@ AddsError source from copy old new =
 abbrev pub most : ℕ → ℕ
 most len = max (min (134217728 / max len 1) 100) 1
 
--- Each error is the one that `parse` returns for the source with spaces in place of all that has been read. The first is
--- that of the source itself.
+-- Each error is the one that `parse` returns for the source with spaces in place of all that has been read. The first
+-- is that of the source itself.
 pub data Reads (source : Source) : Progress → Type 0 where
   none : Reads source (nothing source.text)
   fault : (p q : Progress) → Reads source p → AddsError source p.next (rest source p.next) p q → Reads source q
@@ -119,11 +119,12 @@ pub data Reads (source : Source) : Progress → Type 0 where
 abbrev pub IsThrough : Source → Progress → Type 0
 IsThrough source p =
     ((sections : List ParsedSection) × document (rest source p.next) depth_limit (Ok sections))
-    ⊎ (((error : Error) × IsRefusal (rest source p.next) depth_limit (Fault error) × (is_clash (kind_of error.kind) ≡ true))
+    ⊎ (((error : Error) × IsRefusal (rest source p.next) depth_limit (Fault error)
+    × (is_clash (kind_of error.kind) ≡ true))
     ⊎ (most (length source.text) ≤ length p.places))
 
--- Once nothing remains to be read, each error is the one that `parse` returns for the source with spaces in place of the
--- statements that the errors so far concern.
+-- Once nothing remains to be read, each error is the one that `parse` returns for the source with spaces in place of
+-- the statements that the errors so far concern.
 pub data Finds (source : Source) : Progress → Type 0 where
   faults : (p : Progress) → Reads source p → IsThrough source p → Finds source p
   clash : (p q : Progress) → Finds source p → AddsError source 0 p.blanked p q → Finds source q

@@ -177,7 +177,8 @@ pub record IsOutput (says : Says) (format : Format) (task : Task) (pointer : Lis
   pub all : List ℕ
   pub complaints : List ℕ
   pub wrong : Tally
-  pub prints : Collects says format (named_task task (are_named names files)) pointer files mid new all complaints status wrong
+  pub prints : Collects says format (named_task task (are_named names files)) pointer files mid new all complaints
+      status wrong
   pub shown : out ≡ said is_quiet (whole format task all)
   pub stderr : errors ≡ said is_quiet (complaints ++ summary format task is_watched (length files) wrong)
 

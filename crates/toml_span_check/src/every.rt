@@ -1,5 +1,6 @@
 //! Finds the errors of a text, not only the first.
-ghost use Rattle.std.specs.Prelude.{◌≡◌, ◌∷◌, ◌++◌, [], IfErr, IfNone, IfOk, IfSome, OnOk, map, length, nat_le, string_bytes};
+ghost use Rattle.std.specs.Prelude.{◌≡◌, ◌∷◌, ◌++◌, [], IfErr, IfNone, IfOk, IfSome, OnOk};
+ghost use Rattle.std.specs.Prelude.{map, length, nat_le, string_bytes};
 ghost use Rattle.std.specs.Str.{IsCharBoundary};
 ghost use Rattle.toml_span_lex.specs.Stop.{fault_of};
 ghost use Rattle.toml_span_lex.specs.declared.stop.Stop.TheVariants.{Fault};
@@ -9,7 +10,8 @@ ghost use Rattle.toml_span_report.specs.Report.{report_content};
 ghost use Rattle.toml_span_tree.specs.Error.{kind_of};
 ghost use Rattle.toml_span_check.specs.Every as spec;
 ghost use Rattle.toml_span_check.specs.Every.{Adds, AddsReport, Checks, Finds, HasFound, IsRead, Reads};
-ghost use Rattle.toml_span_check.specs.code.Every.{HasNoFault, IsErrorOf, IsNextError, IsRefusedAt, progress, source_of};
+ghost use Rattle.toml_span_check.specs.code.Every.{HasNoFault, IsErrorOf, IsNextError, IsRefusedAt};
+ghost use Rattle.toml_span_check.specs.code.Every.{progress, source_of};
 
 use crate::drafts::{Reading, read};
 use crate::fixable::settled;

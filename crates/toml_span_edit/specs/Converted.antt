@@ -86,8 +86,8 @@ HasOtherForm conversion at text sections new =
     IsTableConverted conversion at text sections new
     ⊎ (IsArrayConverted conversion at text new × SameDocument text new)
 
--- In the second text, the table or array at the offset `at` has another form. The trees of the texts are the same except
--- for spans. The comments are the same, perhaps in another order. `sections` are the sections of `text`.
+-- In the second text, the table or array at the offset `at` has another form. The trees of the texts are the same
+-- except for spans. The comments are the same, perhaps in another order. `sections` are the sections of `text`.
 abbrev pub IsConverted : Conversion → ℕ → List ℕ → List ParsedSection → List ℕ → Type 0
 IsConverted conversion at text sections new =
     HasOtherForm conversion at text sections new × IsSameDocument text new × PermutedComments text new

@@ -22,7 +22,7 @@ reason_words (is.AlreadyThere place) = codes "this path already has a value"
 reason_words is.NoTable = codes "the path does not name a table"
 reason_words is.NoArray = codes "the path does not name an array, or does not end with a position such as `[0]`"
 reason_words is.PastEnd =
-    codes "no array has an element at this position: `append` adds one; for a key that is a number, set its table"
+    codes "no array has an element at this position: `append` adds one; for a number as a key, set its table"
 reason_words is.NoInlineTable = codes "this array has `[[..]]` headers, so each element must be a table"
 reason_words (is.ResultInvalid fault) = codes "the result would not be valid TOML: "
 reason_words is.WouldDiffer = codes "this would change more than the value at the path"

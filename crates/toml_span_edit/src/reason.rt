@@ -67,7 +67,7 @@ impl Reason {
                 "the path does not name an array, or does not end with a position such as `[0]`"
             }
             Reason::PastEnd =>
-                "no array has an element at this position: `append` adds one; for a key that is a number, set its table",
+                "no array has an element at this position: `append` adds one; for a number as a key, set its table",
             Reason::NoInlineTable =>
                 "this array has `[[..]]` headers, so each element must be a table",
             Reason::ResultInvalid(_) => "the result would not be valid TOML: ",

@@ -135,8 +135,8 @@ fn closing_brace<'a>(text: &'a str, at: usize) -> Option<Finding<'a>> {
     }
 }
 
-/// Recognizes the closing bracket or brace at `at`, where a key is expected: after a dot, in a header without a name, at
-/// the end of an inline table, or with nothing to close.
+/// Recognizes the closing bracket or brace at `at`, where a key is expected: after a dot, in a header without a name,
+/// at the end of an inline table, or with nothing to close.
 pub(crate) fn closing<'a>(text: &'a str, at: usize) -> Option<Finding<'a>> {
     let state = open_before(text, at);
     if byte_before(text, at) == b'.' || is_in_header(text, state) {
@@ -262,15 +262,15 @@ fn missing_comma<'a>(mistake: Mistake, text: &'a str, at: usize) -> Finding<'a> 
     safe_if(found, first_of_line(text, at) == at || is_pair(text, at))
 }
 
-/// Returns whether the token at `at`, in an array or inline table, is a statement of its own: it begins a header, or an
-/// assignment that is not in an array, and not in an inline table that is closed later.
+/// Returns whether the token at `at`, in an array or inline table, begins a statement: a header, or an assignment,
+/// unless this is a pair of an inline table that is closed later.
 fn is_statement(text: &str, at: usize) -> bool {
     let is_in_table = byte_at(text, innermost(text, at)) == b'{';
     is_section(text, at) || is_assignment(text, at) && !(is_in_table && is_closed_after(text, at))
 }
 
-/// Returns the finding for the token at `at`, where a comma or closing bracket is expected: that a bracket is not closed
-/// if the token is one (`is_statement`), otherwise `mistake`, a missing comma.
+/// Returns the finding for the token at `at`, where a comma or closing bracket is expected. If the token begins a
+/// statement (`is_statement`), the finding is that a bracket is not closed, otherwise `mistake`, a missing comma.
 fn unseparated<'a>(mistake: Mistake, text: &'a str, at: usize) -> Finding<'a> {
     if is_statement(text, at) {
         unclosed(text, at)
