@@ -46,7 +46,10 @@ fn reason(alloc: Global, error: &io::Error) -> Result<String, AllocError>
         ErrorKind::NotFound => String::from_str(alloc, "no such file"),
         ErrorKind::PermissionDenied => String::from_str(alloc, "permission denied"),
         ErrorKind::IsADirectory => {
-            String::from_str(alloc, "no `*.toml` file in this directory, or only ignored ones")
+            String::from_str(
+                alloc,
+                "no `*.toml` file in this directory, or only ignored ones",
+            )
         }
         _ => error.to_string(alloc),
     }
