@@ -25,16 +25,15 @@ use Rattle.toml_span_commands.specs.declared.schemas.Named.{Named}
 use Rattle.toml_span_commands.specs.declared.schemas.SchemaOptions.{SchemaOptions}
 use Rattle.toml_span_commands.specs.declared.schemas.Shared.{Shared}
 
--- the version that the command line sets
-abbrev pub given_version : Task → Option (Chosen Version)
-given_version (Check Auto chooser) = None
-given_version (Check asked chooser) = given asked
-given_version (Show printing) = None
+-- the version of TOML that the command line sets, if it sets one
+abbrev pub given_version : Task → Bool → Option (Chosen Version)
+given_version (Check asked chooser) is_given = if is_given then given asked else None
+given_version (Show printing) is_given = None
 
 -- the settings of the command line: the version of TOML, and whether warnings are errors
-abbrev pub layer_of : Task → Bool → Layer
-layer_of task denies_warnings = record empty {
-  toml = given_version task;
+abbrev pub layer_of : Task → Bool → Bool → Layer
+layer_of task is_version_given denies_warnings = record empty {
+  toml = given_version task is_version_given;
   deny_warnings = if denies_warnings then given true else None;
 }
 

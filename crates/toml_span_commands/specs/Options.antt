@@ -108,7 +108,7 @@ check = with_rules plain (
     ∷ flag (codes "fix") ∷ flag (codes "unsafe-fixes") ∷ flag (codes "diff")
     ∷ flag (codes "force") ∷ flag (codes "change-owner") ∷ flag (codes "in-place")
     ∷ optional (codes "config") ∷ flag (codes "no-config") ∷ flag (codes "force-exclude")
-    ∷ flag (codes "deny-warnings") ∷ flag (codes "quiet") ∷ with_default (codes "toml") (codes "auto")
+    ∷ flag (codes "deny-warnings") ∷ flag (codes "quiet") ∷ optional (codes "toml")
     ∷ several (codes "exclude") ∷ with_default (codes "stdin-name") (codes "-") ∷ files (codes "FILE") ∷ [])
 
 -- `get [OPTION].. FILE.. PATH`
@@ -194,6 +194,7 @@ version_named name =
     if bytes_eq name (codes "auto") then Some version.Auto
     else if bytes_eq name (codes "1.0") then Some version.Toml10
     else if bytes_eq name (codes "1.1") then Some version.Toml11
+    else if bytes_eq name (codes "") then Some version.Auto
     else None
 
 -- `Arguments` if `--schema` or `--catalog` has a value that is not empty, otherwise `Files`
@@ -299,9 +300,11 @@ pub record Asks (query : Query) (words : List (List ℕ)) (screen : Screen) (req
   pub watched : request.is_watched ≡ screen.is_watched
   pub fixes : fixing ≡ fixing_of (options query words)
 
--- What the other options set: the name of standard input, how fixed files are written, which schemas and which
--- configuration files apply, and whether these exclude named files and warnings are errors.
+-- What the other options set: whether a version of TOML is given, the name of standard input, how fixed files are
+-- written, which schemas and which configuration files apply, and whether these exclude named files and warnings are
+-- errors.
 pub record Sets (rows : List Row) (o : Options) : Type 0 where
+  pub version : o.is_version_given ≡ not (length (value_of rows (codes "toml")) == 0)
   pub stdin_name : o.stdin_name.now ≡ value_of rows (codes "stdin-name")
   pub writing : o.writing ≡ writing_of rows
   pub schema : o.schemas.schema.now ≡ value_of rows (codes "schema")

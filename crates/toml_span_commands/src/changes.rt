@@ -6,6 +6,7 @@ use crate::commands::{Command, command_named};
 use crate::paths::wrong_path;
 use std::alloc::{AllocError, Global};
 use toml_span::Stop;
+use toml_span_report::visible::visible;
 
 /// An edit at a path.
 #[derive(Clone, Copy)]
@@ -106,6 +107,19 @@ fn line_change(line: &str) -> Option<PathEdit<'_>> {
     }
 }
 
+/// Returns the message about a line that is not an edit.
+fn no_edit(alloc: Global, line: &str) -> Result<String, AllocError> {
+    match first_word(line) {
+        Some((name, _)) if command_named(name).is_none() => {
+            let name = visible(alloc, name)?;
+            format!(in alloc;
+                "unknown edit `{name}`: use set, add, append, insert, rename, move or remove"
+            )
+        }
+        _ => String::from_str(alloc, "it must be an edit, as in `set package.name \"x\"`"),
+    }
+}
+
 /// Parses an edit in a script or in `-e`. Fails with a message if the edit is wrong. The message begins with `front`
 /// and the number `at`, as in `line 2`.
 fn checked<'w>(
@@ -119,7 +133,7 @@ fn checked<'w>(
             Some(reason) => reason,
             None => return Ok(change),
         },
-        None => String::from_str(alloc, "it must be an edit, as in `set package.name \"x\"`")?,
+        None => no_edit(alloc, line.trim())?,
     };
     Err(Stop::Fault(format!(in alloc; "{front} {at}: {reason}")?))
 }

@@ -298,13 +298,13 @@ struct Listed {
     sources: Sources,
 }
 
-/// Returns the settings of the command line.
-fn layer_of(task: Task, denies_warnings: bool) -> Layer
-    ensures { result ≡ spec.layer_of task denies_warnings }
+/// Returns the settings of the command line. `is_version_given` says whether it names the version of TOML of the task.
+fn layer_of(task: Task, is_version_given: bool, denies_warnings: bool) -> Layer
+    ensures { result ≡ spec.layer_of task is_version_given denies_warnings }
 {
     let toml = match task {
-        Task::Check(Version::Auto, _) | Task::Show(_) => None,
-        Task::Check(version, _) => given(version),
+        Task::Check(version, _) if is_version_given => given(version),
+        Task::Check(_, _) | Task::Show(_) => None,
     };
     Layer {
         toml,
@@ -321,7 +321,11 @@ fn find_files(
     host: &mut Host,
 ) -> Result<Listed, Stop<String>> {
     let request = &options.request;
-    let layer = layer_of(request.task, options.denies_warnings);
+    let layer = layer_of(
+        request.task,
+        options.is_version_given,
+        options.denies_warnings,
+    );
     let style = match request.format {
         Format::Text(style) => style,
         _ => Style::Plain,

@@ -49,6 +49,8 @@ pub(crate) enum Fixing {
 pub(crate) struct Options<'w> {
     /// What to check or print. For `check`, the path is empty.
     pub(crate) request: Request<'w>,
+    /// Whether `--toml` names a version, perhaps `auto`.
+    pub(crate) is_version_given: bool,
     /// The name of standard input in reports. For `get`, it is empty.
     pub(crate) stdin_name: &'w str,
     pub(crate) fixing: Fixing,
@@ -138,7 +140,7 @@ const CHECK_OPTIONS: [(&str, Kind<'static>); 21] = [
     ("force-exclude", Kind::Flag),
     ("deny-warnings", Kind::Flag),
     ("quiet", Kind::Flag),
-    ("toml", Kind::Default("auto")),
+    ("toml", Kind::Optional),
     ("exclude", Kind::Several),
     ("stdin-name", Kind::Default("-")),
     ("FILE", Kind::Files),
@@ -326,7 +328,7 @@ fn form_of(matches: &ArgMatches<'_>) -> Result<Option<Form>, Mistake>
     with_form(tagged, is_given(matches, "items"), Form::Items)
 }
 
-/// Returns the version of TOML with this name, or `None` for any other name.
+/// Returns the version of TOML with this name, `Version::Auto` for an empty name, or `None` for any other name.
 fn version_named(name: &str) -> Option<Version>
     ensures { result ≡ spec.version_named name.now }
 {
@@ -334,6 +336,7 @@ fn version_named(name: &str) -> Option<Version>
         "auto" => Some(Version::Auto),
         "1.0" => Some(Version::Toml10),
         "1.1" => Some(Version::Toml11),
+        "" => Some(Version::Auto),
         _ => None,
     }
 }
@@ -533,6 +536,7 @@ pub(crate) fn options_of<'w>(
             has_no_config: is_given(&matches, "no-config"),
             forces_exclude: is_given(&matches, "force-exclude"),
             denies_warnings: is_given(&matches, "deny-warnings"),
+            is_version_given: !value_of(&matches, "toml").is_empty(),
         }),
         Err(mistake) => Err(command.error(kind_of(mistake), message_of(mistake))?),
     }

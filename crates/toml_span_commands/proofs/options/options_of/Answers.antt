@@ -1,4 +1,4 @@
-use Rattle.toml_span_lex.proofs.Common.{◌≡◌, ◌∙◌, ap, refl, sym, subst, inl, inr, ℕ, Bool, not, true, List, [], ◌∷◌, map, Result, Err, Option, err_from_is_err_and, unwrap_or, arith, nat_tests, common_steps}
+use Rattle.toml_span_lex.proofs.Common.{◌≡◌, ◌∙◌, ◌==◌, length, ap, refl, sym, subst, inl, inr, ℕ, Bool, not, true, List, [], ◌∷◌, map, Result, Err, Option, err_from_is_err_and, unwrap_or, arith, nat_tests, common_steps}
 use Rattle.clap.specs.Kinds.{HasKind, Kinds, or_else}
 use Rattle.clap.specs.Values as clap
 use Rattle.clap.specs.Words.{App, HasMatchesOf, Row, all_of, fault_of, found_of, is_simple, is_simple_and_free, matches_of, rows_of}
@@ -102,6 +102,7 @@ returns-in-Ok-clause-sets c =
       no_config = c.is_given-in-Ok-2.ensures;
       exclusion = c.is_given-in-Ok-3.ensures;
       warnings = c.is_given-in-Ok-4.ensures;
+      version = ap not (c.is_empty.ensures ∙ ap (λ (t : List ℕ). length t == 0) c.value_of-in-Ok-4.ensures);
     })
 
 pub returns-in-Ok-clause-fails : goal.returns-in-Ok-clause-fails
